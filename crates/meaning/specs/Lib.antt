@@ -1,0 +1,20 @@
+-- The definitions that a reader must believe, one file for each subject of document 01. Contracts cite these and nothing else.
+pub mod Lists
+pub mod Counting
+pub mod Cells
+pub mod Slices
+pub mod Job
+pub mod Lent
+pub mod Refusals
+pub mod Bytes
+pub mod Orders
+pub mod Knapsacks
+pub mod Sums
+pub mod Blocks
+pub mod Shares
+pub mod Answers
+pub mod Solved
+pub mod Certificates
+pub mod Writer
+pub mod Demands
+pub mod Trials

@@ -1,0 +1,166 @@
+-- Refusals 3 to 6 and 9: the rules of each kind, and the lowest number that applies.
+-- Bytes says which job bytes can't be read, which is refusal 1. 2, 7 and 8 are given in Solved; 2 for the checker and 11 to 15 in
+-- Certificates; the writer's 6 in Writer.
+-- That a number is one of 32 bits is said by the type of the slice, or by the bytes, that it comes from.
+-- Assumes nothing.
+use Prim.Native.Nat.{ℕ, suc}
+use mathlib.Core.Bool.{Bool, true, false, _&&_, _||_, not}
+use mathlib.Core.List.{List, [], _∷_}
+use lib.Dec.{leb, ltb, eqb}
+use lib.ListN.{length}
+use Rattle.meaning.specs.Lists.{sum, every, if}
+use Rattle.meaning.specs.Job.{Job, labels, Sort, once, limited, free, Kind, packing, subset-sums, fewest-blocks, block-ways, sharing}
+use Rattle.meaning.specs.Lent.{Lent, Room}
+
+-- ---- the bounds, each in one place
+
+-- n in kinds 1 to 4
+unfoldable pub mostLabels : ℕ
+mostLabels = 1_024
+
+-- n in kinds 5 and 6
+unfoldable pub mostSizes : ℕ
+mostSizes = 64
+
+-- n in kind 7
+unfoldable pub mostClaims : ℕ
+mostClaims = 1_024
+
+-- C in kinds 1 to 6
+unfoldable pub mostBudget : ℕ
+mostBudget = 65_535
+
+-- C in kind 7: any 32-bit number
+unfoldable pub mostShared : ℕ
+mostShared = 4_294_967_295
+
+-- values
+unfoldable pub mostValue : ℕ
+mostValue = 65_535
+
+-- copies, at most
+unfoldable pub mostCopies : ℕ
+mostCopies = 65_535
+
+-- copies, at least
+unfoldable pub leastCopies : ℕ
+leastCopies = 0
+
+-- ---- rules on the numbers of a list
+
+-- weights: 1 or more
+unfoldable pub positive : List ℕ → Bool
+positive xs = every (leb 1) xs
+
+-- strictly ascending, and none below `low`
+unfoldable pub ascendingFrom : ℕ → List ℕ → Bool
+ascendingFrom low [] = true
+ascendingFrom low (x ∷ xs) = leb low x && ascendingFrom (suc x) xs
+
+-- claims: any
+unfoldable pub anything : List ℕ → Bool
+anything xs = true
+
+-- every number from `low` to `high`
+unfoldable pub eachWithin : ℕ → ℕ → List ℕ → Bool
+eachWithin low high xs = every (λ x. leb low x && leb x high) xs
+
+-- ---- the rules of a kind
+
+-- which lists it uses, its bounds on n and C, its rule on weights, its least value, and whether the weights' sum S has to be positive
+pub record Rules : Type 0 where
+  pub uses-values : Bool
+  pub uses-copies : Bool
+  pub label-bound : ℕ
+  pub budget-bound : ℕ
+  pub weight-rule : List ℕ → Bool
+  pub value-floor : ℕ
+  pub needs-sum : Bool
+
+-- of kinds 1 to 3 only kind 2 uses copies
+unfoldable pub hasCopies : Sort → Bool
+hasCopies once = false
+hasCopies limited = true
+hasCopies free = false
+
+-- values from 0; in kind 3, from 1
+unfoldable pub leastValue : Sort → ℕ
+leastValue once = 0
+leastValue limited = 0
+leastValue free = 1
+
+-- kinds 1 to 3
+unfoldable pub knapsackRules : Sort → Rules
+knapsackRules k = record {
+  uses-values = true;
+  uses-copies = hasCopies k;
+  label-bound = mostLabels;
+  budget-bound = mostBudget;
+  weight-rule = positive;
+  value-floor = leastValue k;
+  needs-sum = false;
+}
+
+-- kinds 4 to 7 use weights alone
+unfoldable pub weightRules : ℕ → ℕ → (List ℕ → Bool) → Bool → Rules
+weightRules label-bound budget-bound weight-rule needs-sum = record {
+  uses-values = false;
+  uses-copies = false;
+  label-bound = label-bound;
+  budget-bound = budget-bound;
+  weight-rule = weight-rule;
+  value-floor = 0;
+  needs-sum = needs-sum;
+}
+
+-- the rules of each kind
+unfoldable pub rulesOf : Kind → Rules
+rulesOf (packing k) = knapsackRules k
+rulesOf subset-sums = weightRules mostLabels mostBudget positive false
+rulesOf fewest-blocks = weightRules mostSizes mostBudget (ascendingFrom 1) false
+rulesOf block-ways = weightRules mostSizes mostBudget (ascendingFrom 1) false
+rulesOf sharing = weightRules mostClaims mostShared anything true
+
+-- ---- the tests, by refusal number
+
+-- 3: a used list has n members, an unused one none
+unfoldable pub listsFit : Rules → Job → Bool
+listsFit r j =
+    eqb (length (j .values)) (if (r .uses-values) (labels j) 0)
+    && eqb (length (j .copies)) (if (r .uses-copies) (labels j) 0)
+
+-- 4: n and C are within their bounds
+unfoldable pub boundsFit : Rules → Job → Bool
+boundsFit r j = leb (labels j) (r .label-bound) && leb (j .budget) (r .budget-bound)
+
+-- 5: every weight, value and copies number keeps its rule
+unfoldable pub numbersFit : Rules → Job → Bool
+numbersFit r j =
+    (r .weight-rule) (j .weights)
+    && eachWithin (r .value-floor) mostValue (j .values)
+    && eachWithin leastCopies mostCopies (j .copies)
+
+-- 6: no lent slice is too short
+unfoldable pub roomFits : Room → Lent → Bool
+roomFits r lent =
+    leb (r .cells) (length (lent .cells)) && leb (r .words) (length (lent .words)) && leb (r .picks) (length (lent .picks))
+
+-- 9: kind 7 needs a positive S
+unfoldable pub claimsFit : Rules → Job → Bool
+claimsFit r j = not (r .needs-sum) || ltb 0 (sum (j .weights))
+
+-- ---- the lowest number that applies; 0 stands for no refusal
+
+-- 3 to 5, or else what comes later
+unfoldable pub jobRefusal : Rules → Job → ℕ → ℕ
+jobRefusal r j later =
+    if (not (listsFit r j)) 3
+    (if (not (boundsFit r j)) 4
+    (if (not (numbersFit r j)) 5 later))
+
+-- 3 to 6 and 9, for a kind that needs this room
+unfoldable pub kindRefusal : Room → Kind → Job → Lent → ℕ
+kindRefusal room k j lent =
+    jobRefusal (rulesOf k) j
+    (if (not (roomFits room lent)) 6
+    (if (not (claimsFit (rulesOf k) j)) 9 0))

@@ -1,0 +1,10 @@
+-- What a lent slice holds after a call: picks, tables and bytes alike.
+-- Assumes nothing.
+use mathlib.Core.Path.{_≡_}
+use Prim.Native.Nat.{ℕ}
+use mathlib.Core.List.{List, _++_}
+use lib.ListN.{length, drop}
+
+-- the slice holds `new` in its first places, and past them what it held
+unfoldable pub Holds : List ℕ → List ℕ → List ℕ → Type 0
+Holds new before after = after ≡ new ++ drop (length new) before
