@@ -1,0 +1,131 @@
+-- Laws of `Solved` and `SolvedBytes` that the operations' proofs cite in place of their text.
+-- Assumes nothing.
+use mathlib.Core.Path.{_∙_, _≡_, ap, refl, subst, sym}
+use mathlib.Core.Logic.{_⊎_, inl, inr}
+use mathlib.Core.Option.{none, some}
+use Prim.Native.Nat.{_<_, suc, zero, ℕ, _≤_}
+use native.Mathlib.Nat.{le-of-suc-le-suc, not-suc-le-zero}
+use native.Mathlib.Omega.{arith}
+use mathlib.Core.List.{List, [], _∷_}
+use lib.ListN.{drop, getElem?, length, take}
+use lib.Seq.{take-at}
+use Rattle.meaning.specs.declared.Answer.{Answer}
+use Rattle.meaning.specs.declared.Answer.the-variants as Says
+use Rattle.meaning.specs.Slices.{Holds}
+use Rattle.meaning.specs.Job.{Job, Kind, kindOf, allKinds}
+use Rattle.meaning.specs.Lent.{Lent, roomFor}
+use Rattle.meaning.specs.Refusals.{kindRefusal}
+use Rattle.meaning.specs.Bytes.{readJob, readable, unreadable}
+use Rattle.meaning.specs.Answers.{saidOf}
+use Rattle.meaning.specs.Solved.{Answered, Gives, Outcome, Solved, SolvedAs, SolvedBytes, SolvedRead, TableHolds, TurnedDown, SolvedLists}
+use Rattle.meaning.proofs.OneOfEach.{table-unique}
+use Rattle.meaning.proofs.Unique.{gives-unique, no-influence, said-unique}
+
+-- ---- a lent slice
+
+-- its first places hold what is new in it
+pub holds-first : (new before after : List ℕ) (n : ℕ) → Holds new before after → length new ≡ n → take n after ≡ new
+unfolding Holds
+holds-first new before after n h e = ap (take n) h ∙ take-at new (drop (length new) before) n e
+
+-- ---- the kind
+
+past-last : {A : Type 0} (xs : List A) (k : ℕ) → length xs ≤ k → getElem? xs k ≡ none
+past-last [] k h = refl
+past-last (x ∷ xs) zero h = absurd (not-suc-le-zero h)
+past-last (x ∷ xs) (suc k) h = past-last xs k (le-of-suc-le-suc h)
+
+-- 0, and every number above the last kind's, is no kind
+pub no-kind : (k : ℕ) → (k ≡ 0) ⊎ (length allKinds < k) → kindOf k ≡ none
+unfolding kindOf
+no-kind zero h = refl
+no-kind (suc k) (inl e) = absurd (omega arith)
+no-kind (suc k) (inr h) = past-last allKinds k (le-of-suc-le-suc h)
+
+-- a refusal leaves the slices as they were
+pub turned-down : (r : ℕ) (before : Lent) → TurnedDown r before (saidOf (Says.Refused r)) before
+turned-down r before = record { numbers = refl; nothing-written = refl }
+
+-- a job of no kind is refused with 2
+pub solved-no-kind : (j : Job) (before : Lent) → kindOf (j .kind-number) ≡ none → Solved j before (Says.Refused 2) before
+unfolding Solved SolvedLists SolvedAs
+solved-no-kind j before e = rw e (turned-down 2 before)
+
+-- `Solved` for a job of kind k, by its refusal number
+pub solved-kind : (j : Job) (before : Lent) (k : Kind) (r : ℕ) (a : Answer) (after : Lent)
+    → kindOf (j .kind-number) ≡ some k → kindRefusal (roomFor k j) k j before ≡ r
+    → Outcome r (roomFor k j) (TableHolds k j) k j before (saidOf a) after → Solved j before a after
+unfolding Solved SolvedLists SolvedAs
+solved-kind j before k r a after e f h = rw (e, f) h
+
+-- and back
+pub kind-solved : (j : Job) (before : Lent) (k : Kind) (r : ℕ) (a : Answer) (after : Lent)
+    → kindOf (j .kind-number) ≡ some k → kindRefusal (roomFor k j) k j before ≡ r
+    → Solved j before a after → Outcome r (roomFor k j) (TableHolds k j) k j before (saidOf a) after
+unfolding Solved SolvedLists SolvedAs
+kind-solved j before k r a after e f h = rw (e, f) at h
+
+-- ---- job bytes
+
+-- job bytes that can be read are solved as the job that they hold
+pub solved-bytes : (bytes : List ℕ) (j : Job) (before after : Lent) (a : Answer) → readJob bytes ≡ readable j → Solved j before a after → SolvedBytes bytes before a after
+unfolding SolvedBytes SolvedRead Solved
+solved-bytes bytes j before after a e h = rw e h
+
+-- and back
+pub bytes-solved : (bytes : List ℕ) (j : Job) (before after : Lent) (a : Answer) → readJob bytes ≡ readable j → SolvedBytes bytes before a after → Solved j before a after
+unfolding SolvedBytes SolvedRead Solved
+bytes-solved bytes j before after a e h = rw e at h
+
+-- those that can't are refused with 1
+pub solved-unreadable : (bytes : List ℕ) (place : ℕ) (before : Lent) → readJob bytes ≡ unreadable place → SolvedBytes bytes before (Says.Refused 1) before
+unfolding SolvedBytes SolvedRead
+solved-unreadable bytes place before e = rw e (turned-down 1 before)
+
+-- ---- an accepted call
+
+-- whoever solves a job that the meanings answer by b and p answers b and writes p
+pub solved-says : (k : Kind) (j : Job) (before after : Lent) (a b : Answer) (p : List ℕ)
+    → kindOf (j .kind-number) ≡ some k → kindRefusal (roomFor k j) k j before ≡ 0 → Gives k j (saidOf b) p → Solved j before a after
+    → (a ≡ b) × Holds p (before .picks) (after .picks)
+unfolding Outcome
+solved-says k j before after a b p e f g h =
+    let answered : Answered (roomFor k j) (TableHolds k j) k j before (saidOf a) after = kind-solved j before k 0 a after e f h in
+    let (same, said) = gives-unique k j (saidOf a) (saidOf b) (answered .content .picks) p (answered .gives) g in
+    (said-unique said, rw same at (answered .picks-hold))
+
+-- the first places hold this content, and past it stands what stood there
+pub record ContentIn (content before after : Lent) : Type 0 where
+  pub cells : Holds (content .cells) (before .cells) (after .cells)
+  pub words : Holds (content .words) (before .words) (after .words)
+  pub picks : Holds (content .picks) (before .picks) (after .picks)
+
+-- two calls on one job, the slices as they may: the same answer, and the same written
+pub record Uninfluenced (a a′ : Answer) (before after before′ after′ : Lent) : Type 0 where
+  pub answer : a ≡ a′
+  pub content : Lent
+  pub in-first : ContentIn content before after
+  pub in-second : ContentIn content before′ after′
+
+-- what stood in the table before has no influence
+pub uninfluenced : (k : Kind) (j : Job) (before after before′ after′ : Lent) (a a′ : Answer) → kindOf (j .kind-number) ≡ some k
+    → kindRefusal (roomFor k j) k j before ≡ 0 → kindRefusal (roomFor k j) k j before′ ≡ 0
+    → Solved j before a after → Solved j before′ a′ after′ → Uninfluenced a a′ before after before′ after′
+unfolding Outcome
+uninfluenced k j before after before′ after′ a a′ e f f′ h h′ =
+    let x : Answered (roomFor k j) (TableHolds k j) k j before (saidOf a) after = kind-solved j before k 0 a after e f h in
+    let y : Answered (roomFor k j) (TableHolds k j) k j before′ (saidOf a′) after′ = kind-solved j before′ k 0 a′ after′ e f′ h′ in
+    let (said, same) = no-influence k j before before′ after after′ (saidOf a) (saidOf a′) (table-unique k j) x y in
+    record {
+      answer = said-unique said;
+      content = x .content;
+      in-first = record { cells = x .cells-hold; words = x .words-hold; picks = x .picks-hold };
+      in-second = subst (λ (l : Lent). ContentIn l before′ after′) (sym same) (record { cells = y .cells-hold; words = y .words-hold; picks = y .picks-hold });
+    }
+
+-- nor where the job comes as bytes
+pub uninfluenced-bytes : (bytes : List ℕ) (k : Kind) (j : Job) (before after before′ after′ : Lent) (a a′ : Answer) → readJob bytes ≡ readable j → kindOf (j .kind-number) ≡ some k
+    → kindRefusal (roomFor k j) k j before ≡ 0 → kindRefusal (roomFor k j) k j before′ ≡ 0
+    → SolvedBytes bytes before a after → SolvedBytes bytes before′ a′ after′ → Uninfluenced a a′ before after before′ after′
+uninfluenced-bytes bytes k j before after before′ after′ a a′ reads e f f′ h h′ =
+    uninfluenced k j before after before′ after′ a a′ e f f′ (bytes-solved bytes j before after a reads h) (bytes-solved bytes j before′ after′ a′ reads h′)

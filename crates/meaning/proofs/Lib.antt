@@ -1,0 +1,43 @@
+-- Laws of the definitions in specs/, by subject. Other crates cite these in place of the definitions' text.
+
+-- lists and tests
+pub mod UpTo
+pub mod Tests
+pub mod Members
+pub mod Loops
+pub mod Totals
+pub mod Counting
+-- one step more: what each kind's table and picks rest on
+pub mod Steps
+pub mod Trace
+pub mod Free
+pub mod Greedy
+pub mod Reaching
+pub mod Making
+-- kind 7: shares sum to C
+pub mod Tally
+pub mod Ranks
+pub mod SharesSum
+-- no second choice is left
+pub mod CellNumbers
+pub mod OneOfEach
+pub mod Unique
+pub mod Laws
+-- bytes
+pub mod Numbers
+pub mod Sections
+-- certificates: the third demand
+pub mod Valid
+pub mod Covering
+pub mod FullTables
+pub mod Verdicts
+pub mod Certified
+pub mod Ours
+-- trials, corner cases, and wrong versions
+pub mod Small
+pub mod SmallTables
+pub mod Opens
+pub mod Sixteen
+mod Tables
+mod Wrong
+mod Corners

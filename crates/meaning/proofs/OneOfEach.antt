@@ -1,0 +1,172 @@
+-- Each meaning leaves one list, one number, one table.
+-- Assumes nothing.
+use mathlib.Core.Path.{_∙_, _≡_, ap, subst, sym}
+use Prim.Native.Nat.{_%_, _*_, _+_, _-_, _/_, _<_, _^_, min, suc, suc-le-suc, zero, zero-le, ℕ}
+use native.Mathlib.Nat.{div-div-eq-div-mul, div-one, le-antisymm, le-of-suc-le-suc, le-refl, le-trans, mul-comm, not-suc-le-zero, pow-suc, le-of-eq}
+use native.Mathlib.Omega.{arith}
+use mathlib.Core.List.{List}
+use lib.Arith.{digits-div, digits-mod}
+use lib.ListN.{length}
+use lib.Seq.{ext-getD}
+use Rattle.meaning.specs.Lists.{at}
+use Rattle.meaning.specs.Cells.{LeastShown, none-shown, shown}
+use Rattle.meaning.specs.Job.{Job, Kind, Sort, block-ways, fewest-blocks, free, packing, limited, once, sharing, subset-sums}
+use Rattle.meaning.specs.Lent.{Lent, Room, cellCount, roomFor, roomOf}
+use Rattle.meaning.specs.Orders.{AgreeEarlier, Chosen, Earlier, NoWorse, Order, first-most, last-least, last-most}
+use Rattle.meaning.specs.Knapsacks.{BestValue, FullTable, OneRow, ValueTable}
+use Rattle.meaning.specs.Sums.{BitTable, Tells, bit, is-not, is-so}
+use Rattle.meaning.specs.Blocks.{FewestRow, WaysFor, WaysRow, WaysShown, tooMany}
+use Rattle.meaning.specs.Solved.{TableHolds}
+use Rattle.meaning.proofs.Counting.{counted-unique}
+use Rattle.meaning.proofs.CellNumbers.{RowAndBudget, row-and-budget}
+
+-- lists of the same length that agree at each place are the same
+same-list : (n : ℕ) (s t : List ℕ) → length s ≡ n → length t ≡ n → ((m : ℕ) → m < n → at s m ≡ at t m) → s ≡ t
+same-list n s t ls lt h = ext-getD 0 s t (ls ∙ sym lt) (λ m k. h m (omega arith))
+
+-- ---- an order chooses one list
+
+-- how many labels may be settled before label m
+rank : Order → ℕ → ℕ → ℕ
+rank last-least n m = n - suc m
+rank first-most n m = m
+rank last-most n m = n - suc m
+
+rank-before : (o : Order) (n i m : ℕ) → i < n → m < n → Earlier o i m → rank o n i < rank o n m
+unfolding rank Earlier
+rank-before last-least n i m hi hm b = omega arith
+rank-before first-most n i m hi hm b = omega arith
+rank-before last-most n i m hi hm b = omega arith
+
+no-worse-both : (o : Order) (x y : ℕ) → NoWorse o x y → NoWorse o y x → x ≡ y
+unfolding NoWorse
+no-worse-both last-least x y a b = le-antisymm a b
+no-worse-both first-most x y a b = le-antisymm b a
+no-worse-both last-most x y a b = le-antisymm b a
+
+module _ (o : Order) (n : ℕ) (P : List ℕ → Type 0) (p q : List ℕ) (tp : Chosen o n P p) (tq : Chosen o n P q) where
+  agree-upto : (f m : ℕ) → m < n → rank o n m < f → at p m ≡ at q m
+  unfolding AgreeEarlier
+  agree-upto zero m h k = absurd (not-suc-le-zero k)
+  agree-upto (suc f) m h k =
+      let earlier : (i : ℕ) → i < n → Earlier o i m → at p i ≡ at q i =
+      λ i hi b. agree-upto f i hi (le-trans (rank-before o n i m hi h b) (le-of-suc-le-suc k)) in
+      no-worse-both o (at p m) (at q m)
+      (tp .settled m h q (tq .one-of) (λ i hi b. sym (earlier i hi b)))
+      (tq .settled m h p (tp .one-of) earlier)
+
+  -- two chosen lists are the same
+  pub chosen-unique : length p ≡ n → length q ≡ n → p ≡ q
+  chosen-unique lp lq = same-list n p q lp lq (λ m h. agree-upto (suc (rank o n m)) m h (le-refl (suc (rank o n m))))
+
+no-worse-same : (o : Order) (x y : ℕ) → x ≡ y → NoWorse o x y
+unfolding NoWorse
+no-worse-same last-least x y e = le-of-eq e
+no-worse-same first-most x y e = le-of-eq (sym e)
+no-worse-same last-most x y e = le-of-eq (sym e)
+
+-- the only list with P is the chosen one
+pub only-choice : (o : Order) (n : ℕ) (P : List ℕ → Type 0) (p : List ℕ) → P p → ((q : List ℕ) → P q → q ≡ p) → Chosen o n P p
+only-choice o n P p has only = record { one-of = has; settled = λ m h q k agree. no-worse-same o (at p m) (at q m) (ap (λ (l : List ℕ). at l m) (sym (only q k))) }
+
+-- ---- the best value is one number
+
+pub best-value-unique : {k : Sort} {j : Job} {i c v w : ℕ} → BestValue k j i c v → BestValue k j i c w → v ≡ w
+best-value-unique a b =
+    a .value ∙ le-antisymm (b .best .greatest (a .picks) (a .best .fits)) (a .best .greatest (b .picks) (b .best .fits)) ∙ sym (b .value)
+
+-- yes or no, not both
+pub tells-unique : {P : Type 0} {x y : ℕ} → Tells P x → Tells P y → x ≡ y
+tells-unique (is-so a e) (is-so b f) = e ∙ sym f
+tells-unique (is-so a e) (is-not b f) = absurd (b a)
+tells-unique (is-not a e) (is-so b f) = absurd (a b)
+tells-unique (is-not a e) (is-not b f) = e ∙ sym f
+
+-- numbers of k bits with the same bits are the same
+bits-unique : (k x y : ℕ) → x < 2 ^ k → y < 2 ^ k → ((b : ℕ) → b < k → x / 2 ^ b % 2 ≡ y / 2 ^ b % 2) → x ≡ y
+bits-unique zero x y hx hy h = omega arith
+bits-unique (suc k) x y hx hy h =
+    let lowest : x % 2 ≡ y % 2 = simp div-one at (h 0 (suc-le-suc zero-le)) in
+    let half : (z b : ℕ) → z / 2 / 2 ^ b ≡ z / 2 ^ suc b =
+    λ z b. div-div-eq-div-mul z 2 (2 ^ b) ∙ ap (λ (d : ℕ). z / d) (mul-comm 2 (2 ^ b) ∙ sym (pow-suc 2 b)) in
+    let rest : x / 2 ≡ y / 2 =
+    bits-unique k (x / 2) (y / 2) (omega (arith, pow-suc 2 k)) (omega (arith, pow-suc 2 k))
+    (λ b l. ap (λ (d : ℕ). d % 2) (half x b) ∙ h (suc b) (suc-le-suc l) ∙ sym (ap (λ (d : ℕ). d % 2) (half y b))) in
+    omega arith
+
+-- ---- the tables: what the needed places hold
+
+rows-unique : (k : Sort) (j : Job) (s t : List ℕ) → FullTable k j s → FullTable k j t → (m : ℕ) → m < cellCount j → at s m ≡ at t m
+unfolding FullTable
+rows-unique k j s t a b m h =
+    let here : RowAndBudget j m = row-and-budget j m h in
+    subst (λ (x : ℕ). at s x ≡ at t x) (here .numbered)
+    (best-value-unique (a (m / (j .budget + 1)) (m % (j .budget + 1)) (here .row) (here .column)) (b (m / (j .budget + 1)) (m % (j .budget + 1)) (here .row) (here .column)))
+
+row-unique : (k : Sort) (j : Job) (s t : List ℕ) → OneRow k j s → OneRow k j t → (m : ℕ) → m < j .budget + 1 → at s m ≡ at t m
+unfolding OneRow
+row-unique k j s t a b m h = best-value-unique (a m (omega arith)) (b m (omega arith))
+
+bit-at : (words : List ℕ) (m b : ℕ) → b < 64 → bit words (m * 64 + b) ≡ at words m / 2 ^ b % 2
+unfolding bit
+bit-at words m b h = rw (digits-div m h, digits-mod m h)
+
+bits-table-unique : (j : Job) (s t : List ℕ) → BitTable j s → BitTable j t → (m : ℕ) → m < j .budget / 64 + 1 → at s m ≡ at t m
+bits-table-unique j s t a b m h =
+    bits-unique 64 (at s m) (at t m) (a .narrow m h) (b .narrow m h)
+    (λ i l. sym (bit-at s m i l) ∙ tells-unique (a .set (m * 64 + i) (omega arith)) (b .set (m * 64 + i) (omega arith)) ∙ bit-at t m i l)
+
+-- a cell that shows the least of some numbers, or that there is none
+pub least-shown-unique : {P : ℕ → Type 0} {x y : ℕ} → LeastShown P x → LeastShown P y → x ≡ y
+least-shown-unique {x = x} {y = y} (shown a f) (shown b g) = le-antisymm (f y b) (g x a)
+least-shown-unique {x = x} (shown a f) (none-shown n e) = absurd (n x a)
+least-shown-unique {y = y} (none-shown n e) (shown b g) = absurd (n y b)
+least-shown-unique (none-shown n e) (none-shown n′ e′) = e ∙ sym e′
+
+-- the ways are one number
+pub ways-unique : (j : Job) (i a n m : ℕ) → WaysFor j i a n → WaysFor j i a m → n ≡ m
+unfolding WaysFor
+ways-unique j i a n m c d = counted-unique c d
+
+-- and so is the cell that shows them
+pub ways-shown-unique : {j : Job} {i a x y : ℕ} → WaysShown j i a x → WaysShown j i a y → x ≡ y
+ways-shown-unique {j} {i} {a} c d = c .lesser ∙ ap (λ (w : ℕ). min w tooMany) (ways-unique j i a (c .many) (d .many) (c .how-many) (d .how-many)) ∙ sym (d .lesser)
+
+-- ---- a table leaves one content of the needed cells and words
+
+cells-unique : (k : Kind) (j : Job) (s t : Lent) → TableHolds k j s → TableHolds k j t → (m : ℕ) → m < roomFor k j .cells → at (s .cells) m ≡ at (t .cells) m
+unfolding TableHolds ValueTable roomFor roomOf FewestRow
+cells-unique (packing once) j s t a b m h = rows-unique once j (s .cells) (t .cells) a b m h
+cells-unique (packing limited) j s t a b m h = rows-unique limited j (s .cells) (t .cells) a b m h
+cells-unique (packing free) j s t a b m h = row-unique free j (s .cells) (t .cells) a b m h
+cells-unique subset-sums j s t a b m h = absurd (not-suc-le-zero h)
+cells-unique fewest-blocks j s t a b m h = least-shown-unique (a m (omega arith)) (b m (omega arith))
+cells-unique block-ways j s t a b m h = absurd (not-suc-le-zero h)
+cells-unique sharing j s t a b m h = absurd (not-suc-le-zero h)
+
+words-unique : (k : Kind) (j : Job) (s t : Lent) → TableHolds k j s → TableHolds k j t → (m : ℕ) → m < roomFor k j .words → at (s .words) m ≡ at (t .words) m
+unfolding TableHolds roomFor roomOf WaysRow
+words-unique (packing once) j s t a b m h = absurd (not-suc-le-zero h)
+words-unique (packing limited) j s t a b m h = absurd (not-suc-le-zero h)
+words-unique (packing free) j s t a b m h = absurd (not-suc-le-zero h)
+words-unique subset-sums j s t a b m h = bits-table-unique j (s .words) (t .words) a b m h
+words-unique fewest-blocks j s t a b m h = absurd (not-suc-le-zero h)
+words-unique block-ways j s t a b m h = ways-shown-unique (a m (omega arith)) (b m (omega arith))
+words-unique sharing j s t a b m h = absurd (not-suc-le-zero h)
+
+-- the needed places and no more
+pub record Sized (room : Room) (s : Lent) : Type 0 where
+  pub cells : length (s .cells) ≡ room .cells
+  pub words : length (s .words) ≡ room .words
+
+-- a table in a room that leaves one content of them
+unfoldable pub OneTable : Room → (Lent → Type 0) → Type 0
+OneTable room table = (s t : Lent) → table s → table t → Sized room s → Sized room t → (s .cells ≡ t .cells) × (s .words ≡ t .words)
+
+-- each kind's table leaves one content
+pub table-unique : (k : Kind) (j : Job) → OneTable (roomFor k j) (TableHolds k j)
+unfolding OneTable
+table-unique k j s t a b u v = (
+  same-list (roomFor k j .cells) (s .cells) (t .cells) (u .cells) (v .cells) (cells-unique k j s t a b),
+  same-list (roomFor k j .words) (s .words) (t .words) (u .words) (v .words) (words-unique k j s t a b),
+)

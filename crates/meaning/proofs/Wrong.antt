@@ -1,0 +1,147 @@
+-- Wrong versions that the promises rule out: those that document 01 names, each tried on one of its cases.
+-- Assumes nothing.
+use mathlib.Core.Path.{_∙_, _≡_, ap, refl, subst, sym}
+use mathlib.Core.Option.{Option·some-injective, some}
+use Prim.Native.Nat.{ℕ}
+use native.Mathlib.Omega.{arith}
+use mathlib.Core.List.{List, [], _∷_}
+use lib.Dec.{lit≤}
+use lib.ListN.{List·getD-append, drop, length, replicate}
+use Rattle.meaning.specs.declared.Answer.{Answer}
+use Rattle.meaning.specs.declared.Answer.the-variants as Says
+use Rattle.meaning.specs.declared.Written.{Written}
+use Rattle.meaning.specs.declared.Written.the-variants.{Bytes}
+use Rattle.meaning.specs.declared.Written.the-variants as Reports
+use Rattle.meaning.specs.declared.Verdict.{Verdict}
+use Rattle.meaning.specs.declared.Verdict.the-variants.{Accepted}
+use Rattle.meaning.specs.Lists.{at}
+use Rattle.meaning.specs.Slices.{Holds}
+use Rattle.meaning.specs.Job.{Job, Kind, jobOf, kindOf, packing, once}
+use Rattle.meaning.specs.Lent.{Lent, roomFor}
+use Rattle.meaning.specs.Refusals.{kindRefusal}
+use Rattle.meaning.specs.Bytes.{readable, unreadable}
+use Rattle.meaning.specs.Knapsacks.{BestPicks, FullTable, ValueTable}
+use Rattle.meaning.specs.Answers.{saidOf}
+use Rattle.meaning.specs.Solved.{Answered, Gives, Outcome, Solved, TableHolds, SolvedBytes, SolvedRead}
+use Rattle.meaning.specs.Writer.{Writes, WritesBytes, WritesRead, bytesNeeded, certificate, newBytes, slicesFit, writerRefusal, writtenAs}
+use Rattle.meaning.specs.Demands.{Accepts, BestList, Demand3, Sound, ValidJob}
+use Rattle.meaning.specs.Trials.{Goes, jobJ, solve}
+use Rattle.meaning.proofs.OneOfEach.{best-value-unique}
+use Rattle.meaning.proofs.Unique.{said-unique, wrote-unique}
+use Rattle.meaning.proofs.Laws.{kind-solved, solved-says}
+use Rattle.meaning.proofs.Small.{picked, picked-out}
+use Rattle.meaning.proofs.Opens.{opens}
+
+-- ---- the planner on lists, on case A: one that refuses it, one that answers 0 with empty picks, one that writes no cells
+
+caseA : Job
+caseA = jobOf 1 (7 ∷ []) (3 ∷ 4 ∷ 5 ∷ []) (4 ∷ 5 ∷ 6 ∷ []) []
+
+answer-A : Gives (packing once) caseA (saidOf (Says.Knapsack 9 7)) (1 ∷ 1 ∷ 0 ∷ [])
+unfolding opens caseA Gives picked
+answer-A = record { picked = picked-out once (jobOf 1 (7 ∷ []) (3 ∷ 4 ∷ 5 ∷ []) (4 ∷ 5 ∷ 6 ∷ []) []) (1 ∷ 1 ∷ 0 ∷ []) tt; numbers = refl }
+
+kind-A : kindOf (caseA .kind-number) ≡ some (packing once)
+unfolding opens caseA
+kind-A = refl
+
+module _ (before after : Lent) (room : kindRefusal (roomFor (packing once) caseA) (packing once) caseA before ≡ 0) where
+  says-A : (a : Answer) → Solved caseA before a after → (a ≡ Says.Knapsack 9 7) × Holds (1 ∷ 1 ∷ 0 ∷ []) (before .picks) (after .picks)
+  says-A a h = solved-says (packing once) caseA before after a (Says.Knapsack 9 7) (1 ∷ 1 ∷ 0 ∷ []) kind-A room answer-A h
+
+  no-refusal : (r : ℕ) → ¬ Solved caseA before (Says.Refused r) after
+  no-refusal r h = let e : Says.Refused r ≡ Says.Knapsack 9 7 = says-A (Says.Refused r) h .0 in let z : _≡_ {A = ℕ} 0 1 = cc in omega arith
+
+  no-value-0 : ¬ Solved caseA before (Says.Knapsack 0 0) after
+  no-value-0 h = let e : Says.Knapsack 0 0 ≡ Says.Knapsack 9 7 = says-A (Says.Knapsack 0 0) h .0 in let z : _≡_ {A = ℕ} 0 9 = cc in omega arith
+
+  -- cell 31 is 9 after the call, whatever stood there
+  last-cell : (a : Answer) → Solved caseA before a after → at (after .cells) 31 ≡ 9
+  unfolding Outcome TableHolds ValueTable FullTable opens caseA BestPicks Gives Holds
+  last-cell a h =
+      let x : Answered (roomFor (packing once) caseA) (TableHolds (packing once) caseA) (packing once) caseA before (saidOf a) after = kind-solved caseA before (packing once) 0 a after kind-A room h in
+      let long : length (x .content .cells) ≡ 32 = x .cells-needed in
+      ap (λ (l : List ℕ). at l 31) (x .cells-hold)
+      ∙ List·getD-append (x .content .cells) (drop (length (x .content .cells)) (before .cells)) 0 31 (omega (arith, long))
+      ∙ best-value-unique (x .table-right 3 7 (lit≤ tt) (lit≤ tt)) (record { picks = 1 ∷ 1 ∷ 0 ∷ []; best = answer-A .picked .one-of; value = refl })
+
+-- ---- invented totals, ways or spare: whoever solves a proved trial answers what it says, and writes its picks
+
+trial-says : (j : Job) (a : Answer) (p : List ℕ) → Goes (solve j a p) → (k : Kind) → kindOf (j .kind-number) ≡ some k → (before after : Lent) (a′ : Answer)
+    → kindRefusal (roomFor k j) k j before ≡ 0 → Solved j before a′ after → (a′ ≡ a) × Holds p (before .picks) (after .picks)
+unfolding Goes
+trial-says j a p (k′, m) k e before after a′ f h =
+    let same : k ≡ k′ = Option·some-injective k k′ (sym e ∙ m .of-kind) in
+    solved-says k j before after a′ a p e f (subst (λ (x : Kind). Gives x j (saidOf a) p) (sym same) (m .answer)) h
+
+-- ---- the planner on job bytes: one that gives another number for bytes that can't be read, and one that writes then
+
+module _ (before after : Lent) where
+  -- no bytes are refused with 1
+  refused-1 : (a : Answer) → SolvedBytes [] before a after → (a ≡ Says.Refused 1) × (after ≡ before)
+  unfolding SolvedBytes SolvedRead opens
+  refused-1 a h = (said-unique (h .numbers), h .nothing-written)
+
+  no-other-number : ¬ SolvedBytes [] before (Says.Refused 3) after
+  no-other-number h = let e : Says.Refused 3 ≡ Says.Refused 1 = refused-1 (Says.Refused 3) h .0 in let z : _≡_ {A = ℕ} 3 1 = cc in omega arith
+
+  nothing-written-then : (a : Answer) → SolvedBytes [] before a after → after ≡ before
+  nothing-written-then a h = refused-1 a h .1
+
+-- ---- the writer, on the job of no labels and budget 0, whose certificate is 12 bytes: one that writes nothing, one that clears what
+-- lies past, and on job bytes one that gives another number and one that writes though it refuses
+
+noLabels : Job
+noLabels = jobOf 1 (0 ∷ []) [] [] []
+
+-- thirteen places of 9
+nines : List ℕ
+nines = replicate 13 9
+
+written-12 : (a : Written) (after : List ℕ) → Writes noLabels [] (5 ∷ []) nines a after
+    → (a ≡ Bytes 12) × (after ≡ 0 ∷ 0 ∷ 0 ∷ 0 ∷ 1 ∷ 0 ∷ 0 ∷ 0 ∷ 5 ∷ 0 ∷ 0 ∷ 0 ∷ 9 ∷ [])
+unfolding noLabels nines Writes opens writerRefusal slicesFit bytesNeeded certificate writtenAs newBytes Holds
+written-12 a after w = (wrote-unique a (Bytes 12) (w .numbers), w .leaves)
+
+writes-something : ¬ Writes noLabels [] (5 ∷ []) nines (Bytes 12) nines
+unfolding nines
+writes-something w =
+    let e : _≡_ {A = ℕ} 9 0 = ap (λ (l : List ℕ). at l 0) (written-12 (Bytes 12) nines w .1) in
+    omega arith
+
+keeps-what-lies-past : (a : Written) (after : List ℕ) → Writes noLabels [] (5 ∷ []) nines a after → at after 12 ≡ 9
+keeps-what-lies-past a after w = ap (λ (l : List ℕ). at l 12) (written-12 a after w .1)
+
+module _ (picks cells before after : List ℕ) (a : Written) (w : WritesBytes [] picks cells before a after) where
+  unread-is-1 : a ≡ Reports.Refused 1
+  unfolding WritesBytes WritesRead opens writtenAs
+  unread-is-1 = wrote-unique a (Reports.Refused 1) (w .numbers)
+
+  unread-writes-nothing : after ≡ before
+  unfolding WritesBytes WritesRead opens newBytes Holds
+  unread-writes-nothing = w .leaves
+
+-- ---- the checker: one that accepts everything, and one that refuses everything
+
+accepts-all : (check : List ℕ → List ℕ → Verdict) → ((jobB certB : List ℕ) → (v : ℕ) × (check jobB certB ≡ Accepted v)) → ¬ Demand3 check
+unfolding opens
+accepts-all check all-accepted d =
+    let (v, e) = all-accepted [] [] in
+    let s : Sound [] [] v = d .accepted-is-best [] [] v e in
+    let f : unreadable 0 ≡ readable (s .job) = s .valid-job .reads in
+    let z : _≡_ {A = ℕ} 0 1 = cc in
+    omega arith
+
+valid-J : ValidJob jobJ (jobOf 1 (2 ∷ []) (2 ∷ []) (3 ∷ []) [])
+unfolding opens jobJ
+valid-J = record { reads = refl; sort = once; of-sort = refl; not-refused = refl }
+
+best-J : BestList once (jobOf 1 (2 ∷ []) (2 ∷ []) (3 ∷ []) []) (1 ∷ [])
+unfolding opens picked BestPicks BestList
+best-J = picked-out once (jobOf 1 (2 ∷ []) (2 ∷ []) (3 ∷ []) []) (1 ∷ []) tt .one-of
+
+refuses-all : (check : List ℕ → List ℕ → Verdict) → ((jobB certB : List ℕ) (v : ℕ) → ¬ (check jobB certB ≡ Accepted v)) → ¬ Demand3 check
+unfolding valid-J
+refuses-all check none-accepted d =
+    let a : Accepts check jobJ (1 ∷ []) = d .exactly-when-best jobJ (jobOf 1 (2 ∷ []) (2 ∷ []) (3 ∷ []) []) valid-J (1 ∷ []) .1 best-J in
+    none-accepted jobJ (a .certB) (a .value) (a .verdict)
