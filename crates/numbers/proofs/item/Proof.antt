@@ -1,0 +1,46 @@
+-- `numbers::item` meets its contract, by the two laws of what stands at a place: within the numbers, and past them.
+-- Assumes nothing.
+use mathlib.Core.Path.{sym, _∙_}
+use native.Mathlib.Omega.{arith}
+use borrow.Author.Needs.{needs}
+use Rattle.numbers.proofs.Handed.{handed-long, handed-first, handed-rest}
+use Rattle.numbers.proofs.item.Statement.{statement}
+use Rattle.numbers.proofs.item.Tie as tie
+
+mul-result : tie.Need-mul-result
+mul-result c = search needs
+
+shared-slice-read-result : tie.Need-shared-slice-read-result
+shared-slice-read-result c = search needs
+
+mul-number-at : tie.Need-mul-number-at
+mul-number-at c =
+    let a = c .before .before .before .args in
+    omega (arith, handed-long (a .numbers .now) (a .bytes .now))
+
+number-at-requires : tie.Need-number-at-requires
+number-at-requires c κs =
+    let a = c .before .before .before .args in
+    omega (arith, handed-long (a .numbers .now) (a .bytes .now))
+
+returns : tie.Need-returns
+returns c =
+    let a = c .before .before .before .before .args in
+    sym (handed-first (a .numbers .now) (a .bytes .now) (a .i) (omega arith))
+
+returns-2 : tie.Need-returns-2
+returns-2 c =
+    let s = c .before .before .before .before in
+    let a = s .args in
+    c .number-at .ensures ∙ sym (handed-rest (a .numbers .now) (a .bytes .now) (a .i) (omega arith) (s .pre))
+
+pub item-spec : {M : Type 1} → statement M
+item-spec =
+    tie.close
+    (tie.spec
+    mul-result
+    shared-slice-read-result
+    mul-number-at
+    number-at-requires
+    returns
+    returns-2)

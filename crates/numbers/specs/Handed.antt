@@ -1,0 +1,9 @@
+-- A list of numbers that is handed over in two slices: a job of lists passes no bytes, a job of bytes no numbers.
+-- Assumes nothing.
+use Prim.Native.Nat.{ℕ}
+use mathlib.Core.List.{List, _++_}
+use Rattle.meaning.specs.Bytes.{numbersIn}
+
+-- the numbers, and after them those that stand in the bytes
+unfoldable pub handed : List ℕ → List ℕ → List ℕ
+handed numbers bytes = numbers ++ numbersIn bytes
