@@ -14,7 +14,7 @@ use Rattle.meaning.specs.declared.Verdict.the-variants.{Accepted, Refuse
 use Rattle.meaning.specs.declared.Written.the-variants as Reports
 use Rattle.meaning.specs.Lists.{upTo}
 use Rattle.meaning.specs.Slices.{Holds}
-use Rattle.meaning.specs.Job.{Job, Kind, jobOf, kindOf, once, free, limited}
+use Rattle.meaning.specs.Job.{Job, Kind, kindOf, once, free, limited}
 use Rattle.meaning.specs.Lent.{Lent, lentOf, roomFor}
 use Rattle.meaning.specs.Refusals.{kindRefusal}
 use Rattle.meaning.specs.Bytes.{jobBytes, readJob, readable, sectionBytes, unreadable}
@@ -28,6 +28,7 @@ use Rattle.meaning.specs.Writer.{Writes, WritesBytes, WritesRead, bytesN
 use Rattle.meaning.specs.Trials.{certJ, jobJ}
 use Rattle.meaning.proofs.Small.{isLaid, laid-out, picked, picked-out}
 use Rattle.meaning.proofs.Opens.{opens}
+use Rattle.meaning.proofs.Cases.{caseA, noLabels, plain}
 
 -- ---- tables: what goes in, and what comes out
 
@@ -67,11 +68,6 @@ as-kind (some k) j lent = kindRefusal (roomFor k j) k j lent
 abbrev refusalOf : Job × Lent → ℕ
 refusalOf (j, lent) = as-kind (kindOf (j .kind-number)) j lent
 
--- a job with one budget
-abbrev plain : ℕ → ℕ → List ℕ → List ℕ → List ℕ → Job
-unfolding jobOf
-plain kind budget weights values copies = jobOf kind (budget ∷ []) weights values copies
-
 -- 2: the kind
 refusal-2 : Computes refusalOf (
     (plain 0 99_999 (0 ∷ []) (1 ∷ 2 ∷ []) [], nothing) gives 2  -- kind 0, and 2 before 3
@@ -79,7 +75,7 @@ refusal-2 : Computes refusalOf (
     ∷ (plain 4_294_967_295 0 [] [] [], nothing) gives 2  -- a large kind
     ∷ []
     )
-unfolding opens nothing room plain
+unfolding opens nothing room
 refusal-2 = refl
 
 -- 3: the lists that are used
@@ -102,7 +98,7 @@ refusal-3 : Computes refusalOf (
     ∷ (plain 7 1 (1 ∷ []) [] (1 ∷ []), plenty) gives 3  -- kind 7 has no copies
     ∷ []
     )
-unfolding opens nothing plenty room plain
+unfolding opens nothing plenty room
 refusal-3 = refl
 
 -- 4: the bounds; a job within them gets on to 6, for nothing is lent
@@ -130,7 +126,7 @@ refusal-4 : Computes refusalOf (
     ∷ (plain 7 4_294_967_296 [] [] [], nothing) gives 4  -- no 32-bit number
     ∷ []
     )
-unfolding opens nothing room plain
+unfolding opens nothing room
 refusal-4 = refl
 
 -- 5: the numbers; a job that keeps their rules gets on to 6
@@ -160,7 +156,7 @@ refusal-5 : Computes refusalOf (
     ∷ (plain 7 1 (4_294_967_295 ∷ 0 ∷ []) [] [], nothing) gives 6  -- kind 7: any claims
     ∷ []
     )
-unfolding opens nothing plenty room plain
+unfolding opens nothing plenty room
 refusal-5 = refl
 
 -- 6: the room
@@ -191,7 +187,7 @@ refusal-6 : Computes refusalOf (
     ∷ (plain 7 3 (1 ∷ 1 ∷ []) [] [], room 99 99 1) gives 6  -- one pick short
     ∷ []
     )
-unfolding opens room plain
+unfolding opens room
 refusal-6 = refl
 
 -- 9: the sum of claims
@@ -202,7 +198,7 @@ refusal-9 : Computes refusalOf (
     ∷ (plain 7 0 (0 ∷ 1 ∷ []) [] [], room 0 0 2) gives 0  -- S is 1
     ∷ []
     )
-unfolding opens nothing room plain
+unfolding opens nothing room
 refusal-9 = refl
 
 -- ---- the numbers of each answer: 0 in every number that its case hasn't got
@@ -258,33 +254,33 @@ many-ways = refl
 -- ---- small answers
 
 empty-picks : BestPicks once (plain 1 5 [] [] []) 0 5 []
-unfolding opens picked plain
+unfolding opens picked
 empty-picks = picked-out once _ _ tt
 
 -- a weight above C never fits; a label worth 0 is left out
 heavy-and-worthless : BestPicks once (plain 1 5 (9 ∷ 2 ∷ 3 ∷ []) (9 ∷ 1 ∷ 0 ∷ []) []) 3 5 (0 ∷ 1 ∷ 0 ∷ [])
-unfolding opens picked plain
+unfolding opens picked
 heavy-and-worthless = picked-out once _ _ tt
 
 -- ties: jobs whose best lists each order would settle in another way
 tie-once : BestPicks once (plain 1 5 (1 ∷ 2 ∷ 3 ∷ 4 ∷ 5 ∷ []) (1 ∷ 2 ∷ 3 ∷ 4 ∷ 5 ∷ []) []) 5 5 (0 ∷ 1 ∷ 1 ∷ 0 ∷ 0 ∷ [])
-unfolding opens picked plain
+unfolding opens picked
 tie-once = picked-out once _ _ tt
 
 tie-limited : BestPicks limited (plain 2 14 (3 ∷ 4 ∷ 5 ∷ []) (3 ∷ 4 ∷ 5 ∷ []) (4 ∷ 4 ∷ 4 ∷ [])) 3 14 (2 ∷ 2 ∷ 0 ∷ [])
-unfolding opens picked plain
+unfolding opens picked
 tie-limited = picked-out limited _ _ tt
 
 tie-free : BestPicks free (plain 3 14 (3 ∷ 4 ∷ 5 ∷ []) (3 ∷ 4 ∷ 5 ∷ []) []) 3 14 (3 ∷ 0 ∷ 1 ∷ [])
-unfolding opens picked plain
+unfolding opens picked
 tie-free = picked-out free _ _ tt
 
 tie-blocks : Laid (plain 5 24 (3 ∷ 5 ∷ 9 ∷ 11 ∷ []) [] []) 24 (1 ∷ 2 ∷ 0 ∷ 1 ∷ [])
-unfolding opens isLaid plain
+unfolding opens isLaid
 tie-blocks = laid-out _ _ tt
 
 no-blocks : Laid (plain 5 0 (5 ∷ 10 ∷ []) [] []) 0 (0 ∷ 0 ∷ [])
-unfolding opens isLaid plain
+unfolding opens isLaid
 no-blocks = laid-out _ _ tt
 
 -- ---- shares
@@ -295,21 +291,17 @@ shares : Computes sharesOf (
     ∷ plain 7 0 (3 ∷ 0 ∷ []) [] [] gives (0 ∷ 0 ∷ [])  -- nothing to share
     ∷ []
     )
-unfolding opens plain
+unfolding opens
 shares = refl
 
 -- ---- job bytes, and where they break
 
-abbrev caseA : Job
-unfolding plain
-caseA = plain 1 7 (3 ∷ 4 ∷ 5 ∷ []) (4 ∷ 5 ∷ 6 ∷ []) []
-
 long-A : length (jobBytes caseA) ≡ 52
-unfolding opens plain caseA
+unfolding opens
 long-A = refl
 
 back-A : readJob (jobBytes caseA) ≡ readable caseA
-unfolding opens plain caseA
+unfolding opens
 back-A = refl
 
 broken : Computes readJob (
@@ -324,17 +316,17 @@ broken : Computes readJob (
     ∷ (sectionBytes (1 ∷ []) ++ sectionBytes (7 ∷ []) ++ sectionBytes [] ++ sectionBytes [] ++ (0 ∷ 0 ∷ 0 ∷ [])) gives unreadable 24  -- a count cut short
     ∷ []
     )
-unfolding opens plain caseA
+unfolding opens
 broken = refl
 
 -- ---- certificates
 
 abbrev pair : List ℕ
-unfolding plain jobBytes
+unfolding jobBytes
 pair = jobBytes (plain 1 1 (1 ∷ 1 ∷ []) (1 ∷ 1 ∷ []) [])
 
 abbrev empty : ℕ → List ℕ
-unfolding plain jobBytes
+unfolding jobBytes
 empty budget = jobBytes (plain 1 budget [] [] [])
 
 abbrev written : List ℕ → List ℕ → List ℕ
@@ -367,7 +359,7 @@ verdicts : Computes judge (
     ∷ (empty 1, written [] (7 ∷ 0 ∷ [])) gives Accepted 0  -- row 0 is not 0
     ∷ []
     )
-unfolding opens jobJ certJ plain pair empty written
+unfolding opens jobJ certJ pair empty written
 verdicts = refl
 
 -- ---- the writer
@@ -375,32 +367,27 @@ verdicts = refl
 abbrev writing : Job × List ℕ × List ℕ × List ℕ → ℕ
 writing (j, picks, cells, out) = writerRefusal j picks cells out
 
--- a job of one label and C 0, and one of no labels
+-- a job of one label and C 0
 abbrev one-label : Job
-unfolding plain
 one-label = plain 1 0 (1 ∷ []) (1 ∷ []) []
-
-abbrev no-labels : Job
-unfolding plain
-no-labels = plain 1 0 [] [] []
 
 writings : Computes writing (
     (one-label, 1 ∷ [], 0 ∷ 1 ∷ [], replicate 20 0) gives 0  -- just enough
     ∷ (one-label, [], 0 ∷ 1 ∷ [], replicate 99 0) gives 6  -- one pick short
     ∷ (one-label, 1 ∷ [], 0 ∷ [], replicate 99 0) gives 6  -- one cell short
     ∷ (one-label, 1 ∷ [], 0 ∷ 1 ∷ [], replicate 19 0) gives 6  -- one byte short
-    ∷ (no-labels, [], 5 ∷ [], replicate 12 0) gives 0  -- no picks
+    ∷ (noLabels, [], 5 ∷ [], replicate 12 0) gives 0  -- no picks
     ∷ (plain 3 0 [] [] [], [], 5 ∷ [], replicate 12 0) gives 2  -- kind 3
     ∷ (plain 1 65_536 (0 ∷ []) [] [], [], [], []) gives 3  -- no values
     ∷ (plain 1 65_536 (0 ∷ []) (1 ∷ []) [], [], [], []) gives 4  -- C above its bound
     ∷ (plain 1 0 (0 ∷ []) (1 ∷ []) [], [], [], []) gives 5  -- weight 0
     ∷ []
     )
-unfolding opens plain one-label no-labels writerRefusal slicesFit bytesNeeded
+unfolding opens writerRefusal slicesFit bytesNeeded
 writings = refl
 
-needed-places-alone : certificate no-labels (8 ∷ []) (5 ∷ 6 ∷ []) ≡ 0 ∷ 0 ∷ 0 ∷ 0 ∷ 1 ∷ 0 ∷ 0 ∷ 0 ∷ 5 ∷ 0 ∷ 0 ∷ 0 ∷ []
-unfolding opens plain no-labels certificate
+needed-places-alone : certificate noLabels (8 ∷ []) (5 ∷ 6 ∷ []) ≡ 0 ∷ 0 ∷ 0 ∷ 0 ∷ 1 ∷ 0 ∷ 0 ∷ 0 ∷ 5 ∷ 0 ∷ 0 ∷ 0 ∷ []
+unfolding opens certificate
 needed-places-alone = refl
 
 -- where 12 bytes are needed
@@ -415,21 +402,21 @@ written-bytes = refl
 
 -- `unfolding writer-call` unfolds what the writer promises
 unfoldable writer-call : Unit {0}
-unfolding opens plain no-labels writerRefusal slicesFit bytesNeeded certificate writtenAs newBytes Writes WritesRead WritesBytes Holds
+unfolding opens writerRefusal slicesFit bytesNeeded certificate writtenAs newBytes Writes WritesRead WritesBytes Holds
 writer-call = tt
 
 -- the byte past the certificate stays
-written-whole : Writes no-labels [] (5 ∷ []) (replicate 12 9 ++ (7 ∷ [])) (Reports.Bytes 12) (0 ∷ 0 ∷ 0 ∷ 0 ∷ 1 ∷ 0 ∷ 0 ∷ 0 ∷ 5 ∷ 0 ∷ 0 ∷ 0 ∷ 7 ∷ [])
+written-whole : Writes noLabels [] (5 ∷ []) (replicate 12 9 ++ (7 ∷ [])) (Reports.Bytes 12) (0 ∷ 0 ∷ 0 ∷ 0 ∷ 1 ∷ 0 ∷ 0 ∷ 0 ∷ 5 ∷ 0 ∷ 0 ∷ 0 ∷ 7 ∷ [])
 unfolding writer-call
 written-whole = record { numbers = refl; leaves = refl }
 
 -- one byte short
-not-written : Writes no-labels [] (5 ∷ []) (replicate 11 9) (Reports.Refused 6) (replicate 11 9)
+not-written : Writes noLabels [] (5 ∷ []) (replicate 11 9) (Reports.Refused 6) (replicate 11 9)
 unfolding writer-call
 not-written = record { numbers = refl; leaves = refl }
 
 -- the same on job bytes
-written-from-bytes : WritesBytes (jobBytes no-labels) [] (5 ∷ []) (replicate 11 9) (Reports.Refused 6) (replicate 11 9)
+written-from-bytes : WritesBytes (jobBytes noLabels) [] (5 ∷ []) (replicate 11 9) (Reports.Refused 6) (replicate 11 9)
 unfolding writer-call
 written-from-bytes = record { numbers = refl; leaves = refl }
 

@@ -38,6 +38,7 @@ pub mod Small
 pub mod SmallTables
 pub mod Opens
 pub mod Sixteen
+mod Cases
 mod Tables
 mod Wrong
 mod Corners

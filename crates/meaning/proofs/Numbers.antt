@@ -99,7 +99,7 @@ pub section-found : (needed : Needed) (b : List ℕ) (p start count next : ℕ)
 unfolding wholeSection
 section-found needed b p start count next found =
     elim (decLt (length b) (p + 4)) [
-      | yes certificateBroken ↦ absurd (not-both (section-cut needed b p certificateBroken) found)
+      | yes cut ↦ absurd (not-both (section-cut needed b p cut) found)
       | no there ↦ judged (isNeeded needed (numberAt b p)) refl (omega arith)
     ]
   where

@@ -20,6 +20,7 @@ use Rattle.meaning.proofs.Reaching.{no-labels}
 use Rattle.meaning.proofs.Small.{counted-out, isCounted, isLaid, isSelection, laid-makes, laid-out, picked, picked-out, reached-by, totalled, totalled-out, unmade, unmade-out}
 use Rattle.meaning.proofs.SmallTables.{bit-table-out, fewest-row-out, full-table-out, isBitTable, isFewestRow, isFullTable, isRow, isWaysRow, row-out, ways-row-out}
 use Rattle.meaning.proofs.Opens.{opens}
+use Rattle.meaning.proofs.Cases.{caseJ}
 
 -- a call that leaves `content` in the needed places
 leaves : (k : Kind) (j : Job) (content : Lent) {before after : Lent} {s : Said} → Gives k j s (content .picks) → TableHolds k j content
@@ -44,22 +45,19 @@ call = tt
 
 -- ---- kind 1: J's job
 
-abbrev job₁ : Job
-job₁ = jobOf 1 (2 ∷ []) (2 ∷ []) (3 ∷ []) []
-
 -- a row of no labels, and a row of label 0
-table₁ : FullTable once job₁ (0 ∷ 0 ∷ 0 ∷ 0 ∷ 0 ∷ 3 ∷ [])
+table₁ : FullTable once caseJ (0 ∷ 0 ∷ 0 ∷ 0 ∷ 0 ∷ 3 ∷ [])
 unfolding opens isFullTable
-table₁ = full-table-out once job₁ _ tt
+table₁ = full-table-out once caseJ _ tt
 
-call₁ : Solved job₁
+call₁ : Solved caseJ
     (lentOf (9 ∷ 9 ∷ 9 ∷ 9 ∷ 9 ∷ 9 ∷ 7 ∷ []) (8 ∷ []) (9 ∷ 6 ∷ []))
     (Says.Knapsack 3 2)
     (lentOf (0 ∷ 0 ∷ 0 ∷ 0 ∷ 0 ∷ 3 ∷ 7 ∷ []) (8 ∷ []) (1 ∷ 6 ∷ []))
 unfolding call picked
 call₁ =
-    leaves (packing once) job₁ (lentOf (0 ∷ 0 ∷ 0 ∷ 0 ∷ 0 ∷ 3 ∷ []) [] (1 ∷ []))
-    (record { picked = picked-out once job₁ (1 ∷ []) tt; numbers = refl }) table₁ refl refl refl refl refl
+    leaves (packing once) caseJ (lentOf (0 ∷ 0 ∷ 0 ∷ 0 ∷ 0 ∷ 3 ∷ []) [] (1 ∷ []))
+    (record { picked = picked-out once caseJ (1 ∷ []) tt; numbers = refl }) table₁ refl refl refl refl refl
 
 -- ---- kind 2: a label of two copies, where a third would fit
 
@@ -256,12 +254,12 @@ no-kind : Solved (jobOf 8 (0 ∷ []) [] [] []) lent (Says.Refused 2) lent
 unfolding call
 no-kind = record { numbers = refl; nothing-written = refl }
 
-too-few-cells : Solved job₁ lent (Says.Refused 6) lent
+too-few-cells : Solved caseJ lent (Says.Refused 6) lent
 unfolding call
 too-few-cells = record { numbers = refl; nothing-written = refl }
 
 -- the same on job bytes
-too-few-from-bytes : SolvedBytes (jobBytes job₁) lent (Says.Refused 6) lent
+too-few-from-bytes : SolvedBytes (jobBytes caseJ) lent (Says.Refused 6) lent
 unfolding call SolvedBytes SolvedRead
 too-few-from-bytes = record { numbers = refl; nothing-written = refl }
 

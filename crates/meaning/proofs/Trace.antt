@@ -53,12 +53,12 @@ module _ (k : Sort) (least : orderOf k ≡ last-least) (j : Job) (i c : ℕ) whe
       settled : (m : ℕ) → m < suc i → (q : List ℕ) → Best k j (suc i) c q → AgreeEarlier last-least (suc i) m q (p ++ (x ∷ []))
           → NoWorse last-least (at (p ++ (x ∷ [])) m) (at q m)
       settled m h q bq a =
-          let (p′, y, certificateBroken, mayq, heavyq, f′) = fits-less k j i c q (bq .fits) in
+          let (p′, y, whole-q, mayq, heavyq, f′) = fits-less k j i c q (bq .fits) in
           let short : length p′ ≡ i = f′ .selection .one-each in
           let q-best : total (j .values) q ≡ b = omega (arith, worth, best .greatest q (bq .fits), bq .greatest (p ++ (x ∷ [])) (best .fits)) in
-          let q-worth : total (j .values) p′ + v * y ≡ b = sym (total-with (j .values) p′ y i short) ∙ ap (total (j .values)) (sym certificateBroken) ∙ q-best in
+          let q-worth : total (j .values) p′ + v * y ≡ b = sym (total-with (j .values) p′ y i short) ∙ ap (total (j .values)) (sym whole-q) ∙ q-best in
           let x-last : at (p ++ (x ∷ [])) i ≡ x = getD-at p x [] 0 i long in
-          let y-last : at q i ≡ y = ap (λ (l : List ℕ). at l i) certificateBroken ∙ getD-at p′ y [] 0 i short in
+          let y-last : at q i ≡ y = ap (λ (l : List ℕ). at l i) whole-q ∙ getD-at p′ y [] 0 i short in
           elim (decLe i m) [
             | yes ge ↦
                 let here : m ≡ i = omega arith in
@@ -71,7 +71,7 @@ module _ (k : Sort) (least : orderOf k ≡ last-least) (j : Job) (i c : ℕ) whe
                 let f″ : Fits k j i (c - w * x) p′ = subst (λ (z : ℕ). Fits k j i (c - w * z) p′) same f′ in
                 let equal : total (j .values) p′ ≡ total (j .values) p = omega (arith, ap (λ (z : ℕ). v * z) same) in
                 let best′ : Best k j i (c - w * x) p′ = record { fits = f″; greatest = λ q′ g. le-trans (t .one-of .greatest q′ g) (le-of-eq (sym equal)) } in
-                let in-q : (n : ℕ) → n < i → at q n ≡ at p′ n = λ n hn. ap (λ (l : List ℕ). at l n) certificateBroken ∙ List·getD-append p′ (y ∷ []) 0 n (omega arith) in
+                let in-q : (n : ℕ) → n < i → at q n ≡ at p′ n = λ n hn. ap (λ (l : List ℕ). at l n) whole-q ∙ List·getD-append p′ (y ∷ []) 0 n (omega arith) in
                 let in-p : (n : ℕ) → n < i → at (p ++ (x ∷ [])) n ≡ at p n = λ n hn. List·getD-append p (x ∷ []) 0 n (omega (arith, long)) in
                 let agree : (n : ℕ) → n < i → m < n → at p′ n ≡ at p n = λ n hn later. sym (in-q n hn) ∙ a n (omega arith) later ∙ in-p n hn in
                 let under : at p m ≤ at p′ m = t′ .settled m m′ p′ best′ agree in

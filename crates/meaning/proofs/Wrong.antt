@@ -16,7 +16,7 @@ use Rattle.meaning.specs.declared.Verdict.{Verdict}
 use Rattle.meaning.specs.declared.Verdict.the-variants.{Accepted}
 use Rattle.meaning.specs.Lists.{at}
 use Rattle.meaning.specs.Slices.{Holds}
-use Rattle.meaning.specs.Job.{Job, Kind, jobOf, kindOf, packing, once}
+use Rattle.meaning.specs.Job.{Job, Kind, kindOf, packing, once}
 use Rattle.meaning.specs.Lent.{Lent, roomFor}
 use Rattle.meaning.specs.Refusals.{kindRefusal}
 use Rattle.meaning.specs.Bytes.{readable, unreadable}
@@ -31,18 +31,16 @@ use Rattle.meaning.proofs.Unique.{said-unique, wrote-unique}
 use Rattle.meaning.proofs.Laws.{kind-solved, solved-says}
 use Rattle.meaning.proofs.Small.{picked, picked-out}
 use Rattle.meaning.proofs.Opens.{opens}
+use Rattle.meaning.proofs.Cases.{caseA, caseJ, noLabels}
 
 -- ---- the planner on lists, on case A: one that refuses it, one that answers 0 with empty picks, one that writes no cells
 
-caseA : Job
-caseA = jobOf 1 (7 ∷ []) (3 ∷ 4 ∷ 5 ∷ []) (4 ∷ 5 ∷ 6 ∷ []) []
-
 answer-A : Gives (packing once) caseA (saidOf (Says.Knapsack 9 7)) (1 ∷ 1 ∷ 0 ∷ [])
-unfolding opens caseA Gives picked
-answer-A = record { picked = picked-out once (jobOf 1 (7 ∷ []) (3 ∷ 4 ∷ 5 ∷ []) (4 ∷ 5 ∷ 6 ∷ []) []) (1 ∷ 1 ∷ 0 ∷ []) tt; numbers = refl }
+unfolding opens Gives picked
+answer-A = record { picked = picked-out once caseA (1 ∷ 1 ∷ 0 ∷ []) tt; numbers = refl }
 
 kind-A : kindOf (caseA .kind-number) ≡ some (packing once)
-unfolding opens caseA
+unfolding opens
 kind-A = refl
 
 module _ (before after : Lent) (room : kindRefusal (roomFor (packing once) caseA) (packing once) caseA before ≡ 0) where
@@ -57,7 +55,7 @@ module _ (before after : Lent) (room : kindRefusal (roomFor (packing once) caseA
 
   -- cell 31 is 9 after the call, whatever stood there
   last-cell : (a : Answer) → Solved caseA before a after → at (after .cells) 31 ≡ 9
-  unfolding Outcome TableHolds ValueTable FullTable opens caseA BestPicks Gives Holds
+  unfolding Outcome TableHolds ValueTable FullTable opens BestPicks Gives Holds
   last-cell a h =
       let x : Answered (roomFor (packing once) caseA) (TableHolds (packing once) caseA) (packing once) caseA before (saidOf a) after = kind-solved caseA before (packing once) 0 a after kind-A room h in
       let long : length (x .content .cells) ≡ 32 = x .cells-needed in
@@ -91,16 +89,13 @@ module _ (before after : Lent) where
 -- ---- the writer, on the job of no labels and budget 0, whose certificate is 12 bytes: one that writes nothing, one that clears what
 -- lies past, and on job bytes one that gives another number and one that writes though it refuses
 
-noLabels : Job
-noLabels = jobOf 1 (0 ∷ []) [] [] []
-
 -- thirteen places of 9
 nines : List ℕ
 nines = replicate 13 9
 
 written-12 : (a : Written) (after : List ℕ) → Writes noLabels [] (5 ∷ []) nines a after
     → (a ≡ Bytes 12) × (after ≡ 0 ∷ 0 ∷ 0 ∷ 0 ∷ 1 ∷ 0 ∷ 0 ∷ 0 ∷ 5 ∷ 0 ∷ 0 ∷ 0 ∷ 9 ∷ [])
-unfolding noLabels nines Writes opens writerRefusal slicesFit bytesNeeded certificate writtenAs newBytes Holds
+unfolding nines Writes opens writerRefusal slicesFit bytesNeeded certificate writtenAs newBytes Holds
 written-12 a after w = (wrote-unique a (Bytes 12) (w .numbers), w .leaves)
 
 writes-something : ¬ Writes noLabels [] (5 ∷ []) nines (Bytes 12) nines
@@ -132,16 +127,16 @@ accepts-all check all-accepted d =
     let z : _≡_ {A = ℕ} 0 1 = cc in
     omega arith
 
-valid-J : ValidJob jobJ (jobOf 1 (2 ∷ []) (2 ∷ []) (3 ∷ []) [])
+valid-J : ValidJob jobJ caseJ
 unfolding opens jobJ
 valid-J = record { reads = refl; sort = once; of-sort = refl; not-refused = refl }
 
-best-J : BestList once (jobOf 1 (2 ∷ []) (2 ∷ []) (3 ∷ []) []) (1 ∷ [])
+best-J : BestList once caseJ (1 ∷ [])
 unfolding opens picked BestPicks BestList
-best-J = picked-out once (jobOf 1 (2 ∷ []) (2 ∷ []) (3 ∷ []) []) (1 ∷ []) tt .one-of
+best-J = picked-out once caseJ (1 ∷ []) tt .one-of
 
 refuses-all : (check : List ℕ → List ℕ → Verdict) → ((jobB certB : List ℕ) (v : ℕ) → ¬ (check jobB certB ≡ Accepted v)) → ¬ Demand3 check
 unfolding valid-J
 refuses-all check none-accepted d =
-    let a : Accepts check jobJ (1 ∷ []) = d .exactly-when-best jobJ (jobOf 1 (2 ∷ []) (2 ∷ []) (3 ∷ []) []) valid-J (1 ∷ []) .1 best-J in
+    let a : Accepts check jobJ (1 ∷ []) = d .exactly-when-best jobJ caseJ valid-J (1 ∷ []) .1 best-J in
     none-accepted jobJ (a .certB) (a .value) (a .verdict)
