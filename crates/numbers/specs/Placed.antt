@@ -4,11 +4,12 @@ use Prim.Native.Nat.{ℕ, _+_}
 use mathlib.Core.Path.{_≡_}
 use mathlib.Core.List.{List, _++_}
 use lib.ListN.{length, take, drop}
+use Rattle.meaning.specs.Slices.{over}
 use Rattle.meaning.specs.Bytes.{sectionBytes}
 
 -- the slice holds `new` from a place on, and elsewhere what it held
 unfoldable pub HoldsAt : ℕ → List ℕ → List ℕ → List ℕ → Type 0
-HoldsAt place new before after = after ≡ take place before ++ (new ++ drop (place + length new) before)
+HoldsAt place new before after = after ≡ take place before ++ over new (drop place before)
 
 -- a section was written from a place on, and `next` is the place after it
 pub record SectionWritten (place : ℕ) (numbers before after : List ℕ) (next : ℕ) : Type 0 where
