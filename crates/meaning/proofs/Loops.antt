@@ -7,7 +7,7 @@ use native.Mathlib.Omega.{arith}
 use mathlib.Core.Bool.{Bool, true, false, _&&_}
 use mathlib.Core.List.{List, [], _∷_, _++_}
 use lib.ListN.{length, take, drop, drop-of-length-le}
-use lib.Seq.{take-suc, drop-cons, take-length, drop-length, take-all}
+use lib.Seq.{take-suc, drop-cons, take-length, take-all}
 use Rattle.meaning.specs.Lists.{at, sum, every}
 
 pub sum-snoc : (xs : List ℕ) (x : ℕ) → sum (xs ++ (x ∷ [])) ≡ sum xs + x
@@ -26,10 +26,6 @@ sum-all xs = ap sum (take-length xs)
 pub every-on : (f : ℕ → Bool) (xs : List ℕ) (i : ℕ) → i < length xs → every f (drop i xs) ≡ (f (at xs i) && every f (drop (suc i) xs))
 unfolding every
 every-on f xs i h = ap (every f) (drop-cons xs i 0 h)
-
-pub every-end : (f : ℕ → Bool) (xs : List ℕ) → every f (drop (length xs) xs) ≡ true
-unfolding every
-every-end f xs = ap (every f) (drop-length xs)
 
 -- ---- the same as a loop asks for them
 
