@@ -1,0 +1,216 @@
+-- One theory over the counts that may be picked: what one label makes of a row, for kinds 1, 2 and 3.
+-- Assumes nothing.
+use mathlib.Core.Path.{_≡_, refl, sym, ap, _∙_}
+use Prim.Native.Nat.{ℕ, zero, suc, _+_, _-_, _*_, _/_, _≤_, _<_, max, min}
+use native.Mathlib.Nat.{mul-add, mul-zero, mul-comm, mul-le-mul-left, mul-le-mul-right, mul-assoc, mul-left-comm, sub-add-cancel, le-div-iff-mul-le, one-mul}
+use native.Mathlib.Omega.{arith}
+use Rattle.meaning.specs.Lists.{at}
+use Rattle.meaning.specs.Job.{Job, Sort}
+use Rattle.meaning.specs.Knapsacks.{MayPick, BestValue}
+use Rattle.meaning.proofs.Steps.{best-step}
+use Rattle.knapsack.specs.Rows.{Worth, Topped, ToppedRow, Raised, Low}
+use Rattle.knapsack.proofs.Stores.{by}
+
+-- x times w, with s of the x apart
+pub apart : (w x s : ℕ) → s ≤ x → w * x ≡ w * (x - s) + w * s
+apart w x s h = ap (λ (n : ℕ). w * n) (sym (sub-add-cancel h)) ∙ mul-add w (x - s) s
+
+-- ---- other counts, other rows
+
+-- where the same counts may be picked, as far as they fit
+pub topped-may : (May Can : ℕ → Type 0) (f : ℕ → ℕ) (w v c b : ℕ) → ((x : ℕ) → May x → Can x) → ((x : ℕ) → w * x ≤ c → Can x → May x)
+    → Topped May f w v c b → Topped Can f w v c b
+topped-may May Can f w v c b to from d = record {
+  count = d .count;
+  may = to (d .count) (d .may);
+  made = d .made;
+  above = λ x y m r. d .above x y (from x (omega (arith, r .spent)) m) r;
+}
+
+-- a count that is over what the whole budget holds makes no difference
+pub topped-limit : (f : ℕ → ℕ) (w v c b limit budget : ℕ) → 1 ≤ w → c ≤ budget → Topped (λ x. x ≤ min limit (budget / w)) f w v c b → Topped (λ x. x ≤ limit) f w v c b
+topped-limit f w v c b limit budget pos h =
+    topped-may (λ x. x ≤ min limit (budget / w)) (λ x. x ≤ limit) f w v c b (λ x m. omega arith)
+    (λ x l m. let fits : x ≤ budget / w = le-div-iff-mul-le pos .1 (omega (arith, mul-comm x w)) in omega arith)
+
+-- over a row with the same cells
+pub topped-same : (May : ℕ → Type 0) (f g : ℕ → ℕ) (w v c b : ℕ) → ((d : ℕ) → d ≤ c → f d ≡ g d) → Topped May f w v c b → Topped May g w v c b
+topped-same May f g w v c b e d = record {
+  count = d .count;
+  may = d .may;
+  made = record { left = d .made .left; spent = d .made .spent; worth = d .made .worth ∙ rw (e (d .made .left) (omega (arith, d .made .spent))) };
+  above = λ x y m r. d .above x y m (record { left = r .left; spent = r .spent; worth = r .worth ∙ rw (← e (r .left) (omega (arith, r .spent))) });
+}
+
+-- ---- none of the label, and more of it
+
+pub topped-none : (f : ℕ → ℕ) (w v c : ℕ) → Topped (λ x. x ≤ 0) f w v c (f c)
+topped-none f w v c = record {
+  count = 0;
+  may = omega arith;
+  made = record { left = c; spent = omega (arith, mul-zero w); worth = omega (arith, mul-zero v) };
+  above = λ x y m r.
+      let e : x ≡ 0 = omega arith in
+      let here : r .left ≡ c = omega (arith, r .spent, ap (λ (n : ℕ). w * n) e, mul-zero w) in
+      omega (arith, r .worth, ap f here, ap (λ (n : ℕ). v * n) e, mul-zero v);
+}
+
+-- g holds up to m of the label over f. With s of them more at once, which are no more than m + 1, every count up to m + s is within reach
+module _ (f g h : ℕ → ℕ) (w v m s width : ℕ) (small : s ≤ suc m) (tops : ToppedRow (λ x. x ≤ m) f w v width g) (up : Raised g g h (w * s) (v * s) width) (c : ℕ) (inside : c < width) where
+  -- counts up to m
+  few : (x y : ℕ) → x ≤ m → Worth f w v c x y → y ≤ g c
+  unfolding ToppedRow
+  few x y k r = tops c inside .above x y k r
+
+  -- counts past m are s and a count up to m
+  rest : (x y : ℕ) → m < x → x ≤ m + s → Worth f w v c x y → (w * s ≤ c) × (y ≤ g (c - w * s) + v * s)
+  unfolding ToppedRow
+  rest x y k l r =
+      let weight = apart w x s (omega arith) in
+      let light : w * s ≤ c = omega (arith, r .spent) in (
+        light,
+        omega (
+          arith,
+          r .worth,
+          apart v x s (omega arith),
+          tops (c - w * s) (omega arith) .above (x - s) (f (r .left) + v * (x - s)) (omega arith) (record { left = r .left; spent = omega (arith, r .spent); worth = refl }),
+        ),
+      )
+
+  keep : h c ≡ g c → (w * s ≤ c → g (c - w * s) + v * s ≤ g c) → Topped (λ x. x ≤ m + s) f w v c (h c)
+  unfolding ToppedRow
+  keep e under =
+      let d = tops c inside in
+      record {
+        count = d .count;
+        may = omega (arith, d .may);
+        made = record { left = d .made .left; spent = d .made .spent; worth = e ∙ d .made .worth };
+        above = λ x y k r. by m x
+            (λ l. let (light, most) = rest x y l k r in omega (arith, under light))
+            (λ l. omega (arith, few x y l r));
+      }
+
+  add : w * s ≤ c → h c ≡ g (c - w * s) + v * s → g c ≤ h c → Topped (λ x. x ≤ m + s) f w v c (h c)
+  unfolding ToppedRow
+  add light e over =
+      let d = tops (c - w * s) (omega arith) in
+      record {
+        count = d .count + s;
+        may = omega (arith, d .may);
+        made = record {
+          left = d .made .left;
+          spent = omega (arith, d .made .spent, mul-add w (d .count) s);
+          worth = omega (arith, d .made .worth, mul-add v (d .count) s);
+        };
+        above = λ x y k r. by m x
+            (λ l. omega (arith, rest x y l k r .1))
+            (λ l. omega (arith, few x y l r));
+      }
+
+  pub topped-part : Topped (λ x. x ≤ m + s) f w v c (h c)
+  topped-part =
+      by c (w * s)
+      (λ short. keep (up .short c inside short) (λ light. absurd (omega arith)))
+      (λ light.
+      let e = up .long c inside light in
+      by (g c) (g (c - w * s) + v * s)
+      (λ more. add light (omega arith) (omega arith))
+      (λ less. keep (omega arith) (λ l. less)))
+
+-- g holds, over f, the label added again and again to g itself: any count is within reach
+module _ (f g : ℕ → ℕ) (w v width : ℕ) (pos : 1 ≤ w) (up : Raised f g g w v width) where
+  alone : (c x y : ℕ) → Worth f w v c x y → x ≤ 0 → y ≤ f c
+  alone c x y r h = topped-none f w v c .above x y h r
+
+  -- one and more of the label are one, and the others at what it leaves
+  others : (c x y : ℕ) → 0 < x → Worth f w v c x y → (w ≤ c) × (z : ℕ) × Worth f w v (c - w) (x - 1) z × (y ≡ z + v)
+  others c x y h r = (
+    omega (arith, r .spent, apart w x 1 h),
+    f (r .left) + v * (x - 1),
+    record { left = r .left; spent = omega (arith, r .spent, apart w x 1 h); worth = refl },
+    omega (arith, r .worth, apart v x 1 h),
+  )
+
+  climbed-below : (n c : ℕ) → c < n → c < width → Topped (λ x. Unit {0}) f w v c (g c)
+  unfolding topped-none
+  climbed-below zero c h l = absurd (omega arith)
+  climbed-below (suc n) c h l = by c w short (λ light. long light (climbed-below n (c - w) (omega arith) (omega arith)))
+    where
+      none-of : g c ≡ f c → ((x y : ℕ) → 0 < x → Worth f w v c x y → y ≤ f c) → Topped (λ x. Unit {0}) f w v c (g c)
+      none-of e under =
+          let d = topped-none f w v c in
+          record {
+            count = 0;
+            may = tt;
+            made = record { left = d .made .left; spent = d .made .spent; worth = e ∙ d .made .worth };
+            above = λ x y k r. by 0 x (λ some. omega (arith, under x y some r)) (λ none. omega (arith, alone c x y r none));
+          }
+
+      short : c < w → Topped (λ x. Unit {0}) f w v c (g c)
+      short k = none-of (up .short c l k) (λ x y some r. absurd (omega (arith, others c x y some r .0)))
+
+      long : w ≤ c → Topped (λ x. Unit {0}) f w v (c - w) (g (c - w)) → Topped (λ x. Unit {0}) f w v c (g c)
+      long light d =
+          let e = up .long c l light in
+          let under : (x y : ℕ) → 0 < x → Worth f w v c x y → y ≤ g (c - w) + v = λ x y some r.
+          let (k, z, r′, e′) = others c x y some r in omega (arith, d .above (x - 1) z tt r′) in
+          by (f c) (g (c - w) + v)
+          (λ more. record {
+            count = d .count + 1;
+            may = tt;
+            made = record {
+              left = d .made .left;
+              spent = omega (arith, d .made .spent, mul-add w (d .count) 1);
+              worth = omega (arith, d .made .worth, mul-add v (d .count) 1);
+            };
+            above = λ x y k r. by 0 x (λ some. omega (arith, under x y some r)) (λ none. omega (arith, alone c x y r none));
+          })
+          (λ less. none-of (omega arith) (λ x y some r. omega (arith, under x y some r)))
+
+  pub topped-any : ToppedRow (λ x. Unit {0}) f w v width g
+  unfolding ToppedRow
+  topped-any c h = climbed-below (suc c) c (omega arith) h
+
+-- ---- what a row comes to
+
+-- over a low row, whatever may be picked
+pub topped-low : (May : ℕ → Type 0) (f g : ℕ → ℕ) (w v width : ℕ) → 1 ≤ w → v ≤ 65_535 → Low f width → ToppedRow May f w v width g → Low g width
+unfolding Low ToppedRow
+topped-low May f g w v width pos cheap low tops c h =
+    let d = tops c h .made in
+    let x = tops c h .count in
+    let heavy : 1 * x ≤ w * x = mul-le-mul-right x pos in
+    let worth : v * x ≤ 65_535 * x = mul-le-mul-right x cheap in
+    omega (arith, d .spent, d .worth, low (d .left) (omega (arith, d .spent)), one-mul x)
+
+-- the row of the first i labels with label i is the row of the first i + 1
+pub topped-best : (k : Sort) (j : Job) (i width : ℕ) (f g : ℕ → ℕ) → ((c : ℕ) → c < width → BestValue k j i c (f c))
+    → ToppedRow (MayPick k (at (j .copies) i)) f (at (j .weights) i) (at (j .values) i) width g → (c : ℕ) → c < width → BestValue k j (suc i) c (g c)
+unfolding ToppedRow
+topped-best k j i width f g rows tops c h =
+    let d = tops c h in
+    let w = at (j .weights) i in
+    let v = at (j .values) i in
+    best-step k j i c f (λ d l. rows d (omega arith)) (g c)
+    (λ x may light. d .above x (f (c - w * x) + v * x) may (record { left = c - w * x; spent = omega arith; worth = refl }))
+    (d .count) (d .may) (omega (arith, d .made .spent))
+    (let same : d .made .left ≡ c - w * d .count = omega (arith, d .made .spent) in d .made .worth ∙ rw same)
+
+-- a part of a label's copies: it is lighter than the row is wide, and low itself
+pub record PartFits (w v part width : ℕ) : Type 0 where
+  pub light : w * part < width
+  pub cheap : v * part ≤ 65_535 * (w * part)
+
+pub part-fits : (w v part most width : ℕ) → 1 ≤ w → v ≤ 65_535 → part ≤ most → w * most < width → PartFits w v part width
+part-fits w v part most width pos cheap few light =
+    let heavy : 1 * part ≤ w * part = mul-le-mul-right part pos in
+    let worth : v * part ≤ 65_535 * part = mul-le-mul-right part cheap in
+    record { light = omega (arith, mul-le-mul-left w few); cheap = omega (arith, one-mul part) }
+
+-- a low row stays low where something low is added
+pub raised-low : (f g : ℕ → ℕ) (w v width : ℕ) → v ≤ 65_535 * w → Low f width → Raised f f g w v width → Low g width
+unfolding Low
+raised-low f g w v width cheap low up c h =
+    by c w
+    (λ short. omega (arith, up .short c h short, low c h))
+    (λ light. omega (arith, up .long c h light, low c h, low (c - w) (omega arith)))

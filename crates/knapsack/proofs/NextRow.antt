@@ -1,0 +1,89 @@
+-- Kinds 1 and 2: a row of the table from the row before it.
+-- Assumes nothing.
+use mathlib.Core.Path.{_≡_, sym, _∙_}
+use Prim.Native.Nat.{ℕ, _+_, _-_, _*_, _/_, _≤_, _<_, max, min}
+use native.Mathlib.Nat.{mul-one, mul-div-le, mul-le-mul-left, min-le-right, zero-add}
+use native.Mathlib.Omega.{arith}
+use mathlib.Core.List.{List, _++_}
+use lib.ListN.{length, take}
+use Rattle.meaning.specs.Lists.{at}
+use Rattle.knapsack.specs.Rows.{ToppedRow, Raised, Stored, Repeated, NextRow, Low}
+use Rattle.knapsack.proofs.Stores.{by}
+use Rattle.knapsack.proofs.Counts.{topped-none, topped-part, topped-limit, topped-low}
+use Rattle.knapsack.proofs.Parts.{partOf, part-long, part-at, put-at, put-before}
+
+-- a row that is raised once holds up to one of the label
+pub topped-one : (f h : ℕ → ℕ) (w v width : ℕ) → Raised f f h w v width → ToppedRow (λ x. x ≤ 1) f w v width h
+unfolding ToppedRow
+topped-one f h w v width up c inside =
+    rw zero-add at (topped-part f f h w v 0 1 width (omega arith) (λ d l. topped-none f w v d) (rw (mul-one w, mul-one v) up) c inside)
+
+-- a row with the same cells
+pub row-same : (May : ℕ → Type 0) (f g h : ℕ → ℕ) (w v width : ℕ) → ((c : ℕ) → c < width → g c ≡ h c) → ToppedRow May f w v width g → ToppedRow May f w v width h
+unfolding ToppedRow
+row-same May f g h w v width e tops c inside = rw (← e c inside) (tops c inside)
+
+-- s is the table before, t with the row copied up to `start`, u with it raised from there on
+module _ (s t u : List ℕ) (from width w v most start : ℕ)
+    (none : most ≡ 0 → start ≡ width) (some : 0 < most → start ≡ w)
+    (copied : Stored s t (from + width) 0 start (λ c. at s (from + c)))
+    (raised : Stored t u (from + width) start width (λ c. max (at t (from + c)) (at t (from + (c - start)) + v))) where
+  pub rows-before : (k : ℕ) → k < from + width → at u k ≡ at s k
+  rows-before k h = raised .before k (omega arith) ∙ copied .before k (omega arith)
+
+  same-below : (c : ℕ) → c < start → at u (from + width + c) ≡ at s (from + c)
+  same-below c h = raised .before (from + width + c) (omega arith) ∙ copied .cells c (omega arith) h
+
+  row-copied : (c : ℕ) → c < width → at t (from + c) ≡ at s (from + c)
+  row-copied c h = copied .before (from + c) (omega arith)
+
+  -- up to one of the label, or none where none may be picked
+  pub first-one : ToppedRow (λ x. x ≤ min 1 most) (λ c. at s (from + c)) w v width (λ c. at u (from + width + c))
+  unfolding ToppedRow
+  first-one =
+      by 0 most
+      (λ h.
+      let here : start ≡ w = some h in
+      let one : 1 ≡ min 1 most = omega arith in
+      rw (← one) (topped-one (λ c. at s (from + c)) (λ c. at u (from + width + c)) w v width (record {
+        short = λ c l m. same-below c (omega arith);
+        long = λ c l m. raised .cells c (omega arith) l ∙ rw (here, row-copied c l, row-copied (c - w) (omega arith));
+      })))
+      (λ h c l.
+      let here : start ≡ width = none (omega arith) in
+      let zero : 0 ≡ min 1 most = omega arith in
+      rw (← zero, same-below c (omega arith)) (topped-none (λ d. at s (from + d)) w v c))
+
+  first-part : from + width + width ≤ length u → ToppedRow (λ x. x ≤ min 1 most) (λ c. at s (from + c)) w v width (at (partOf u (from + width) width))
+  first-part fits =
+      row-same (λ x. x ≤ min 1 most) (λ c. at s (from + c)) (λ c. at u (from + width + c)) (at (partOf u (from + width) width)) w v width
+      (λ c h. sym (part-at u (from + width) width fits c h)) first-one
+
+  -- which leaves the row low
+  pub part-low : 1 ≤ w → v ≤ 65_535 → from + width + width ≤ length u → Low (λ c. at s (from + c)) width → Low (at (partOf u (from + width) width)) width
+  part-low pos cheap fits low =
+      topped-low (λ x. x ≤ min 1 most) (λ c. at s (from + c)) (at (partOf u (from + width) width)) w v width pos cheap low (first-part fits)
+
+  -- then up to `limit` of it, by parts in place
+  module _ (row rest : List ℕ) (limit : ℕ) (pos : 1 ≤ w) (fits : from + width + width ≤ length u) (long : length row ≡ width)
+      (is-most : most ≡ min limit ((width - 1) / w)) (parts : Repeated (partOf u (from + width) width) row w v width most) where
+    pub next-made : NextRow s (take (from + width) u ++ (row ++ rest)) from width w v limit
+    unfolding Repeated ToppedRow
+    next-made = record {
+      made = λ c l.
+          let all = parts (λ d. at s (from + d)) (first-part fits) c l in
+          rw (put-at u (from + width) width fits row rest c (omega arith))
+          (topped-limit (λ d. at s (from + d)) w v c (at row c) limit (width - 1) pos (omega arith) (rw is-most at all));
+      before = λ k l. put-before u (from + width) width fits row rest k l ∙ rows-before k l;
+    }
+
+-- as many as the budget holds are lighter than the row is wide
+pub most-light : (limit w width : ℕ) → 0 < width → w * min limit ((width - 1) / w) < width
+most-light limit w width pos = omega (arith, mul-le-mul-left w (min-le-right limit ((width - 1) / w)), mul-div-le (width - 1) w)
+
+-- so it is raised from a budget within the row on
+pub start-within : (w most width start : ℕ) → (most ≡ 0 → start ≡ width) → (0 < most → start ≡ w) → w * most < width → start ≤ width
+start-within w most width start none some light =
+    by 0 most
+    (λ h. omega (arith, some h, mul-le-mul-left w h, mul-one w))
+    (λ h. omega (arith, none (omega arith)))

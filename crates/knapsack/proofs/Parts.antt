@@ -1,0 +1,33 @@
+-- A part of a slice that is lent and comes back: what it held, and where its cells stand then.
+-- Assumes nothing.
+use mathlib.Core.Path.{_≡_, ap, _∙_}
+use Prim.Native.Nat.{ℕ, _+_, _-_, _≤_, _<_}
+use native.Mathlib.Omega.{arith}
+use mathlib.Core.List.{List, _++_}
+use lib.ListN.{length, take, drop, length-take, length-drop, List·getD-append}
+use lib.Seq.{getD-take, getD-drop, getD-append-add, length-take-le}
+use Rattle.meaning.specs.Lists.{at}
+
+-- the `len` places of a slice from a place on
+abbrev pub partOf : List ℕ → ℕ → ℕ → List ℕ
+partOf whole from len = take (from + len - from) (drop from whole)
+
+module _ (whole : List ℕ) (from len : ℕ) (fits : from + len ≤ length whole) where
+  pub part-long : length (partOf whole from len) ≡ len
+  part-long = simp (length-take, length-drop) (omega arith)
+
+  pub part-at : (c : ℕ) → c < len → at (partOf whole from len) c ≡ at whole (from + c)
+  part-at c h = getD-take (from + len - from) (drop from whole) c 0 (omega arith) ∙ getD-drop from whole c 0
+
+  module _ (new rest : List ℕ) where
+    pub put-at : (c : ℕ) → c < length new → at (take from whole ++ (new ++ rest)) (from + c) ≡ at new c
+    put-at c h =
+        let front : length (take from whole) ≡ from = length-take-le from whole (omega arith) in
+        ap (λ (n : ℕ). at (take from whole ++ (new ++ rest)) n) (omega arith)
+        ∙ getD-append-add (take from whole) (new ++ rest) c 0
+        ∙ List·getD-append new rest 0 c h
+
+    pub put-before : (k : ℕ) → k < from → at (take from whole ++ (new ++ rest)) k ≡ at whole k
+    put-before k h =
+        let front : length (take from whole) ≡ from = length-take-le from whole (omega arith) in
+        List·getD-append (take from whole) (new ++ rest) 0 k (omega arith) ∙ getD-take from whole k 0 h

@@ -1,0 +1,96 @@
+-- Cells that a loop stores one by one.
+-- Assumes nothing.
+use mathlib.Core.Path.{_≡_, refl, _∙_}
+use Prim.Native.Nat.{ℕ, suc, _+_, _-_, _*_, _≤_, _<_, max}
+use native.Mathlib.Decide.{decLt}
+use native.Mathlib.Omega.{arith}
+use mathlib.Core.List.{List, _∷_}
+use lib.ListN.{length, set, drop}
+use lib.Seq.{getD-set-same, getD-set-other, drop-cons, drop-set-lt, lt-length-set}
+use Rattle.meaning.specs.Lists.{at}
+use Rattle.knapsack.specs.Rows.{Raised, Stored, Low}
+
+-- by cases, a below b or not; the numbers come first, so that what each case is handed is known
+pub by : {C : Type 0} (a b : ℕ) → (a < b → C) → (b ≤ a → C) → C
+by {C} a b below not-below = go (decLt a b)
+  where
+    go : Dec (a < b) → C
+    go (yes h) = below h
+    go (no h) = not-below (omega arith)
+
+-- the place that was stored to, and another
+pub at-same : (l : List ℕ) (i x k : ℕ) → i < length l → k ≡ i → at (set l i x) k ≡ x
+at-same l i x k h e = rw e (getD-set-same l i x 0 h)
+
+pub at-other : (l : List ℕ) (i x k : ℕ) → ¬ (k ≡ i) → at (set l i x) k ≡ at l k
+at-other l i x k h = getD-set-other l i k x 0 h
+
+-- a place and those after it, once it was stored to
+pub stored-first : (l : List ℕ) (i x : ℕ) → i < length l → drop i (set l i x) ≡ x ∷ drop (suc i) l
+stored-first l i x h =
+    drop-cons (set l i x) i 0 (lt-length-set l i x h)
+    ∙ rw (getD-set-same l i x 0 h, drop-set-lt (suc i) l i x (omega arith))
+
+module _ (s : List ℕ) (to lo hi : ℕ) (rule : ℕ → ℕ) where
+  -- nothing stored yet
+  pub stored-none : hi ≤ lo → Stored s s to lo hi rule
+  stored-none h = record { cells = λ c l m. absurd (omega arith); before = λ k l. refl }
+
+  module _ (t : List ℕ) (place x : ℕ) (inside : place < length t) (d : Stored s t to lo hi rule) where
+    -- the next cell up
+    pub stored-up : lo ≤ hi → place ≡ to + hi → x ≡ rule hi → Stored s (set t place x) to lo (hi + 1) rule
+    stored-up h e r = record {
+      cells = λ c l m. by c hi
+          (λ b. at-other t place x (to + c) (omega arith) ∙ d .cells c l b)
+          (λ b. let same : hi ≡ c = omega arith in at-same t place x (to + c) inside (omega arith) ∙ r ∙ rw same);
+      before = λ k l. at-other t place x k (omega arith) ∙ d .before k l;
+    }
+
+    -- the next cell down
+    pub stored-down : 0 < lo → lo ≤ hi → place ≡ to + (lo - 1) → x ≡ rule (lo - 1) → Stored s (set t place x) to (lo - 1) hi rule
+    stored-down pos h e r = record {
+      cells = λ c l m. by (lo - 1) c
+          (λ b. at-other t place x (to + c) (omega arith) ∙ d .cells c (omega arith) m)
+          (λ b. let same : lo - 1 ≡ c = omega arith in at-same t place x (to + c) inside (omega arith) ∙ r ∙ rw same);
+      before = λ k l. at-other t place x k (omega arith) ∙ d .before k (omega arith);
+    }
+
+-- a row in place, up to budget c: what lies past it is as it was
+pub record RaisedTo (s t : List ℕ) (w v c : ℕ) : Type 0 where
+  pub raised : Raised (at s) (at t) (at t) w v c
+  pub past : (k : ℕ) → c ≤ k → at t k ≡ at s k
+
+module _ (s : List ℕ) (w v : ℕ) where
+  -- below the weight nothing is raised
+  pub raised-none : RaisedTo s s w v w
+  raised-none = record { raised = record { short = λ c l m. refl; long = λ c l m. absurd (omega arith) }; past = λ k l. refl }
+
+  -- one cell more
+  pub raised-up : (t : List ℕ) (c x : ℕ) → c < length t → 1 ≤ w → w ≤ c → RaisedTo s t w v c → x ≡ max (at t c) (at t (c - w) + v)
+      → RaisedTo s (set t c x) w v (c + 1)
+  raised-up t c x inside pos h d e =
+      let same : (k : ℕ) → k < c → at (set t c x) k ≡ at t k = λ k l. at-other t c x k (omega arith) in
+      record {
+        raised = record {
+          short = λ k l m. same k (omega arith) ∙ d .raised .short k (omega arith) m;
+          long = λ k l m. by k c
+              (λ b. omega (arith, same k b, same (k - w) (omega arith), d .raised .long k b m))
+              (λ b.
+              let here : k ≡ c = omega arith in
+              rw here (omega (arith, at-same t c x c inside refl, same (c - w) (omega arith), d .past c (omega arith))));
+        };
+        past = λ k l. at-other t c x k (omega arith) ∙ d .past k (omega arith);
+      }
+
+-- a cell that is low stays so with a label more
+pub low-more : (x y c w v : ℕ) → x ≤ 65_535 * c → w ≤ c → y ≤ 65_535 * (c - w) → v ≤ 65_535 * w → max x (y + v) ≤ 65_535 * c
+low-more x y c w v hx h hy hv = omega arith
+
+-- a low row with one cell stored that is low
+pub low-set : (t : List ℕ) (c x width : ℕ) → c < length t → Low (at t) width → x ≤ 65_535 * c → Low (at (set t c x)) width
+unfolding Low
+low-set t c x width inside low h k l =
+    by k c (λ b. omega (arith, at-other t c x k (omega arith), low k l))
+    (λ b. by c k
+    (λ b′. omega (arith, at-other t c x k (omega arith), low k l))
+    (λ b′. omega (arith, at-same t c x k inside (omega arith))))

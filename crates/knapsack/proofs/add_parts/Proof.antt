@@ -1,0 +1,116 @@
+use mathlib.Core.Path.{_≡_, refl, sym, ap, _∙_}
+use Prim.Native.Nat.{ℕ, suc, _+_, _-_, _*_, _≤_, _<_, min}
+use native.Mathlib.Omega.{arith}
+use lib.ListN.{length}
+use borrow.Author.Needs.{needs}
+use Rattle.meaning.specs.Lists.{at}
+use Rattle.knapsack.specs.Rows.{ToppedRow, Repeated, Low}
+use Rattle.knapsack.proofs.Counts.{topped-part, PartFits, part-fits, raised-low}
+use Rattle.knapsack.proofs.add_parts.Statement.{statement}
+use Rattle.knapsack.proofs.add_parts.Tie as tie
+
+abbrev Inv-loop : tie.InvT-loop
+Inv-loop row₀ w v most m₀ row m = 
+    (min 1 most ≤ m)
+    × (m ≤ most)
+    × (length row ≡ length row₀)
+    × Low (at row) (length row₀)
+    × ((f : ℕ → ℕ) → ToppedRow (λ x. x ≤ min 1 most) f w v (length row₀) (at row₀) → ToppedRow (λ x. x ≤ m) f w v (length row₀) (at row))
+
+abbrev μ-loop : tie.MeasureT-loop
+μ-loop row₀ w v most m₀ row m = most - m
+
+-- the function's entry, from the loop's head
+abbrev start : tie.At-loop Inv-loop μ-loop → tie.Start Inv-loop μ-loop
+start c = c .before .before .before
+
+fits : (c : tie.After-raise-down-arg Inv-loop μ-loop) → let a = start (c .before .before .before) .args in PartFits (a .w) (a .v) (c .before .lesser2 .result) (length (a .row .now))
+fits c =
+    let s = start (c .before .before .before) in
+    let a = s .args in
+    part-fits (a .w) (a .v) (c .before .lesser2 .result) (a .most) (length (a .row .now)) (s .pre .0 .0) (s .pre .0 .1 .0) (omega (arith, c .before .lesser2 .ensures)) (s .pre .0 .1 .1 .1)
+
+lesser-requires : tie.Need-lesser-requires Inv-loop μ-loop
+lesser-requires c κs = search needs
+
+loop-holds : tie.Need-loop-holds Inv-loop μ-loop
+loop-holds c = 
+    let start = c .before .before in
+    let one : c .lesser .result ≡ min 1 (start .args .most) = c .lesser .ensures in
+    (omega arith, omega arith, refl, start .pre .1, rw one (λ f tops. tops))
+
+add-lesser : tie.Need-add-lesser Inv-loop μ-loop
+add-lesser c = search needs
+
+sub-lesser : tie.Need-sub-lesser Inv-loop μ-loop
+sub-lesser c = search needs
+
+lesser-requires-2 : tie.Need-lesser-requires-2 Inv-loop μ-loop
+lesser-requires-2 c κs = search needs
+
+mul-raise-down : tie.Need-mul-raise-down Inv-loop μ-loop
+mul-raise-down c = omega (arith, fits c .light, start (c .before .before .before) .pre .0)
+
+mul-raise-down-2 : tie.Need-mul-raise-down-2 Inv-loop μ-loop
+mul-raise-down-2 c = omega (arith, fits c, start (c .before .before .before) .pre .0)
+
+raise-down-requires : tie.Need-raise-down-requires Inv-loop μ-loop
+unfolding Low
+raise-down-requires c κs = 
+    λ d h.
+    let l = c .before .before .before .loop in
+    omega (arith, l .inv .3 d (omega (arith, l .inv .2)), fits c .cheap, l .inv .2, start (c .before .before .before) .pre .0)
+
+add-m : tie.Need-add-m Inv-loop μ-loop
+add-m c = search needs
+
+loop-less : tie.Need-loop-less Inv-loop μ-loop
+loop-less c = search needs
+
+loop-again : tie.Need-loop-again Inv-loop μ-loop
+unfolding ToppedRow
+loop-again c = 
+    let head = c .before .before .before .before .before .before in
+    let a = start head .args in
+    let l = head .loop in
+    let part = c .before .before .before .before .lesser2 in
+    let up = c .before .before .raise-down in
+    let raised = rw (l .inv .2) at (up .ensures) in (
+      omega (arith, part .ensures),
+      omega (arith, part .ensures),
+      up .kept .0 ∙ l .inv .2,
+      raised-low (at (l .row)) (at (up .last .0)) (a .w * part .result) (a .v * part .result) (length (a .row .now)) (fits (c .before .before .before) .cheap) (l .inv .3) raised,
+      λ f tops.
+          topped-part f (at (l .row)) (at (up .last .0)) (a .w) (a .v) (l .m) (part .result) (length (a .row .now)) (omega (arith, part .ensures)) (l .inv .4 f tops) raised,
+    )
+
+same-length : tie.Need-same-length Inv-loop μ-loop
+same-length c = search needs
+
+returns : tie.Need-returns Inv-loop μ-loop
+unfolding Repeated
+returns c = 
+    λ f tops.
+    let l = c .before .loop in
+    let all : l .m ≡ start (c .before) .args .most = omega arith in
+    rw (← all) (l .inv .4 f tops)
+
+pub add-parts-spec : {M : Type 1} → statement M
+add-parts-spec =
+    tie.close
+    (tie.spec
+    Inv-loop
+    μ-loop
+    lesser-requires
+    loop-holds
+    add-lesser
+    sub-lesser
+    lesser-requires-2
+    mul-raise-down
+    mul-raise-down-2
+    raise-down-requires
+    add-m
+    loop-less
+    loop-again
+    same-length
+    returns)

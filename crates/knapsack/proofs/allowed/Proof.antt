@@ -1,0 +1,25 @@
+use borrow.Author.Tests.{eq-eqb, ne-eqb}
+use Rattle.meaning.specs.Lists.{if}
+use Rattle.knapsack.specs.Tables.{limitOf}
+use mathlib.Core.Path.{_≡_, refl, sym, ap, _∙_}
+use Prim.Native.Nat.{ℕ, suc, _+_, _-_, _*_, _≤_, _<_, min}
+use native.Mathlib.Omega.{arith}
+use lib.ListN.{length}
+use borrow.Author.Needs.{needs}
+use Rattle.meaning.specs.Lists.{at}
+use Rattle.knapsack.proofs.allowed.Statement.{statement}
+use Rattle.knapsack.proofs.allowed.Tie as tie
+
+returns : tie.Need-returns
+unfolding limitOf if
+returns c = rw (eq-eqb (c .before .before .before .args .kind) 1 (c .if1 .taken))
+
+item-requires : tie.Need-item-requires
+item-requires c κs = c .before .before .before .pre (c .if1 .left)
+
+returns-2 : tie.Need-returns-2
+unfolding limitOf if
+returns-2 c = c .item .ensures ∙ rw (ne-eqb (c .before .before .before .before .args .kind) 1 (c .before .if1 .left))
+
+pub allowed-spec : {M : Type 1} → statement M
+allowed-spec = tie.close (tie.spec returns item-requires returns-2)

@@ -1,0 +1,78 @@
+use mathlib.Core.Path.{_≡_, refl}
+use Prim.Native.Nat.{ℕ, _+_, _-_, _≤_, _<_, max, min}
+use native.Mathlib.Omega.{arith}
+use lib.ListN.{length, length-set}
+use borrow.Author.Needs.{needs}
+use Rattle.meaning.specs.Lists.{at}
+use Rattle.knapsack.specs.Rows.{Stored}
+use Rattle.knapsack.proofs.Stores.{stored-none, stored-up}
+use Rattle.knapsack.proofs.copy.Statement.{statement}
+use Rattle.knapsack.proofs.copy.Tie as tie
+
+abbrev Inv-loop : tie.InvT-loop
+Inv-loop cells₀ from to count c₀ cells c = (c ≤ count) × (length cells ≡ length cells₀) × Stored cells₀ cells to 0 c (λ k. at cells₀ (from + k))
+
+abbrev μ-loop : tie.MeasureT-loop
+μ-loop cells₀ from to count c₀ cells c = count - c
+
+loop-holds : tie.Need-loop-holds Inv-loop μ-loop
+loop-holds c = search needs
+
+add-cells : tie.Need-add-cells Inv-loop μ-loop
+add-cells c = search needs
+
+mul-cells : tie.Need-mul-cells Inv-loop μ-loop
+mul-cells c = search needs
+
+slice-read-cells : tie.Need-slice-read-cells Inv-loop μ-loop
+slice-read-cells c = search needs
+
+add-cells-2 : tie.Need-add-cells-2 Inv-loop μ-loop
+add-cells-2 c = search needs
+
+mul-cells-2 : tie.Need-mul-cells-2 Inv-loop μ-loop
+mul-cells-2 c = search needs
+
+slice-write-cells : tie.Need-slice-write-cells Inv-loop μ-loop
+slice-write-cells c = search needs
+
+add-c : tie.Need-add-c Inv-loop μ-loop
+add-c c = search needs
+
+loop-less : tie.Need-loop-less Inv-loop μ-loop
+loop-less c = search needs
+
+loop-again : tie.Need-loop-again Inv-loop μ-loop
+loop-again c = 
+    let a = c .before .before .before .args in
+    let l = c .before .before .loop in (
+      omega arith,
+      simp length-set (l .inv .1),
+      stored-up (a .cells .now) (a .to) 0 (l .c) (λ k. at (a .cells .now) (a .from + k)) (l .cells) (a .to + l .c) (at (l .cells) (a .from + l .c)) (omega arith) (l .inv .2) (omega arith) refl
+          (l .inv .2 .before (a .from + l .c) (omega arith)),
+    )
+
+same-length : tie.Need-same-length Inv-loop μ-loop
+same-length c = c .before .loop .inv .1
+
+returns : tie.Need-returns Inv-loop μ-loop
+returns c = let d = c .before .loop .inv .2 in record { cells = λ k l m. d .cells k l (omega arith); before = d .before }
+
+pub copy-spec : {M : Type 1} → statement M
+copy-spec =
+    tie.close
+    (tie.spec
+    Inv-loop
+    μ-loop
+    loop-holds
+    add-cells
+    mul-cells
+    slice-read-cells
+    add-cells-2
+    mul-cells-2
+    slice-write-cells
+    add-c
+    loop-less
+    loop-again
+    same-length
+    returns)

@@ -1,0 +1,107 @@
+use native.Mathlib.Nat.{zero-add}
+use native.Mathlib.Numerals.{add-one}
+use mathlib.Core.Path.{_≡_, refl, _∙_}
+use Prim.Native.Nat.{ℕ, suc, _+_, _-_, _≤_, _<_}
+use native.Mathlib.Omega.{arith}
+use lib.ListN.{length}
+use borrow.Author.Needs.{needs}
+use Rattle.meaning.specs.Lists.{at}
+use Rattle.numbers.specs.Handed.{handed}
+use Rattle.knapsack.specs.Rows.{Low}
+use Rattle.knapsack.specs.Tables.{Climbed, level, climb}
+use Rattle.knapsack.proofs.FreeRow.{climbed-low}
+use Rattle.knapsack.proofs.fill_row.Statement.{statement}
+use Rattle.knapsack.proofs.fill_row.Tie as tie
+
+abbrev Inv-loop : tie.InvT-loop
+Inv-loop weights wbytes values vbytes row₀ width n i₀ row i = 
+    (i ≤ n)
+    × (length row ≡ length row₀)
+    × Climbed (handed weights wbytes) (handed values vbytes) width i row
+
+abbrev μ-loop : tie.MeasureT-loop
+μ-loop weights wbytes values vbytes row₀ width n i₀ row i = n - i
+
+-- the function's entry, from the loop's head
+abbrev entry : tie.At-loop Inv-loop μ-loop → tie.Start Inv-loop μ-loop
+entry c = c .before .before .before .before .before .before .before .before .before .before .before
+
+long : (c : tie.At-loop Inv-loop μ-loop) → length (c .loop .row) ≡ length (entry c .args .row .now)
+long c = c .loop .inv .1 ∙ c .before .before .before .before .clear .kept .0
+
+-- label i is one of the labels
+inside : (c : tie.In-loop Inv-loop μ-loop) → c .before .loop .i < length (handed (entry (c .before) .args .weights .now) (entry (c .before) .args .wbytes .now))
+inside c = omega (arith, c .before .before .list-length .ensures)
+
+clear-requires : tie.Need-clear-requires Inv-loop μ-loop
+clear-requires c κs = search needs
+
+list-length-requires : tie.Need-list-length-requires Inv-loop μ-loop
+list-length-requires c κs = search needs
+
+loop-holds : tie.Need-loop-holds Inv-loop μ-loop
+loop-holds c = 
+    let clear = c .before .before .before .clear in
+    (omega arith, refl, level (λ k h. rw zero-add at (clear .ensures .cells k (omega arith) h)))
+
+item-requires : tie.Need-item-requires Inv-loop μ-loop
+item-requires c κs = inside c
+
+item-requires-2 : tie.Need-item-requires-2 Inv-loop μ-loop
+item-requires-2 c κs = let turn = c .before in rw (entry (turn .before) .pre .valued) (inside turn)
+
+raise-up-requires : tie.Need-raise-up-requires Inv-loop μ-loop
+raise-up-requires c κs = 
+    let turn = c .before .before .before in
+    let head = turn .before in
+    let l = head .loop in
+    let a = entry head .args in
+    let b = entry head .pre in
+    rw (long head)
+    ((rw (c .before .before .item .ensures) (b .heavy (l .i) (inside turn)), (rw (c .before .item2 .ensures) (b .cheap (l .i) (inside turn)), b .narrow)),
+    climbed-low (handed (a .weights .now) (a .wbytes .now)) (handed (a .values .now) (a .vbytes .now)) (length (a .row .now)) (l .i) (l .row) b (omega (arith, inside turn)) (l .inv .2))
+
+add-i : tie.Need-add-i Inv-loop μ-loop
+add-i c = search needs
+
+loop-less : tie.Need-loop-less Inv-loop μ-loop
+loop-less c = search needs
+
+loop-again : tie.Need-loop-again Inv-loop μ-loop
+loop-again c = 
+    let head = c .before .before .before .before .before .before .before in
+    let l = head .loop in
+    let up = c .before .before .raise-up in
+    let w = c .before .before .before .before .before .item .ensures in
+    let v = c .before .before .before .before .item2 .ensures in (
+      omega arith,
+      up .kept .0 ∙ l .inv .1,
+      rw add-one (climb (l .inv .2) (rw (long head, w, v) at (up .ensures))),
+    )
+
+same-length : tie.Need-same-length Inv-loop μ-loop
+same-length c = long (c .before)
+
+returns : tie.Need-returns Inv-loop μ-loop
+returns c = 
+    let head = c .before in
+    let all : head .loop .i ≡ length (handed (entry head .args .weights .now) (entry head .args .wbytes .now)) = omega (arith, head .before .list-length .ensures) in
+    rw (← all) (head .loop .inv .2)
+
+pub fill-row-spec : {M : Type 1} → statement M
+fill-row-spec =
+    tie.close
+    (tie.spec
+    Inv-loop
+    μ-loop
+    clear-requires
+    list-length-requires
+    loop-holds
+    item-requires
+    item-requires-2
+    raise-up-requires
+    add-i
+    loop-less
+    loop-again
+    same-length
+    returns)

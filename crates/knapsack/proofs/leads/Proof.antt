@@ -1,0 +1,46 @@
+use mathlib.Core.Path.{_≡_}
+use mathlib.Core.Bool.{true, false}
+use Prim.Native.Nat.{_+_, _-_, _≤_, _<_}
+use native.Mathlib.Omega.{arith}
+use borrow.Author.Tests.{lt-leb, le-leb}
+use Rattle.knapsack.specs.Rows.{Low}
+use Rattle.knapsack.specs.Ways.{leadsOn}
+use borrow.Author.Needs.{needs}
+use Rattle.knapsack.proofs.leads.Statement.{statement}
+use Rattle.knapsack.proofs.leads.Tie as tie
+
+returns : tie.Need-returns
+unfolding leadsOn
+returns c = rw (lt-leb (c .before .args .w) (c .before .args .c) (c .if1 .taken))
+
+mul-result : tie.Need-mul-result
+mul-result c = search needs
+
+shared-slice-read-result : tie.Need-shared-slice-read-result
+shared-slice-read-result c = search needs
+
+add-result : tie.Need-add-result
+unfolding Low
+add-result c = let s = c .before .before in omega (arith, s .pre .1 (s .args .c - s .args .w) (omega arith))
+
+mul-result-2 : tie.Need-mul-result-2
+mul-result-2 c = search needs
+
+shared-slice-read-result-2 : tie.Need-shared-slice-read-result-2
+shared-slice-read-result-2 c = search needs
+
+returns-2 : tie.Need-returns-2
+unfolding leadsOn
+returns-2 c = let a = c .before .before .before .args in rw (le-leb (a .w) (a .c) (omega arith))
+
+pub leads-spec : {M : Type 1} → statement M
+leads-spec =
+    tie.close
+    (tie.spec
+    returns
+    mul-result
+    shared-slice-read-result
+    add-result
+    mul-result-2
+    shared-slice-read-result-2
+    returns-2)

@@ -1,0 +1,127 @@
+use mathlib.Core.Path.{_≡_, refl, sym, ap, _∙_}
+use Prim.Native.Nat.{ℕ, suc, _+_, _-_, _*_, _≤_, _<_, min}
+use native.Mathlib.Omega.{arith}
+use lib.ListN.{length}
+use borrow.Author.Needs.{needs}
+use Rattle.meaning.specs.Lists.{at}
+use borrow.Author.Needs.{needs}
+use Rattle.knapsack.specs.Rows.{Low}
+use Rattle.knapsack.proofs.Parts.{partOf, part-long}
+use Rattle.knapsack.proofs.NextRow.{most-light, start-within, part-low, next-made}
+use Rattle.knapsack.proofs.next_row.Statement.{statement}
+use Rattle.knapsack.proofs.next_row.Tie as tie
+
+add-to : tie.Need-add-to
+add-to c = search needs
+
+sub-lesser : tie.Need-sub-lesser
+sub-lesser c = search needs
+
+cast-lesser : tie.Need-cast-lesser
+cast-lesser c = search needs
+
+div-lesser : tie.Need-div-lesser
+div-lesser c = search needs
+
+lesser-requires : tie.Need-lesser-requires
+lesser-requires c κs = search needs
+
+reach-requires : tie.Need-reach-requires
+reach-requires c κs = search needs
+
+-- as many as may be picked are lighter than the row is wide
+light : (c : tie.After-reach) → c .before .before .before .args .w * c .before .lesser .result < c .before .before .before .args .width
+light c =
+    let a = c .before .before .before .args in
+    rw (c .before .lesser .ensures) (most-light (a .limit) (a .w) (a .width) (c .before .before .before .pre .0 .0))
+
+-- and the row is copied no further than it is wide
+short : (c : tie.After-reach) → c .reach .result ≤ c .before .before .before .args .width
+short c =
+    let a = c .before .before .before .args in
+    start-within (a .w) (c .before .lesser .result) (a .width) (c .reach .result) (c .reach .ensures .0) (c .reach .ensures .1) (light c)
+
+copy-requires : tie.Need-copy-requires
+copy-requires c κs = 
+    let start = c .before .before .before .before in
+    (omega (arith, short (c .before)), omega (arith, short (c .before), start .pre .0))
+
+raise-requires : tie.Need-raise-requires
+unfolding Low
+raise-requires c κs = 
+    let start = c .before .before .before .before .before .before .before .before in
+    let a = start .args in
+    let reach = c .before .before .before .before .before in
+    let copy = c .before .before .before .copy in (
+      (short reach, (omega arith, omega (arith, copy .kept .0, start .pre .0))),
+      λ d h. omega (arith, copy .ensures .before (a .from + d) (omega arith), start .pre .1 .1 d (omega arith), start .pre .0, start .pre .1 .0),
+    )
+
+add-add-parts : tie.Need-add-add-parts
+add-add-parts c = search needs
+
+mul-add-parts : tie.Need-mul-add-parts
+mul-add-parts c = search needs
+
+sub-add-parts : tie.Need-sub-add-parts
+sub-add-parts c = search needs
+
+part-add-parts-start : tie.Need-part-add-parts-start
+part-add-parts-start c = search needs
+
+part-add-parts-end : tie.Need-part-add-parts-end
+part-add-parts-end c = search needs
+
+add-parts-requires : tie.Need-add-parts-requires
+add-parts-requires c κs = 
+    let raise = c .before .before .before in
+    let copy = raise .before .before .before .before in
+    let reach = copy .before .before in
+    let start = reach .before .before .before in
+    let a = start .args in
+    let u = raise .raise .last .0 in
+    let to = a .from + a .width in
+    let fits : to + a .width ≤ length u = omega (arith, raise .raise .kept .0, copy .copy .kept .0, start .pre .0) in
+    rw (part-long u to (a .width) fits)
+    ((start .pre .1 .0 .0, (start .pre .1 .0 .1, (start .pre .0 .1 .0, light reach))),
+    part-low (a .cells .now) (copy .copy .last .0) u (a .from) (a .width) (a .w) (a .v) (reach .before .lesser .result) (reach .reach .result) (reach .reach .ensures .0) (reach .reach .ensures .1)
+    (copy .copy .ensures) (raise .raise .ensures) (start .pre .1 .0 .0) (start .pre .1 .0 .1) fits (start .pre .1 .1))
+
+same-length : tie.Need-same-length
+same-length c = search needs
+
+returns : tie.Need-returns
+returns c = 
+    let parts = c .before .before .add-parts in
+    let raise = c .before .before .before .before .before .before in
+    let copy = raise .before .before .before .before in
+    let reach = copy .before .before in
+    let start = reach .before .before .before in
+    let a = start .args in
+    let u = raise .raise .last .0 in
+    let to = a .from + a .width in
+    let fits : to + a .width ≤ length u = omega (arith, raise .raise .kept .0, copy .copy .kept .0, start .pre .0) in
+    let long = part-long u to (a .width) fits in
+    next-made (a .cells .now) (copy .copy .last .0) u (a .from) (a .width) (a .w) (a .v) (reach .before .lesser .result) (reach .reach .result) (reach .reach .ensures .0) (reach .reach .ensures .1)
+    (copy .copy .ensures) (raise .raise .ensures) (parts .last .0) _ (a .limit) (start .pre .1 .0 .0) fits (parts .kept .0 ∙ long) (reach .before .lesser .ensures) (rw long at (parts .ensures))
+
+pub next-row-spec : {M : Type 1} → statement M
+next-row-spec =
+    tie.close
+    (tie.spec
+    add-to
+    sub-lesser
+    cast-lesser
+    div-lesser
+    lesser-requires
+    reach-requires
+    copy-requires
+    raise-requires
+    add-add-parts
+    mul-add-parts
+    sub-add-parts
+    part-add-parts-start
+    part-add-parts-end
+    add-parts-requires
+    same-length
+    returns)

@@ -1,0 +1,110 @@
+use mathlib.Core.Path.{_≡_, refl, ap, _∙_}
+use Prim.Native.Nat.{ℕ, _+_, _-_, _≤_, _<_, max, min}
+use native.Mathlib.Omega.{arith}
+use lib.ListN.{length, length-set}
+use borrow.Author.Needs.{needs}
+use Rattle.meaning.specs.Lists.{at}
+use Rattle.knapsack.specs.Rows.{Stored}
+use Rattle.knapsack.proofs.Stores.{stored-none, stored-up}
+use Rattle.knapsack.proofs.raise.Statement.{statement}
+use Rattle.knapsack.proofs.raise.Tie as tie
+
+abbrev Inv-loop : tie.InvT-loop
+Inv-loop cells₀ from to width w v c₀ cells c = (w ≤ c) × (c ≤ width) × (length cells ≡ length cells₀) × Stored cells₀ cells to w c (λ k. max (at cells₀ (from + k)) (at cells₀ (from + (k - w)) + v))
+
+abbrev μ-loop : tie.MeasureT-loop
+μ-loop cells₀ from to width w v c₀ cells c = width - c
+
+loop-holds : tie.Need-loop-holds Inv-loop μ-loop
+loop-holds c = search needs
+
+add-without : tie.Need-add-without Inv-loop μ-loop
+add-without c = search needs
+
+mul-without : tie.Need-mul-without Inv-loop μ-loop
+mul-without c = search needs
+
+slice-read-without : tie.Need-slice-read-without Inv-loop μ-loop
+slice-read-without c = search needs
+
+add-with : tie.Need-add-with Inv-loop μ-loop
+add-with c = search needs
+
+sub-with : tie.Need-sub-with Inv-loop μ-loop
+sub-with c = search needs
+
+mul-with : tie.Need-mul-with Inv-loop μ-loop
+mul-with c = search needs
+
+slice-read-with : tie.Need-slice-read-with Inv-loop μ-loop
+slice-read-with c = search needs
+
+add-with-2 : tie.Need-add-with-2 Inv-loop μ-loop
+add-with-2 c = 
+    let start = c .before .before .before .before .before in
+    let a = start .args in
+    let l = c .before .before .before .loop in
+    let less : a .from + l .c - a .w ≡ a .from + (l .c - a .w) = omega arith in
+    omega (arith, ap (at (l .cells)) less, l .inv .3 .before (a .from + (l .c - a .w)) (omega arith), start .pre .1 (l .c - a .w) (omega arith))
+
+greater-requires : tie.Need-greater-requires Inv-loop μ-loop
+greater-requires c κs = search needs
+
+add-cells : tie.Need-add-cells Inv-loop μ-loop
+add-cells c = search needs
+
+mul-cells : tie.Need-mul-cells Inv-loop μ-loop
+mul-cells c = search needs
+
+slice-write-cells : tie.Need-slice-write-cells Inv-loop μ-loop
+slice-write-cells c = search needs
+
+add-c : tie.Need-add-c Inv-loop μ-loop
+add-c c = search needs
+
+loop-less : tie.Need-loop-less Inv-loop μ-loop
+loop-less c = search needs
+
+loop-again : tie.Need-loop-again Inv-loop μ-loop
+loop-again c = 
+    let a = c .before .before .before .before .before .before .args in
+    let l = c .before .before .before .before .loop in
+    let kept = l .inv .3 .before in
+    let less : a .from + l .c - a .w ≡ a .from + (l .c - a .w) = omega arith in (
+      omega arith,
+      omega arith,
+      simp length-set (l .inv .2),
+      stored-up (a .cells .now) (a .to) (a .w) (l .c) (λ k. max (at (a .cells .now) (a .from + k)) (at (a .cells .now) (a .from + (k - a .w)) + a .v)) (l .cells) (a .to + l .c) (c .greater .result) (omega arith) (l .inv .3) (omega arith) refl
+          (c .greater .ensures ∙ rw (less, kept (a .from + l .c) (omega arith), kept (a .from + (l .c - a .w)) (omega arith))),
+    )
+
+same-length : tie.Need-same-length Inv-loop μ-loop
+same-length c = c .before .loop .inv .2
+
+returns : tie.Need-returns Inv-loop μ-loop
+returns c = let d = c .before .loop .inv .3 in record { cells = λ k l m. d .cells k l (omega arith); before = d .before }
+
+pub raise-spec : {M : Type 1} → statement M
+raise-spec =
+    tie.close
+    (tie.spec
+    Inv-loop
+    μ-loop
+    loop-holds
+    add-without
+    mul-without
+    slice-read-without
+    add-with
+    sub-with
+    mul-with
+    slice-read-with
+    add-with-2
+    greater-requires
+    add-cells
+    mul-cells
+    slice-write-cells
+    add-c
+    loop-less
+    loop-again
+    same-length
+    returns)

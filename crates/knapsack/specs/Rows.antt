@@ -1,0 +1,58 @@
+-- Cells alone: what a label of weight w and value v makes of a row f of values by budget.
+-- Assumes nothing.
+use mathlib.Core.Path.{_≡_}
+use Prim.Native.Nat.{ℕ, _+_, _-_, _*_, _≤_, _<_, max, min}
+use mathlib.Core.List.{List}
+use Rattle.meaning.specs.Lists.{at}
+
+-- at budget c, x of the label over the row for what they leave are worth b
+pub record Worth (f : ℕ → ℕ) (w v c x b : ℕ) : Type 0 where
+  pub left : ℕ
+  pub spent : left + w * x ≡ c
+  pub worth : b ≡ f left + v * x
+
+-- some count is worth b
+pub record SomeCount (f : ℕ → ℕ) (w v c b : ℕ) : Type 0 where
+  pub count : ℕ
+  pub made : Worth f w v c count b
+
+-- b is the greatest worth over the counts that may be picked
+pub record Topped (May : ℕ → Type 0) (f : ℕ → ℕ) (w v c b : ℕ) : Type 0 where
+  pub count : ℕ
+  pub may : May count
+  pub made : Worth f w v c count b
+  pub above : (x y : ℕ) → May x → Worth f w v c x y → y ≤ b
+
+-- g is such a row: each of its cells is topped over f, for budgets below `width`
+unfoldable pub ToppedRow : (ℕ → Type 0) → (ℕ → ℕ) → ℕ → ℕ → ℕ → (ℕ → ℕ) → Type 0
+ToppedRow May f w v width g = (c : ℕ) → c < width → Topped May f w v c (g c)
+
+-- x is the least count that is worth b
+pub record Least (f : ℕ → ℕ) (w v c b x : ℕ) : Type 0 where
+  pub made : Worth f w v c x b
+  pub fewer : (y : ℕ) → y < x → ¬ Worth f w v c y b
+
+-- g is f with the label added to `less` wherever that is more, for budgets below `width`.
+-- Where `less` is f, the label is added once; where it is g, as often as it may be
+pub record Raised (f less g : ℕ → ℕ) (w v width : ℕ) : Type 0 where
+  pub short : (c : ℕ) → c < width → c < w → g c ≡ f c
+  pub long : (c : ℕ) → c < width → w ≤ c → g c ≡ max (f c) (less (c - w) + v)
+
+-- t is s with the places to + lo, .. to + hi - 1 written by a rule; what stands before them is kept
+pub record Stored (s t : List ℕ) (to lo hi : ℕ) (rule : ℕ → ℕ) : Type 0 where
+  pub cells : (c : ℕ) → lo ≤ c → c < hi → at t (to + c) ≡ rule c
+  pub before : (k : ℕ) → k < to + lo → at t k ≡ at s k
+
+-- over whatever row s holds up to one of the label (or none, where none may be picked), t holds up to `most`
+unfoldable pub Repeated : List ℕ → List ℕ → ℕ → ℕ → ℕ → ℕ → Type 0
+Repeated s t w v width most =
+    (f : ℕ → ℕ) → ToppedRow (λ x. x ≤ min 1 most) f w v width (at s) → ToppedRow (λ x. x ≤ most) f w v width (at t)
+
+-- t is s with the row after the one at `from` made of it and up to `limit` of the label; what stands before is kept
+pub record NextRow (s t : List ℕ) (from width w v limit : ℕ) : Type 0 where
+  pub made : ToppedRow (λ x. x ≤ limit) (λ c. at s (from + c)) w v width (λ c. at t (from + width + c))
+  pub before : (k : ℕ) → k < from + width → at t k ≡ at s k
+
+-- no cell is more than the greatest value for each unit of its budget, so that a label more still fits 32 bits
+unfoldable pub Low : (ℕ → ℕ) → ℕ → Type 0
+Low f width = (c : ℕ) → c < width → f c ≤ 65_535 * c

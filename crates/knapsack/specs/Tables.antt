@@ -1,0 +1,37 @@
+-- Cells alone: the tables as they are filled, label by label.
+-- Assumes nothing.
+use mathlib.Core.Path.{_≡_}
+use Prim.Native.Nat.{ℕ, suc, _+_, _*_, _≤_, _<_}
+use mathlib.Core.List.{List}
+use lib.Dec.{eqb}
+use lib.ListN.{length}
+use Rattle.meaning.specs.Lists.{at, if}
+use Rattle.knapsack.specs.Rows.{ToppedRow, Raised}
+
+-- what the lists and the width of a row keep in kinds 1 to 3
+pub record Bounded (width : ℕ) (weights values : List ℕ) : Type 0 where
+  pub wide : 0 < width
+  pub narrow : width ≤ 65_536
+  pub few : length weights ≤ 1_024
+  pub valued : length values ≡ length weights
+  pub heavy : (i : ℕ) → i < length weights → 1 ≤ at weights i
+  pub cheap : (i : ℕ) → i < length weights → at values i ≤ 65_535
+
+-- how often label i may be picked: once in kind 1, copies[i] times in kind 2
+unfoldable pub limitOf : ℕ → List ℕ → ℕ → ℕ
+limitOf kind copies i = if (eqb kind 1) 1 (at copies i)
+
+-- the row of the first i labels, in a table with rows of a width
+abbrev pub rowOf : List ℕ → ℕ → ℕ → ℕ → ℕ
+rowOf cells width i c = at cells (i * width + c)
+
+-- kinds 1 and 2: the rows up to that of the first i labels. The first is 0, and each other is made of the one before it and its label
+pub record Filled (weights values : List ℕ) (limit : ℕ → ℕ) (width i : ℕ) (cells : List ℕ) : Type 0 where
+  pub first : (c : ℕ) → c < width → rowOf cells width 0 c ≡ 0
+  pub next : (m : ℕ) → m < i → ToppedRow (λ x. x ≤ limit m) (rowOf cells width m) (at weights m) (at values m) width (rowOf cells width (suc m))
+
+-- kind 3: the one row after the first i labels, each added as often as it may be
+pub data Climbed (weights values : List ℕ) (width : ℕ) : ℕ → List ℕ → Type 0 where
+  level : {row : List ℕ} → ((c : ℕ) → c < width → at row c ≡ 0) → Climbed weights values width 0 row
+  climb : {i : ℕ} {row next : List ℕ} → Climbed weights values width i row
+      → Raised (at row) (at next) (at next) (at weights i) (at values i) width → Climbed weights values width (suc i) next
