@@ -6,6 +6,7 @@ use native.Mathlib.Nat.{mul-add, mul-zero, mul-comm, mul-le-mul-left, mul-le-mul
 use native.Mathlib.Omega.{arith}
 use Rattle.meaning.specs.Lists.{at}
 use Rattle.meaning.specs.Job.{Job, Sort}
+use Rattle.meaning.specs.Refusals.{mostValue}
 use Rattle.meaning.specs.Knapsacks.{MayPick, BestValue}
 use Rattle.meaning.proofs.Steps.{best-step}
 use Rattle.knapsack.specs.Rows.{Worth, Topped, ToppedRow, Raised, Low}
@@ -174,13 +175,13 @@ module _ (f g : ℕ → ℕ) (w v width : ℕ) (pos : 1 ≤ w) (up : Raised f g 
 -- ---- what a row comes to
 
 -- over a low row, whatever may be picked
-pub topped-low : (May : ℕ → Type 0) (f g : ℕ → ℕ) (w v width : ℕ) → 1 ≤ w → v ≤ 65_535 → Low f width → ToppedRow May f w v width g → Low g width
-unfolding Low ToppedRow
+pub topped-low : (May : ℕ → Type 0) (f g : ℕ → ℕ) (w v width : ℕ) → 1 ≤ w → v ≤ mostValue → Low f width → ToppedRow May f w v width g → Low g width
+unfolding Low ToppedRow mostValue
 topped-low May f g w v width pos cheap low tops c h =
     let d = tops c h .made in
     let x = tops c h .count in
     let heavy : 1 * x ≤ w * x = mul-le-mul-right x pos in
-    let worth : v * x ≤ 65_535 * x = mul-le-mul-right x cheap in
+    let worth : v * x ≤ mostValue * x = mul-le-mul-right x cheap in
     omega (arith, d .spent, d .worth, low (d .left) (omega (arith, d .spent)), one-mul x)
 
 -- the row of the first i labels with label i is the row of the first i + 1
@@ -199,17 +200,18 @@ topped-best k j i width f g rows tops c h =
 -- a part of a label's copies: it is lighter than the row is wide, and low itself
 pub record PartFits (w v part width : ℕ) : Type 0 where
   pub light : w * part < width
-  pub cheap : v * part ≤ 65_535 * (w * part)
+  pub cheap : v * part ≤ mostValue * (w * part)
 
-pub part-fits : (w v part most width : ℕ) → 1 ≤ w → v ≤ 65_535 → part ≤ most → w * most < width → PartFits w v part width
+pub part-fits : (w v part most width : ℕ) → 1 ≤ w → v ≤ mostValue → part ≤ most → w * most < width → PartFits w v part width
+unfolding mostValue
 part-fits w v part most width pos cheap few light =
     let heavy : 1 * part ≤ w * part = mul-le-mul-right part pos in
-    let worth : v * part ≤ 65_535 * part = mul-le-mul-right part cheap in
+    let worth : v * part ≤ mostValue * part = mul-le-mul-right part cheap in
     record { light = omega (arith, mul-le-mul-left w few); cheap = omega (arith, one-mul part) }
 
 -- a low row stays low where something low is added
-pub raised-low : (f g : ℕ → ℕ) (w v width : ℕ) → v ≤ 65_535 * w → Low f width → Raised f f g w v width → Low g width
-unfolding Low
+pub raised-low : (f g : ℕ → ℕ) (w v width : ℕ) → v ≤ mostValue * w → Low f width → Raised f f g w v width → Low g width
+unfolding Low mostValue
 raised-low f g w v width cheap low up c h =
     by c w
     (λ short. omega (arith, up .short c h short, low c h))

@@ -14,6 +14,7 @@ use lib.Seq.{append-snoc, set-set, set-getD, ext-getD}
 use Rattle.meaning.specs.Lists.{at, total}
 use Rattle.meaning.specs.Job.{Job, labels, free}
 use Rattle.meaning.specs.Orders.{first-most, Earlier}
+use Rattle.meaning.specs.Refusals.{mostValue}
 use Rattle.meaning.specs.Knapsacks.{MayPick, Fits, Best, BestValue, BestPicks, orderOf}
 use Rattle.meaning.proofs.Totals.{one-more, one-fewer, length-more, more-total, fewer-total, at-more, at-more-other, total-none, total-with}
 use Rattle.meaning.proofs.Steps.{best-none, none-better}
@@ -39,7 +40,7 @@ climbed-best j width (suc i) next pos (climb {row = row} d up) c h =
 
 -- and low
 pub climbed-low : (ws vs : List ℕ) (width i : ℕ) (row : List ℕ) → Bounded width ws vs → i ≤ length ws → Climbed ws vs width i row → Low (at row) width
-unfolding Low
+unfolding Low mostValue
 climbed-low ws vs width zero row b h (level none) c l = omega (arith, none c l)
 climbed-low ws vs width (suc i) next b h (climb {row = row} d up) c l =
     topped-low (λ x. Unit {0}) (at row) (at next) (at ws i) (at vs i) width (b .heavy i h) (b .cheap i h) (climbed-low ws vs width i row b (omega arith) d)
@@ -60,6 +61,12 @@ leads-false row w v c e light on =
     let both : true ≡ false = rw (le-leb w c light, eq-eqb (row (c - w) + v) (row c) on) at e in
     let z : _≡_ {A = ℕ} 0 1 = cc in
     omega arith
+
+-- no more is left than there was
+pub along-within : {row : ℕ → ℕ} {ws vs : List ℕ} {budget i c x : ℕ} {found : List ℕ} → WayAlong row ws vs budget i c x found → c ≤ budget
+along-within start = omega arith
+along-within (taken way inside lead) = omega (arith, along-within way)
+along-within (passed way inside lead) = along-within way
 
 -- `row` holds the best values up to the budget
 module _ (j : Job) (row : ℕ → ℕ) (budget : ℕ) (rows : (c : ℕ) → c ≤ budget → BestValue free j (labels j) c (row c)) where
@@ -141,7 +148,6 @@ module _ (j : Job) (row : ℕ → ℕ) (budget : ℕ) (rows : (c : ℕ) → c �
 
   -- what is known where the way has come to label i with budget c left, x of it taken
   record Come (i c x : ℕ) (found : List ℕ) : Type 0 where
-    within : c ≤ budget
     here : i ≤ labels j
     counts : length found ≡ i
     unused : Unused i c
@@ -151,7 +157,6 @@ module _ (j : Job) (row : ℕ → ℕ) (budget : ℕ) (rows : (c : ℕ) → c �
   come : {i c x : ℕ} {found : List ℕ} → WayAlong row (j .weights) (j .values) budget i c x found → Come i c x found
   unfolding given Unused one-more labels BestPicks
   come start = record {
-    within = omega arith;
     here = omega arith;
     counts = refl;
     unused = λ q b m h. absurd (omega arith);
@@ -162,21 +167,19 @@ module _ (j : Job) (row : ℕ → ℕ) (budget : ℕ) (rows : (c : ℕ) → c �
       let d = come way in
       let (light, on) = leads-true row (at (j .weights) i) (at (j .values) i) c lead in
       record {
-        within = omega (arith, d .within);
         here = d .here;
         counts = d .counts;
-        unused = more-unused i c inside (d .within) light on (d .unused);
+        unused = more-unused i c inside (along-within way) light on (d .unused);
         on = λ q t.
-            let more = more-chosen i c inside (d .within) light on (d .unused) q t in
+            let more = more-chosen i c inside (along-within way) light on (d .unused) q t in
             let count : at (one-more q i) i + x ≡ at q i + suc x = omega (arith, at-more q i (omega (arith, long q (t .one-of)))) in
             subst (λ (l : List ℕ). ChosenAt budget (found ++ drop i l)) (set-set q i (suc (at q i)) (at (one-more q i) i + x) ∙ ap (set q i) count) (d .on (one-more q i) more);
         spent = omega (arith, d .spent, mul-suc (at (j .weights) i) x);
       }
   come (passed {i} {c} {x} {found} way inside lead) =
       let d = come way in
-      let unused = pass-unused i c inside (d .within) (leads-false row (at (j .weights) i) (at (j .values) i) c lead) (d .unused) in
+      let unused = pass-unused i c inside (along-within way) (leads-false row (at (j .weights) i) (at (j .values) i) c lead) (d .unused) in
       record {
-        within = d .within;
         here = inside;
         counts = length-append found (x ∷ []) ∙ omega (arith, d .counts);
         unused = unused;
@@ -198,7 +201,7 @@ module _ (j : Job) (row : ℕ → ℕ) (budget : ℕ) (rows : (c : ℕ) → c �
     pub along-picks : BestPicks free j (labels j) budget found
     unfolding given
     along-picks =
-        let r = rows left (come way .within) in
+        let r = rows left (along-within way) in
         let q = r .picks in
         let none-past : drop (labels j) (set q (labels j) (at q (labels j) + 0)) ≡ [] = drop-of-length-le (set q (labels j) (at q (labels j) + 0)) {i = labels j} (omega (arith, length-set q (labels j) (at q (labels j) + 0), long q (r .best))) in
         rw (none-past, append-nil) at (come way .on q (last-chosen q (r .best)))

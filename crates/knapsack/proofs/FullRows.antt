@@ -11,11 +11,12 @@ use lib.Seq.{append-snoc}
 use Rattle.meaning.specs.Lists.{at, total}
 use Rattle.meaning.specs.Job.{Job, Sort, labels}
 use Rattle.meaning.specs.Orders.{last-least}
+use Rattle.meaning.specs.Refusals.{mostValue}
 use Rattle.meaning.specs.Knapsacks.{MayPick, BestValue, BestPicks, orderOf}
 use Rattle.meaning.proofs.Totals.{total-with}
 use Rattle.meaning.proofs.OneOfEach.{best-value-unique}
-use Rattle.meaning.proofs.Steps.{best-none, best-by, none-better}
-use Rattle.meaning.proofs.Trace.{trace-step}
+use Rattle.meaning.proofs.Steps.{best-none}
+use Rattle.meaning.proofs.Trace.{trace-step, picks-worth}
 use Rattle.knapsack.specs.Rows.{Worth, SomeCount, Topped, ToppedRow, Least, Stored, NextRow, Low}
 use Rattle.knapsack.specs.Tables.{Bounded, rowOf, Filled}
 use Rattle.knapsack.specs.Ways.{WayBack, begin, back}
@@ -65,7 +66,7 @@ module _ (ws vs : List ℕ) (limit : ℕ → ℕ) (width : ℕ) where
 
   -- its rows are low
   pub filled-low : Bounded width ws vs → (n : ℕ) (t : List ℕ) → n ≤ length ws → Filled ws vs limit width n t → (i : ℕ) → i ≤ n → Low (rowOf t width i) width
-  unfolding Low
+  unfolding Low mostValue
   filled-low b n t few d zero h c l = omega (arith, d .first c l)
   filled-low b n t few d (suc i) h c l =
       topped-low (λ x. x ≤ limit i) (rowOf t width i) (rowOf t width (suc i)) (at ws i) (at vs i) width (b .heavy i (omega arith)) (b .cheap i (omega arith))
@@ -81,6 +82,11 @@ way-more row ws vs n budget i c x picks pos inside way l =
     let here : i ≡ suc (i - 1) = omega arith in
     rw (stored-first picks (i - 1) x (omega arith))
     (back {rest = c - at ws (i - 1) * x} (subst (λ (m : ℕ). WayBack row ws vs n budget m c (drop m picks)) here way) l (omega (arith, l .made .spent)))
+
+-- it has come to a row of the table, and no more is left than there was
+pub way-within : {row : ℕ → ℕ → ℕ} {ws vs : List ℕ} {n budget i c : ℕ} {found : List ℕ} → WayBack row ws vs n budget i c found → (i ≤ n) × (c ≤ budget)
+way-within begin = (omega arith, omega arith)
+way-within (back way l e) = let (a, b) = way-within way in (omega arith, omega arith)
 
 -- ---- what it holds
 
@@ -115,10 +121,6 @@ module _ (k : Sort) (j : Job) (limit : ℕ → ℕ) (width : ℕ) (cells : List 
     abbrev Way : ℕ → ℕ → List ℕ → Type 0
     Way = WayBack row (j .weights) (j .values) (labels j) budget
 
-    way-within : {i c : ℕ} {found : List ℕ} → Way i c found → (i ≤ labels j) × (c ≤ budget)
-    way-within begin = (omega arith, omega arith)
-    way-within (back way l e) = let (a, b) = way-within way in (omega arith, omega arith)
-
     -- one label: the least count that its row leaves is the chosen one
     one-back : (i c x rest : ℕ) (p : List ℕ) → i < labels j → c ≤ budget
         → Least (row i) (at (j .weights) i) (at (j .values) i) c (row (suc i) c) x → rest + at (j .weights) i * x ≡ c
@@ -131,11 +133,10 @@ module _ (k : Sort) (j : Job) (limit : ℕ → ℕ) (width : ℕ) (cells : List 
         let here : c - w * x ≡ rest = omega arith in
         let left : l .made .left ≡ rest = omega (arith, l .made .spent) in
         let no-more : x ≤ t .count = by (t .count) x (λ u. absurd (l .fewer (t .count) u (t .made))) (λ u. u) in
-        let worth : total (j .values) p ≡ row i rest = best-value-unique
-        (best-by p (best .one-of .fits) refl (best .one-of .greatest)) (row-best i rest (omega arith) (omega arith)) in
+        let worth : row i rest ≡ total (j .values) p = picks-worth k j i rest p best (row-best i rest (omega arith) (omega arith)) in
         trace-step k least j i c (row (suc i) c) x p (row-best (suc i) c h (omega arith))
         (may i x h (omega (arith, few i (t .count) h (t .may)))) (omega arith) (rw here best)
-        (l .made .worth ∙ rw (left, worth))
+        (l .made .worth ∙ rw (left, ← worth))
         (λ y u may-y light r br.
         let is : r ≡ row i (c - w * y) = best-value-unique br (row-best i (c - w * y) (omega arith) (omega arith)) in
         let made : Worth (row i) w v c y (row i (c - w * y) + v * y) = record { left = c - w * y; spent = omega arith; worth = refl } in

@@ -6,3 +6,4 @@ pub mod NextRow
 pub mod LeastCounts
 pub mod FullRows
 pub mod FreeRow
+pub mod Doors

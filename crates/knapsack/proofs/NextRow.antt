@@ -7,6 +7,7 @@ use native.Mathlib.Omega.{arith}
 use mathlib.Core.List.{List, _++_}
 use lib.ListN.{length, take}
 use Rattle.meaning.specs.Lists.{at}
+use Rattle.meaning.specs.Refusals.{mostValue}
 use Rattle.knapsack.specs.Rows.{ToppedRow, Raised, Stored, Repeated, NextRow, Low}
 use Rattle.knapsack.proofs.Stores.{by}
 use Rattle.knapsack.proofs.Counts.{topped-none, topped-part, topped-limit, topped-low}
@@ -60,7 +61,7 @@ module _ (s t u : List ℕ) (from width w v most start : ℕ)
       (λ c h. sym (part-at u (from + width) width fits c h)) first-one
 
   -- which leaves the row low
-  pub part-low : 1 ≤ w → v ≤ 65_535 → from + width + width ≤ length u → Low (λ c. at s (from + c)) width → Low (at (partOf u (from + width) width)) width
+  pub part-low : 1 ≤ w → v ≤ mostValue → from + width + width ≤ length u → Low (λ c. at s (from + c)) width → Low (at (partOf u (from + width) width)) width
   part-low pos cheap fits low =
       topped-low (λ x. x ≤ min 1 most) (λ c. at s (from + c)) (at (partOf u (from + width) width)) w v width pos cheap low (first-part fits)
 

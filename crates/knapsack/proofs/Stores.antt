@@ -8,6 +8,7 @@ use mathlib.Core.List.{List, _∷_}
 use lib.ListN.{length, set, drop}
 use lib.Seq.{getD-set-same, getD-set-other, drop-cons, drop-set-lt, lt-length-set}
 use Rattle.meaning.specs.Lists.{at}
+use Rattle.meaning.specs.Refusals.{mostValue}
 use Rattle.knapsack.specs.Rows.{Raised, Stored, Low}
 
 -- by cases, a below b or not; the numbers come first, so that what each case is handed is known
@@ -83,12 +84,13 @@ module _ (s : List ℕ) (w v : ℕ) where
       }
 
 -- a cell that is low stays so with a label more
-pub low-more : (x y c w v : ℕ) → x ≤ 65_535 * c → w ≤ c → y ≤ 65_535 * (c - w) → v ≤ 65_535 * w → max x (y + v) ≤ 65_535 * c
+pub low-more : (x y c w v : ℕ) → x ≤ mostValue * c → w ≤ c → y ≤ mostValue * (c - w) → v ≤ mostValue * w → max x (y + v) ≤ mostValue * c
+unfolding mostValue
 low-more x y c w v hx h hy hv = omega arith
 
 -- a low row with one cell stored that is low
-pub low-set : (t : List ℕ) (c x width : ℕ) → c < length t → Low (at t) width → x ≤ 65_535 * c → Low (at (set t c x)) width
-unfolding Low
+pub low-set : (t : List ℕ) (c x width : ℕ) → c < length t → Low (at t) width → x ≤ mostValue * c → Low (at (set t c x)) width
+unfolding Low mostValue
 low-set t c x width inside low h k l =
     by k c (λ b. omega (arith, at-other t c x k (omega arith), low k l))
     (λ b. by c k

@@ -10,11 +10,15 @@ use Rattle.meaning.specs.Lent.{lentOf, roomFor}
 use Rattle.meaning.specs.Refusals.{kindRefusal}
 use Rattle.meaning.specs.Solved.{Solved}
 
--- a job of kinds 1 to 3 that no refusal meets, with these cells and picks lent. It needs no words
-pub record Accepted (j : Job) (cells picks : List ℕ) : Type 0 where
+-- a job of one of the three knapsacks that no refusal meets, with these cells and picks lent. It needs no words
+pub record Accepted (k : Sort) (j : Job) (cells picks : List ℕ) : Type 0 where
+  pub of-kind : kindOf (j .kind-number) ≡ some (packing k)
+  pub unrefused : kindRefusal (roomFor (packing k) j) (packing k) j (lentOf cells [] picks) ≡ 0
+
+-- of any of the three
+pub record AcceptedAny (j : Job) (cells picks : List ℕ) : Type 0 where
   pub sort : Sort
-  pub of-kind : kindOf (j .kind-number) ≡ some (packing sort)
-  pub unrefused : kindRefusal (roomFor (packing sort) j) (packing sort) j (lentOf cells [] picks) ≡ 0
+  pub accepted : Accepted sort j cells picks
 
 -- the planner's promise, with cells and picks before and after; the words, whatever they are, stay
 unfoldable pub Packs : Job → List ℕ → List ℕ → Answer → List ℕ → List ℕ → Type 0

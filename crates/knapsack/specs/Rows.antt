@@ -4,6 +4,7 @@ use mathlib.Core.Path.{_≡_}
 use Prim.Native.Nat.{ℕ, _+_, _-_, _*_, _≤_, _<_, max, min}
 use mathlib.Core.List.{List}
 use Rattle.meaning.specs.Lists.{at}
+use Rattle.meaning.specs.Refusals.{mostValue}
 
 -- at budget c, x of the label over the row for what they leave are worth b
 pub record Worth (f : ℕ → ℕ) (w v c x b : ℕ) : Type 0 where
@@ -55,4 +56,4 @@ pub record NextRow (s t : List ℕ) (from width w v limit : ℕ) : Type 0 where
 
 -- no cell is more than the greatest value for each unit of its budget, so that a label more still fits 32 bits
 unfoldable pub Low : (ℕ → ℕ) → ℕ → Type 0
-Low f width = (c : ℕ) → c < width → f c ≤ 65_535 * c
+Low f width = (c : ℕ) → c < width → f c ≤ mostValue * c

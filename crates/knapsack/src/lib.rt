@@ -6,12 +6,13 @@ ghost use mathlib.Core.List.{List, [], _∷_};
 ghost use Prim.Native.Nat.{ℕ, suc, _+_, _-_, _*_, _≤_, _<_, max, min};
 ghost use lib.ListN.{length, drop};
 ghost use Rattle.meaning.specs.Lists.{at};
-ghost use Rattle.meaning.specs.Job.{jobOf};
+ghost use Rattle.meaning.specs.Job.{jobOf, free};
+ghost use Rattle.meaning.specs.Refusals.{mostBudget, mostValue};
 ghost use Rattle.numbers.specs.Handed.{handed};
 ghost use Rattle.knapsack.specs.Rows.{SomeCount, Least, Raised, Stored, Low, Repeated, NextRow};
 ghost use Rattle.knapsack.specs.Tables.{Bounded, limitOf, rowOf, Filled, Climbed};
 ghost use Rattle.knapsack.specs.Ways.{leadsOn, WayBack, WayAlong};
-ghost use Rattle.knapsack.specs.Doors.{Accepted, Packs};
+ghost use Rattle.knapsack.specs.Doors.{Accepted, AcceptedAny, Packs};
 
 // ---- rows
 
@@ -86,7 +87,7 @@ fn raise_down(row: &mut [u32], w: u32, v: u32)
 
 // Any number of a label of weight w and value v in a row, in place: from the least budget up, so that it is added again and again.
 fn raise_up(row: &mut [u32], w: u32, v: u32)
-    requires { ⌜ (1 ≤ w) × ((v ≤ 65_535) × (length (now row) ≤ 65_536)) ⌝ }
+    requires { ⌜ (1 ≤ w) × ((v ≤ mostValue) × (length (now row) ≤ mostBudget + 1)) ⌝ }
     requires { ⌜ Low (at (now row)) (length (now row)) ⌝ }
     ensures { λ _. ⌜ Raised (at (now (row .entry))) (at (now (row .exit))) (at (now (row .exit))) w v (length (now (row .entry))) ⌝ }
 {
@@ -115,7 +116,7 @@ fn reach(width: usize, w: u32, most: u32) -> usize
 // A row that holds up to one of a label is made to hold up to `most` of it, in parts as large as keep every count within reach: 1, 2, 4
 // and so on, and what is left.
 fn add_parts(row: &mut [u32], w: u32, v: u32, most: u32)
-    requires { ⌜ (1 ≤ w) × ((v ≤ 65_535) × ((length (now row) ≤ 65_536) × (w * most < length (now row)))) ⌝ }
+    requires { ⌜ (1 ≤ w) × ((v ≤ mostValue) × ((length (now row) ≤ mostBudget + 1) × (w * most < length (now row)))) ⌝ }
     requires { ⌜ Low (at (now row)) (length (now row)) ⌝ }
     ensures { λ _. ⌜ Repeated (now (row .entry)) (now (row .exit)) w v (length (now (row .entry))) most ⌝ }
 {
@@ -129,8 +130,8 @@ fn add_parts(row: &mut [u32], w: u32, v: u32, most: u32)
 
 // The row after the one at `from`, with up to `limit` of a label.
 fn next_row(cells: &mut [u32], from: usize, width: usize, w: u32, v: u32, limit: u32)
-    requires { ⌜ (0 < width) × ((width ≤ 65_536) × (from + width + width ≤ length (now cells))) ⌝ }
-    requires { ⌜ (1 ≤ w) × (v ≤ 65_535) ⌝ }
+    requires { ⌜ (0 < width) × ((width ≤ mostBudget + 1) × (from + width + width ≤ length (now cells))) ⌝ }
+    requires { ⌜ (1 ≤ w) × (v ≤ mostValue) ⌝ }
     requires { ⌜ Low (λ c. at (now cells) (from + c)) width ⌝ }
     ensures { λ _. ⌜ NextRow (now (cells .entry)) (now (cells .exit)) from width w v limit ⌝ }
 {
@@ -186,7 +187,7 @@ fn fill(
 
 // The least count of a label of weight w and value v that is worth `goal` at budget c, over the row at `from`.
 fn least_count(cells: &[u32], from: usize, c: usize, w: u32, v: u32, goal: u32) -> u32
-    requires { ⌜ (1 ≤ w) × ((c < 65_536) × (from + c < length (now cells))) ⌝ }
+    requires { ⌜ (1 ≤ w) × ((c ≤ mostBudget) × (from + c < length (now cells))) ⌝ }
     requires { ⌜ SomeCount (λ d. at (now cells) (from + d)) w v c goal ⌝ }
     ensures { λ r. ⌜ Least (λ d. at (now (cells .entry)) (from + d)) w v c goal r ⌝ }
 {
@@ -252,7 +253,7 @@ fn fill_row(weights: &[u32], wbytes: &[u8], values: &[u32], vbytes: &[u8], row: 
 
 // Whether one of a label of weight w and value v leads on from budget c.
 fn leads(row: &[u32], w: u32, v: u32, c: usize) -> bool
-    requires { ⌜ (1 ≤ w) × ((v ≤ 65_535) × ((c < length (now row)) × (length (now row) ≤ 65_536))) ⌝ }
+    requires { ⌜ (1 ≤ w) × ((v ≤ mostValue) × ((c < length (now row)) × (length (now row) ≤ mostBudget + 1))) ⌝ }
     requires { ⌜ Low (at (now row)) (length (now row)) ⌝ }
     ensures { λ r. ⌜ r ≡ leadsOn (at (now (row .entry))) w v c ⌝ }
 {
@@ -292,4 +293,115 @@ fn way_along(
         }
     }
     c
+}
+
+// ---- the doors
+
+// Kinds 1 and 2: the full table, and the way back through it.
+fn full_table(
+    kind: u32,
+    budget: u32,
+    weights: &[u32],
+    wbytes: &[u8],
+    values: &[u32],
+    vbytes: &[u8],
+    copies: &[u32],
+    cbytes: &[u8],
+    cells: &mut [u32],
+    picks: &mut [u32],
+) -> Answer
+    requires { ⌜ AcceptedAny (jobOf kind (budget ∷ []) (handed (now weights) (now wbytes)) (handed (now values) (now vbytes)) (handed (now copies) (now cbytes))) (now cells) (now picks) ⌝ }
+    requires { ⌜ kind < 3 ⌝ }
+    ensures { λ r. ⌜ Packs (jobOf kind (budget ∷ []) (handed (now (weights .entry)) (now (wbytes .entry))) (handed (now (values .entry)) (now (vbytes .entry))) (handed (now (copies .entry)) (now (cbytes .entry)))) (now (cells .entry)) (now (picks .entry)) r (now (cells .exit)) (now (picks .exit)) ⌝ }
+{
+    let n = numbers::list_length(weights, wbytes);
+    let width = budget as usize + 1;
+    let needed = (n + 1) * width;
+    fill(
+        kind,
+        weights,
+        wbytes,
+        values,
+        vbytes,
+        copies,
+        cbytes,
+        width,
+        &mut cells[..needed],
+    );
+    let left = way_back(
+        weights,
+        wbytes,
+        values,
+        vbytes,
+        width,
+        &cells[..needed],
+        &mut picks[..n],
+    );
+    Answer::Knapsack {
+        value: cells[needed - 1],
+        weight: budget - left as u32,
+    }
+}
+
+// Kind 3: one row, and the way along the labels.
+fn one_row(
+    budget: u32,
+    weights: &[u32],
+    wbytes: &[u8],
+    values: &[u32],
+    vbytes: &[u8],
+    cells: &mut [u32],
+    picks: &mut [u32],
+) -> Answer
+    requires { ⌜ Accepted free (jobOf 3 (budget ∷ []) (handed (now weights) (now wbytes)) (handed (now values) (now vbytes)) []) (now cells) (now picks) ⌝ }
+    ensures { λ r. ⌜ Packs (jobOf 3 (budget ∷ []) (handed (now (weights .entry)) (now (wbytes .entry))) (handed (now (values .entry)) (now (vbytes .entry))) []) (now (cells .entry)) (now (picks .entry)) r (now (cells .exit)) (now (picks .exit)) ⌝ }
+{
+    let n = numbers::list_length(weights, wbytes);
+    let width = budget as usize + 1;
+    fill_row(weights, wbytes, values, vbytes, &mut cells[..width]);
+    let left = way_along(
+        weights,
+        wbytes,
+        values,
+        vbytes,
+        &cells[..width],
+        &mut picks[..n],
+    );
+    Answer::Knapsack {
+        value: cells[width - 1],
+        weight: budget - left as u32,
+    }
+}
+
+// Kinds 1 to 3: the table, the value, the weight and the picks of a job that no refusal meets.
+pub fn solve(
+    kind: u32,
+    budget: u32,
+    weights: &[u32],
+    wbytes: &[u8],
+    values: &[u32],
+    vbytes: &[u8],
+    copies: &[u32],
+    cbytes: &[u8],
+    cells: &mut [u32],
+    picks: &mut [u32],
+) -> Answer
+    requires { ⌜ AcceptedAny (jobOf kind (budget ∷ []) (handed (now weights) (now wbytes)) (handed (now values) (now vbytes)) (handed (now copies) (now cbytes))) (now cells) (now picks) ⌝ }
+    ensures { λ r. ⌜ Packs (jobOf kind (budget ∷ []) (handed (now (weights .entry)) (now (wbytes .entry))) (handed (now (values .entry)) (now (vbytes .entry))) (handed (now (copies .entry)) (now (cbytes .entry)))) (now (cells .entry)) (now (picks .entry)) r (now (cells .exit)) (now (picks .exit)) ⌝ }
+{
+    if kind == 3 {
+        return one_row(budget, weights, wbytes, values, vbytes, cells, picks);
+    }
+    full_table(
+        kind,
+        budget,
+        weights,
+        wbytes,
+        values,
+        vbytes,
+        copies,
+        cbytes,
+        cells,
+        picks,
+    )
 }

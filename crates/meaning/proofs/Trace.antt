@@ -1,6 +1,6 @@
 -- Kinds 1 and 2: the picks are read off the table from the last label to the first, each count the least that the best value leaves.
 -- Assumes nothing.
-use mathlib.Core.Path.{_≡_, sym, ap, _∙_, subst}
+use mathlib.Core.Path.{_≡_, refl, sym, ap, _∙_, subst}
 use Prim.Native.Nat.{ℕ, suc, _+_, _-_, _*_, _≤_, _<_}
 use native.Mathlib.Decide.{decLe}
 use native.Mathlib.Nat.{le-refl, le-trans, le-of-eq}
@@ -13,8 +13,8 @@ use Rattle.meaning.specs.Job.{Job, Sort}
 use Rattle.meaning.specs.Orders.{Order, last-least, Earlier, NoWorse, AgreeEarlier, Chosen}
 use Rattle.meaning.specs.Knapsacks.{MayPick, Fits, Best, BestValue, orderOf, BestPicks}
 use Rattle.meaning.proofs.Totals.{total-with, empty-of}
-use Rattle.meaning.proofs.Steps.{fits-more, fits-less, none-better, best-none}
-use Rattle.meaning.proofs.OneOfEach.{only-choice}
+use Rattle.meaning.proofs.Steps.{fits-more, fits-less, none-better, best-none, best-by}
+use Rattle.meaning.proofs.OneOfEach.{only-choice, best-value-unique}
 
 module _ (k : Sort) (least : orderOf k ≡ last-least) (j : Job) (i c : ℕ) where
   abbrev w : ℕ
@@ -85,3 +85,8 @@ picks-none k j c =
     only-choice (orderOf k) 0 (Best k j 0 c) []
     (subst (λ (p : List ℕ). Best k j 0 c p) (empty-of (best-none k j c .picks) (best-none k j c .best .fits .selection .one-each)) (best-none k j c .best))
     (λ q b. empty-of q (b .fits .selection .one-each))
+
+-- the chosen picks are worth the best value
+pub picks-worth : (k : Sort) (j : Job) (i c : ℕ) (p : List ℕ) {v : ℕ} → BestPicks k j i c p → BestValue k j i c v → v ≡ total (j .values) p
+unfolding BestPicks
+picks-worth k j i c p chosen best = best-value-unique best (best-by p (chosen .one-of .fits) refl (chosen .one-of .greatest))

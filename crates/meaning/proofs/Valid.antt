@@ -1,15 +1,15 @@
 -- What a job keeps that isn't refused; and the greatest possible value of a knapsack fits 32 bits.
 -- Assumes nothing.
 use mathlib.Core.Path.{_≡_, _∙_, refl}
-use Prim.Native.Nat.{_*_, _+_, _<_, _≤_, suc, zero-le, ℕ}
-use native.Mathlib.Nat.{le-of-eq, le-trans, mul-add, mul-le-mul, mul-le-mul-left, mul-le-mul-right, one-mul, suc-inj}
+use Prim.Native.Nat.{_*_, _+_, _<_, _≤_, suc, zero, zero-le, ℕ}
+use native.Mathlib.Nat.{le-of-eq, le-of-suc-le-suc, le-trans, not-suc-le-zero, mul-add, mul-le-mul, mul-le-mul-left, mul-le-mul-right, one-mul, suc-inj}
 use native.Mathlib.Omega.{arith}
 use mathlib.Core.Bool.{Bool, _&&_, false, not, true}
 use mathlib.Core.List.{List, [], _∷_}
 use lib.Dec.{T, eqb, leb}
 use lib.ListN.{length}
 use mir.Facts.{and-yes, eqb-yes, leb-yes}
-use Rattle.meaning.specs.Lists.{every, if, total}
+use Rattle.meaning.specs.Lists.{at, every, if, total}
 use Rattle.meaning.specs.Job.{Job, Sort, packing, labels, Kind, free, jobOf}
 use Rattle.meaning.specs.Lent.{cellCount, Lent, Room}
 use Rattle.meaning.specs.Refusals.{Rules, boundsFit, eachWithin, hasCopies, jobRefusal, knapsackRules, leastCopies, leastValue, listsFit, mostBudget, mostCopies, mostLabels, mostValue, numbersFit, positive, rulesOf, claimsFit, kindRefusal, roomFits}
@@ -62,6 +62,7 @@ pub record Valid (k : Sort) (j : Job) : Type 0 where
   pub few : labels j ≤ mostLabels
   pub small : j .budget ≤ mostBudget
   pub valued : length (j .values) ≡ labels j
+  pub copied : length (j .copies) ≡ if (hasCopies k) (labels j) 0
   pub weights : T (positive (j .weights))
   pub values : T (eachWithin (leastValue k) mostValue (j .values))
 
@@ -77,9 +78,28 @@ is-valid k j later p =
       few = leb-yes n;
       small = leb-yes c;
       valued = eqb-yes l;
+      copied = eqb-yes l′;
       weights = w;
       values = v;
     }
+
+-- what every member passes, the one at a place does
+every-at : (test : ℕ → Bool) (xs : List ℕ) (i : ℕ) → i < length xs → T (every test xs) → T (test (at xs i))
+unfolding every
+every-at test [] i h t = absurd (not-suc-le-zero h)
+every-at test (x ∷ xs) zero h t = and-yes (test x) (every test xs) t .0
+every-at test (x ∷ xs) (suc i) h t = every-at test xs i (le-of-suc-le-suc h) (and-yes (test x) (every test xs) t .1)
+
+-- the weights and values of a valid knapsack, one by one
+pub weight-rule : (k : Sort) (j : Job) → Valid k j → (i : ℕ) → i < labels j → 1 ≤ at (j .weights) i
+unfolding positive labels
+weight-rule k j ok i h = leb-yes (every-at (leb 1) (j .weights) i h (ok .weights))
+
+pub value-rule : (k : Sort) (j : Job) → Valid k j → (i : ℕ) → i < labels j → at (j .values) i ≤ mostValue
+unfolding eachWithin
+value-rule k j ok i h =
+    let within = every-at (λ x. leb (leastValue k) x && leb x mostValue) (j .values) i (omega (arith, ok .valued)) (ok .values) in
+    leb-yes (and-yes (leb (leastValue k) (at (j .values) i)) (leb (at (j .values) i) mostValue) within .1)
 
 -- with room, a knapsack that passed is not refused
 if-passed : (b : Bool) (x y : ℕ) → T b → if (not b) x y ≡ y

@@ -4,13 +4,14 @@ use native.Mathlib.Omega.{arith}
 use lib.ListN.{length}
 use borrow.Author.Needs.{needs}
 use Rattle.meaning.specs.Lists.{at}
+use Rattle.meaning.specs.Refusals.{mostValue, mostBudget}
 use Rattle.knapsack.specs.Rows.{ToppedRow, Repeated, Low}
 use Rattle.knapsack.proofs.Counts.{topped-part, PartFits, part-fits, raised-low}
 use Rattle.knapsack.proofs.add_parts.Statement.{statement}
 use Rattle.knapsack.proofs.add_parts.Tie as tie
 
 abbrev Inv-loop : tie.InvT-loop
-Inv-loop row₀ w v most m₀ row m = 
+Inv-loop row₀ w v most m₀ row m =
     (min 1 most ≤ m)
     × (m ≤ most)
     × (length row ≡ length row₀)
@@ -34,7 +35,7 @@ lesser-requires : tie.Need-lesser-requires Inv-loop μ-loop
 lesser-requires c κs = search needs
 
 loop-holds : tie.Need-loop-holds Inv-loop μ-loop
-loop-holds c = 
+loop-holds c =
     let start = c .before .before in
     let one : c .lesser .result ≡ min 1 (start .args .most) = c .lesser .ensures in
     (omega arith, omega arith, refl, start .pre .1, rw one (λ f tops. tops))
@@ -49,14 +50,16 @@ lesser-requires-2 : tie.Need-lesser-requires-2 Inv-loop μ-loop
 lesser-requires-2 c κs = search needs
 
 mul-raise-down : tie.Need-mul-raise-down Inv-loop μ-loop
+unfolding mostValue mostBudget
 mul-raise-down c = omega (arith, fits c .light, start (c .before .before .before) .pre .0)
 
 mul-raise-down-2 : tie.Need-mul-raise-down-2 Inv-loop μ-loop
+unfolding mostValue mostBudget
 mul-raise-down-2 c = omega (arith, fits c, start (c .before .before .before) .pre .0)
 
 raise-down-requires : tie.Need-raise-down-requires Inv-loop μ-loop
-unfolding Low
-raise-down-requires c κs = 
+unfolding Low mostValue mostBudget
+raise-down-requires c κs =
     λ d h.
     let l = c .before .before .before .loop in
     omega (arith, l .inv .3 d (omega (arith, l .inv .2)), fits c .cheap, l .inv .2, start (c .before .before .before) .pre .0)
@@ -69,7 +72,7 @@ loop-less c = search needs
 
 loop-again : tie.Need-loop-again Inv-loop μ-loop
 unfolding ToppedRow
-loop-again c = 
+loop-again c =
     let head = c .before .before .before .before .before .before in
     let a = start head .args in
     let l = head .loop in
@@ -89,7 +92,7 @@ same-length c = search needs
 
 returns : tie.Need-returns Inv-loop μ-loop
 unfolding Repeated
-returns c = 
+returns c =
     λ f tops.
     let l = c .before .loop in
     let all : l .m ≡ start (c .before) .args .most = omega arith in

@@ -31,7 +31,7 @@ loop-less : tie.Need-loop-less Inv-loop μ-loop
 loop-less c = search needs
 
 loop-again : tie.Need-loop-again Inv-loop μ-loop
-loop-again c = 
+loop-again c =
     let a = c .before .before .args in
     let l = c .before .loop in
     (omega arith, simp length-set (l .inv .1), stored-up (a .cells .now) 0 0 (l .c) (λ k. 0) (l .cells) (l .c) 0 (omega arith) (l .inv .2) (omega arith) (omega arith) refl)

@@ -11,7 +11,7 @@ use Rattle.knapsack.proofs.fill.Statement.{statement}
 use Rattle.knapsack.proofs.fill.Tie as tie
 
 abbrev Inv-loop : tie.InvT-loop
-Inv-loop kind weights wbytes values vbytes copies cbytes width cells₀ n i₀ from₀ cells i from = 
+Inv-loop kind weights wbytes values vbytes copies cbytes width cells₀ n i₀ from₀ cells i from =
     (i ≤ n)
     × (from ≡ i * width)
     × (length cells ≡ length cells₀)
@@ -39,7 +39,7 @@ room c =
     omega (arith, rows-within (c .before .loop .i) n (s .args .width) (inside c), s .pre .1 .1, c .before .loop .inv .1)
 
 clear-requires : tie.Need-clear-requires Inv-loop μ-loop
-clear-requires c κs = 
+clear-requires c κs =
     let s = c .before .before .before .before .before .before .before .before in
     omega (arith, one-row-more (length (handed (s .args .weights .now) (s .args .wbytes .now))) (s .args .width), s .pre .1 .1)
 
@@ -47,7 +47,7 @@ list-length-requires : tie.Need-list-length-requires Inv-loop μ-loop
 list-length-requires c κs = search needs
 
 loop-holds : tie.Need-loop-holds Inv-loop μ-loop
-loop-holds c = 
+loop-holds c =
     let a = c .before .before .before .before .before .before .before .before .before .before .before .before .args in
     let clear = c .before .before .before .clear in
     (omega arith, omega (arith, zero-mul (a .width)), refl, filled-none (handed (a .weights .now) (a .wbytes .now)) (handed (a .values .now) (a .vbytes .now)) (limitOf (a .kind) (handed (a .copies .now) (a .cbytes .now))) (a .width) (a .cells .now) (clear .last .0) (clear .ensures))
@@ -56,18 +56,18 @@ item-requires : tie.Need-item-requires Inv-loop μ-loop
 item-requires c κs = inside c
 
 item-requires-2 : tie.Need-item-requires-2 Inv-loop μ-loop
-item-requires-2 c κs = 
+item-requires-2 c κs =
     let turn = c .before in
     rw (start (turn .before) .pre .0 .valued) (inside turn)
 
 allowed-requires : tie.Need-allowed-requires Inv-loop μ-loop
-allowed-requires c κs = 
+allowed-requires c κs =
     λ other.
     let turn = c .before .before in
     rw (start (turn .before) .pre .1 .0 other) (inside turn)
 
 next-row-requires : tie.Need-next-row-requires Inv-loop μ-loop
-next-row-requires c κs = 
+next-row-requires c κs =
     let turn = c .before .before .before .before in
     let head = turn .before in
     let l = head .loop in
@@ -82,7 +82,7 @@ next-row-requires c κs =
     )
 
 add-from : tie.Need-add-from Inv-loop μ-loop
-add-from c = 
+add-from c =
     let turn = c .before .before .before .before .before .before .before in
     omega (arith, room turn, start (turn .before) .good)
 
@@ -93,7 +93,7 @@ loop-less : tie.Need-loop-less Inv-loop μ-loop
 loop-less c = search needs
 
 loop-again : tie.Need-loop-again Inv-loop μ-loop
-loop-again c = 
+loop-again c =
     let turn = c .before .before .before .before .before .before .before in
     let head = turn .before in
     let l = head .loop in
@@ -113,7 +113,7 @@ same-length : tie.Need-same-length Inv-loop μ-loop
 same-length c = long (c .before)
 
 returns : tie.Need-returns Inv-loop μ-loop
-returns c = 
+returns c =
     let head = c .before in
     let all : head .loop .i ≡ length (handed (start head .args .weights .now) (start head .args .wbytes .now)) = omega (arith, head .before .list-length .ensures) in
     rw (← all) (head .loop .inv .3)

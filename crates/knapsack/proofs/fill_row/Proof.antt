@@ -14,7 +14,7 @@ use Rattle.knapsack.proofs.fill_row.Statement.{statement}
 use Rattle.knapsack.proofs.fill_row.Tie as tie
 
 abbrev Inv-loop : tie.InvT-loop
-Inv-loop weights wbytes values vbytes row₀ width n i₀ row i = 
+Inv-loop weights wbytes values vbytes row₀ width n i₀ row i =
     (i ≤ n)
     × (length row ≡ length row₀)
     × Climbed (handed weights wbytes) (handed values vbytes) width i row
@@ -40,7 +40,7 @@ list-length-requires : tie.Need-list-length-requires Inv-loop μ-loop
 list-length-requires c κs = search needs
 
 loop-holds : tie.Need-loop-holds Inv-loop μ-loop
-loop-holds c = 
+loop-holds c =
     let clear = c .before .before .before .clear in
     (omega arith, refl, level (λ k h. rw zero-add at (clear .ensures .cells k (omega arith) h)))
 
@@ -51,15 +51,16 @@ item-requires-2 : tie.Need-item-requires-2 Inv-loop μ-loop
 item-requires-2 c κs = let turn = c .before in rw (entry (turn .before) .pre .valued) (inside turn)
 
 raise-up-requires : tie.Need-raise-up-requires Inv-loop μ-loop
-raise-up-requires c κs = 
+raise-up-requires c κs =
     let turn = c .before .before .before in
     let head = turn .before in
     let l = head .loop in
     let a = entry head .args in
     let b = entry head .pre in
-    rw (long head)
-    ((rw (c .before .before .item .ensures) (b .heavy (l .i) (inside turn)), (rw (c .before .item2 .ensures) (b .cheap (l .i) (inside turn)), b .narrow)),
-    climbed-low (handed (a .weights .now) (a .wbytes .now)) (handed (a .values .now) (a .vbytes .now)) (length (a .row .now)) (l .i) (l .row) b (omega (arith, inside turn)) (l .inv .2))
+    rw (long head) (
+      (rw (c .before .before .item .ensures) (b .heavy (l .i) (inside turn)), (rw (c .before .item2 .ensures) (b .cheap (l .i) (inside turn)), b .narrow)),
+      climbed-low (handed (a .weights .now) (a .wbytes .now)) (handed (a .values .now) (a .vbytes .now)) (length (a .row .now)) (l .i) (l .row) b (omega (arith, inside turn)) (l .inv .2),
+    )
 
 add-i : tie.Need-add-i Inv-loop μ-loop
 add-i c = search needs
@@ -68,7 +69,7 @@ loop-less : tie.Need-loop-less Inv-loop μ-loop
 loop-less c = search needs
 
 loop-again : tie.Need-loop-again Inv-loop μ-loop
-loop-again c = 
+loop-again c =
     let head = c .before .before .before .before .before .before .before in
     let l = head .loop in
     let up = c .before .before .raise-up in
@@ -83,7 +84,7 @@ same-length : tie.Need-same-length Inv-loop μ-loop
 same-length c = long (c .before)
 
 returns : tie.Need-returns Inv-loop μ-loop
-returns c = 
+returns c =
     let head = c .before in
     let all : head .loop .i ≡ length (handed (entry head .args .weights .now) (entry head .args .wbytes .now)) = omega (arith, head .before .list-length .ensures) in
     rw (← all) (head .loop .inv .2)

@@ -3,6 +3,7 @@ use mathlib.Core.Bool.{true, false}
 use Prim.Native.Nat.{_+_, _-_, _≤_, _<_}
 use native.Mathlib.Omega.{arith}
 use borrow.Author.Tests.{lt-leb, le-leb}
+use Rattle.meaning.specs.Refusals.{mostValue, mostBudget}
 use Rattle.knapsack.specs.Rows.{Low}
 use Rattle.knapsack.specs.Ways.{leadsOn}
 use borrow.Author.Needs.{needs}
@@ -20,7 +21,7 @@ shared-slice-read-result : tie.Need-shared-slice-read-result
 shared-slice-read-result c = search needs
 
 add-result : tie.Need-add-result
-unfolding Low
+unfolding Low mostValue mostBudget
 add-result c = let s = c .before .before in omega (arith, s .pre .1 (s .args .c - s .args .w) (omega arith))
 
 mul-result-2 : tie.Need-mul-result-2

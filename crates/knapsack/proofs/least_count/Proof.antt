@@ -7,6 +7,7 @@ use native.Mathlib.Omega.{arith}
 use lib.ListN.{length}
 use borrow.Author.Needs.{needs}
 use Rattle.meaning.specs.Lists.{at}
+use Rattle.meaning.specs.Refusals.{mostBudget}
 use Rattle.knapsack.proofs.least_count.Statement.{statement}
 use Rattle.knapsack.proofs.least_count.Tie as tie
 
@@ -43,19 +44,20 @@ sub-rest : tie.Need-sub-rest Inv-loop μ-loop
 sub-rest c = on c .cheap
 
 add-x : tie.Need-add-x Inv-loop μ-loop
+unfolding mostBudget
 add-x c = omega (arith, on c .few, c .before .before .before .pre .0)
 
 loop-less : tie.Need-loop-less Inv-loop μ-loop
 loop-less c = omega (arith, on c .light, c .before .before .before .pre .0)
 
 loop-again : tie.Need-loop-again Inv-loop μ-loop
-loop-again c = 
+loop-again c =
     let a = c .before .before .before .args in
     let x = c .before .before .loop .x in
     (omega (arith, on c .light, mul-add (a .w) x 1), omega (arith, on c .cheap, mul-add (a .v) x 1), on c .fewer)
 
 returns : tie.Need-returns Inv-loop μ-loop
-returns c = 
+returns c =
     let a = c .before .before .before .args in
     let l = c .before .before .loop in
     found (λ d. at (a .cells .now) (a .from + d)) (a .w) (a .v) (a .c) (a .goal) (l .x) (l .left) (l .rest) (l .inv .0) (l .inv .1) (l .inv .2) (c .if1 .left)

@@ -4,6 +4,7 @@ use native.Mathlib.Omega.{arith}
 use lib.ListN.{length}
 use borrow.Author.Needs.{needs}
 use Rattle.meaning.specs.Lists.{at}
+use Rattle.meaning.specs.Refusals.{mostValue, mostBudget}
 use borrow.Author.Needs.{needs}
 use Rattle.knapsack.specs.Rows.{Low}
 use Rattle.knapsack.proofs.Parts.{partOf, part-long}
@@ -18,6 +19,7 @@ sub-lesser : tie.Need-sub-lesser
 sub-lesser c = search needs
 
 cast-lesser : tie.Need-cast-lesser
+unfolding mostBudget
 cast-lesser c = search needs
 
 div-lesser : tie.Need-div-lesser
@@ -42,13 +44,13 @@ short c =
     start-within (a .w) (c .before .lesser .result) (a .width) (c .reach .result) (c .reach .ensures .0) (c .reach .ensures .1) (light c)
 
 copy-requires : tie.Need-copy-requires
-copy-requires c κs = 
+copy-requires c κs =
     let start = c .before .before .before .before in
     (omega (arith, short (c .before)), omega (arith, short (c .before), start .pre .0))
 
 raise-requires : tie.Need-raise-requires
-unfolding Low
-raise-requires c κs = 
+unfolding Low mostValue mostBudget
+raise-requires c κs =
     let start = c .before .before .before .before .before .before .before .before in
     let a = start .args in
     let reach = c .before .before .before .before .before in
@@ -73,7 +75,7 @@ part-add-parts-end : tie.Need-part-add-parts-end
 part-add-parts-end c = search needs
 
 add-parts-requires : tie.Need-add-parts-requires
-add-parts-requires c κs = 
+add-parts-requires c κs =
     let raise = c .before .before .before in
     let copy = raise .before .before .before .before in
     let reach = copy .before .before in
@@ -82,16 +84,17 @@ add-parts-requires c κs =
     let u = raise .raise .last .0 in
     let to = a .from + a .width in
     let fits : to + a .width ≤ length u = omega (arith, raise .raise .kept .0, copy .copy .kept .0, start .pre .0) in
-    rw (part-long u to (a .width) fits)
-    ((start .pre .1 .0 .0, (start .pre .1 .0 .1, (start .pre .0 .1 .0, light reach))),
-    part-low (a .cells .now) (copy .copy .last .0) u (a .from) (a .width) (a .w) (a .v) (reach .before .lesser .result) (reach .reach .result) (reach .reach .ensures .0) (reach .reach .ensures .1)
-    (copy .copy .ensures) (raise .raise .ensures) (start .pre .1 .0 .0) (start .pre .1 .0 .1) fits (start .pre .1 .1))
+    rw (part-long u to (a .width) fits) (
+      (start .pre .1 .0 .0, (start .pre .1 .0 .1, (start .pre .0 .1 .0, light reach))),
+      part-low (a .cells .now) (copy .copy .last .0) u (a .from) (a .width) (a .w) (a .v) (reach .before .lesser .result) (reach .reach .result) (reach .reach .ensures .0) (reach .reach .ensures .1)
+          (copy .copy .ensures) (raise .raise .ensures) (start .pre .1 .0 .0) (start .pre .1 .0 .1) fits (start .pre .1 .1),
+    )
 
 same-length : tie.Need-same-length
 same-length c = search needs
 
 returns : tie.Need-returns
-returns c = 
+returns c =
     let parts = c .before .before .add-parts in
     let raise = c .before .before .before .before .before .before in
     let copy = raise .before .before .before .before in

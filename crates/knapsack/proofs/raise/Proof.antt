@@ -40,7 +40,7 @@ slice-read-with : tie.Need-slice-read-with Inv-loop μ-loop
 slice-read-with c = search needs
 
 add-with-2 : tie.Need-add-with-2 Inv-loop μ-loop
-add-with-2 c = 
+add-with-2 c =
     let start = c .before .before .before .before .before in
     let a = start .args in
     let l = c .before .before .before .loop in
@@ -66,7 +66,7 @@ loop-less : tie.Need-loop-less Inv-loop μ-loop
 loop-less c = search needs
 
 loop-again : tie.Need-loop-again Inv-loop μ-loop
-loop-again c = 
+loop-again c =
     let a = c .before .before .before .before .before .before .args in
     let l = c .before .before .before .before .loop in
     let kept = l .inv .3 .before in

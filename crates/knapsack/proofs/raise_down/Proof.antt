@@ -38,7 +38,7 @@ slice-read-with : tie.Need-slice-read-with Inv-loop μ-loop
 slice-read-with c = search needs
 
 add-with : tie.Need-add-with Inv-loop μ-loop
-add-with c = 
+add-with c =
     let start = c .before .before .before .before .before in
     let l = c .before .before .before .loop in
     let k = l .c - 1 - start .args .w in
@@ -57,7 +57,7 @@ loop-less : tie.Need-loop-less Inv-loop μ-loop
 loop-less c = search needs
 
 loop-again : tie.Need-loop-again Inv-loop μ-loop
-loop-again c = 
+loop-again c =
     let a = c .before .before .before .before .before .before .args in
     let l = c .before .before .before .before .loop in
     let kept = l .inv .3 .before in (
@@ -72,7 +72,7 @@ same-length : tie.Need-same-length Inv-loop μ-loop
 same-length c = c .before .loop .inv .2
 
 returns : tie.Need-returns Inv-loop μ-loop
-returns c = 
+returns c =
     let d = c .before .loop .inv .3 in
     record { short = λ k l m. d .before k (omega arith); long = λ k l m. rw zero-add at (d .cells k (omega arith) l) }
 

@@ -4,6 +4,8 @@ use native.Mathlib.Omega.{arith}
 use lib.ListN.{length, length-set}
 use borrow.Author.Needs.{needs}
 use Rattle.meaning.specs.Lists.{at}
+use Rattle.meaning.specs.Refusals.{mostValue}
+use Rattle.meaning.specs.Refusals.{mostValue, mostBudget}
 use Rattle.knapsack.specs.Rows.{Raised, Low}
 use Rattle.knapsack.proofs.Stores.{RaisedTo, raised-none, raised-up, low-more, low-set}
 use Rattle.knapsack.proofs.raise_up.Statement.{statement}
@@ -34,8 +36,8 @@ slice-read-with : tie.Need-slice-read-with Inv-loop μ-loop
 slice-read-with c = search needs
 
 add-with : tie.Need-add-with Inv-loop μ-loop
-unfolding Low
-add-with c = 
+unfolding Low mostValue mostBudget
+add-with c =
     let start = c .before .before .before .before .before in
     let l = c .before .before .before .loop in
     omega (arith, l .inv .3 (l .c - start .args .w) (omega arith))
@@ -56,8 +58,8 @@ loop-less : tie.Need-loop-less Inv-loop μ-loop
 loop-less c = search needs
 
 loop-again : tie.Need-loop-again Inv-loop μ-loop
-unfolding Low
-loop-again c = 
+unfolding Low mostValue
+loop-again c =
     let start = c .before .before .before .before .before .before in
     let a = start .args in
     let l = c .before .before .before .before .loop in
@@ -73,7 +75,7 @@ same-length : tie.Need-same-length Inv-loop μ-loop
 same-length c = c .before .loop .inv .1
 
 returns : tie.Need-returns Inv-loop μ-loop
-returns c = 
+returns c =
     let d = c .before .loop .inv .2 .raised in
     record { short = λ k l m. d .short k (omega arith) m; long = λ k l m. d .long k (omega arith) m }
 

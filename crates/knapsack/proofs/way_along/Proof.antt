@@ -9,6 +9,7 @@ use native.Mathlib.Omega.{arith}
 use lib.ListN.{length, take, length-set}
 use borrow.Author.Needs.{needs}
 use Rattle.meaning.specs.Lists.{at}
+use Rattle.meaning.specs.Refusals.{mostBudget}
 use Rattle.numbers.specs.Handed.{handed}
 use Rattle.knapsack.specs.Rows.{Low}
 use Rattle.knapsack.specs.Ways.{WayAlong, start, taken, passed}
@@ -16,7 +17,7 @@ use Rattle.knapsack.proofs.way_along.Statement.{statement}
 use Rattle.knapsack.proofs.way_along.Tie as tie
 
 abbrev Inv-loop : tie.InvT-loop
-Inv-loop weights wbytes values vbytes row picks₀ i₀ c₀ x₀ picks i c x = 
+Inv-loop weights wbytes values vbytes row picks₀ i₀ c₀ x₀ picks i c x =
     (i ≤ length picks₀)
     × (x + c < length row)
     × (length picks ≡ length picks₀)
@@ -64,7 +65,7 @@ item-requires-2 : tie.Need-item-requires-2 Inv-loop μ-loop
 item-requires-2 c κs = let turn = c .before in rw (entry (turn .before) .pre .0 .valued) (inside turn)
 
 leads-requires : tie.Need-leads-requires Inv-loop μ-loop
-leads-requires c κs = 
+leads-requires c κs =
     let turn = c .before .before in
     let s = entry (turn .before) in
     let b = s .pre .0 in
@@ -77,13 +78,14 @@ sub-c-2 : tie.Need-sub-c-2 Inv-loop μ-loop
 sub-c-2 c = light c
 
 add-x : tie.Need-add-x Inv-loop μ-loop
-add-x c = search needs
+unfolding mostBudget
+add-x c = let turn = c .before .before .before .before in omega (arith, entry (turn .before) .pre .0 .narrow)
 
 loop-less : tie.Need-loop-less Inv-loop μ-loop
 loop-less c = omega (arith, light c, heavy c)
 
 loop-again : tie.Need-loop-again Inv-loop μ-loop
-loop-again c = 
+loop-again c =
     let turn = c .before .before .before .before in
     let l = turn .before .loop in
     let w = c .before .before .before .item .ensures in (
@@ -107,7 +109,7 @@ loop-less-2 : tie.Need-loop-less-2 Inv-loop μ-loop
 loop-less-2 c = omega arith
 
 loop-again-2 : tie.Need-loop-again-2 Inv-loop μ-loop
-loop-again-2 c = 
+loop-again-2 c =
     let turn = c .before .before .before .before in
     let l = turn .before .loop in (
       omega arith,
@@ -121,7 +123,7 @@ same-length : tie.Need-same-length Inv-loop μ-loop
 same-length c = search needs
 
 returns : tie.Need-returns Inv-loop μ-loop
-returns c = 
+returns c =
     let l = c .before .loop in
     let all : l .i ≡ length (entry (c .before) .args .picks .now) = omega arith in
     let whole : take (l .i) (l .picks) ≡ l .picks = take-all (l .i) (l .picks) (omega arith) in

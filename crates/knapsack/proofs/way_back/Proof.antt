@@ -7,6 +7,7 @@ use native.Mathlib.Omega.{arith}
 use lib.ListN.{length}
 use borrow.Author.Needs.{needs}
 use Rattle.meaning.specs.Lists.{at}
+use Rattle.meaning.specs.Refusals.{mostBudget}
 use Rattle.numbers.specs.Handed.{handed}
 use lib.ListN.{drop, length-set}
 use Rattle.knapsack.specs.Rows.{Least}
@@ -16,7 +17,7 @@ use Rattle.knapsack.proofs.way_back.Statement.{statement}
 use Rattle.knapsack.proofs.way_back.Tie as tie
 
 abbrev Inv-loop : tie.InvT-loop
-Inv-loop weights wbytes values vbytes width cells picks₀ i₀ c₀ picks i c = 
+Inv-loop weights wbytes values vbytes width cells picks₀ i₀ c₀ picks i c =
     (i ≤ length picks₀)
     × (c < width)
     × (length picks ≡ length picks₀)
@@ -44,7 +45,7 @@ sub-c : tie.Need-sub-c Inv-loop μ-loop
 sub-c c = search needs
 
 loop-holds : tie.Need-loop-holds Inv-loop μ-loop
-loop-holds c = 
+loop-holds c =
     let s = c .before .before .before .before .before .before in
     let a = s .args in
     let n = s .pre .1 .0 .1 in
@@ -75,12 +76,12 @@ shared-slice-read-goal : tie.Need-shared-slice-read-goal Inv-loop μ-loop
 shared-slice-read-goal c = omega (arith, room (c .before .before .before))
 
 least-count-requires : tie.Need-least-count-requires Inv-loop μ-loop
-least-count-requires c κs = 
+unfolding mostBudget
+least-count-requires c κs =
     let turn = c .before .before .before in
     let head = turn .before in
     let s = start head in
-    let m = head .loop .i - 1 in
-    (
+    let m = head .loop .i - 1 in (
       (rw (c .before .before .item .ensures) (s .pre .0 .heavy m (inside turn)), (omega (arith, s .pre .0 .narrow), omega (arith, room turn))),
       rw (c .before .before .item .ensures, c .before .item2 .ensures) (rw suc-mul at (s .pre .1 .1 m (head .loop .c) (inside turn) (head .loop .inv .1))),
     )
@@ -92,9 +93,11 @@ slice-write-picks : tie.Need-slice-write-picks Inv-loop μ-loop
 slice-write-picks c = search needs
 
 mul-c : tie.Need-mul-c Inv-loop μ-loop
+unfolding mostBudget
 mul-c c = omega (arith, c .least-count .ensures .made .spent, start (c .before .before .before .before .before) .pre .0 .narrow)
 
 cast-c : tie.Need-cast-c Inv-loop μ-loop
+unfolding mostBudget
 cast-c c = omega (arith, c .least-count .ensures .made .spent, start (c .before .before .before .before .before) .pre .0 .narrow)
 
 sub-c-2 : tie.Need-sub-c-2 Inv-loop μ-loop
@@ -104,7 +107,7 @@ loop-less : tie.Need-loop-less Inv-loop μ-loop
 loop-less c = search needs
 
 loop-again : tie.Need-loop-again Inv-loop μ-loop
-loop-again c = 
+loop-again c =
     let head = c .before .before .before .before .before in
     let l = head .loop in
     let a = start head .args in
@@ -115,14 +118,14 @@ loop-again c =
       omega arith,
       simp length-set (l .inv .2),
       rw w (way-more (rowOf (a .cells .now) (a .width)) (handed (a .weights .now) (a .wbytes .now)) (handed (a .values .now) (a .vbytes .now)) (length (handed (a .weights .now) (a .wbytes .now))) (a .width - 1)
-      (l .i) (l .c) (least .result) (l .picks) (omega arith) (omega arith) (l .inv .3) (rw suc-mul (rw (w, v) at (least .ensures)))),
+          (l .i) (l .c) (least .result) (l .picks) (omega arith) (omega arith) (l .inv .3) (rw suc-mul (rw (w, v) at (least .ensures)))),
     )
 
 same-length : tie.Need-same-length Inv-loop μ-loop
 same-length c = search needs
 
 returns : tie.Need-returns Inv-loop μ-loop
-returns c = 
+returns c =
     let l = c .before .loop in
     let none : l .i ≡ 0 = omega arith in
     rw none at (l .inv .3)

@@ -1,0 +1,243 @@
+-- From an accepted job to what the functions ask, and from what they leave to what `meaning` promises.
+-- Assumes nothing.
+use mathlib.Core.Path.{_≡_, refl, sym, ap, _∙_, subst}
+use mathlib.Core.Option.{some, none}
+use Prim.Native.Nat.{ℕ, zero, suc, _+_, _-_, _*_, _≤_, _<_}
+use native.Mathlib.Nat.{le-refl}
+use native.Mathlib.Omega.{arith}
+use mathlib.Core.Bool.{Bool, true, false, _&&_}
+use mathlib.Core.List.{List, [], _∷_, _++_}
+use lib.Dec.{T, leb, leb·zero}
+use lib.ListN.{length, drop, getElem?}
+use mir.Facts.{and-yes, leb-yes}
+use Rattle.meaning.specs.declared.Answer.the-variants as Says
+use Rattle.meaning.specs.Lists.{at, total, if}
+use Rattle.meaning.specs.Slices.{Holds}
+use Rattle.meaning.specs.Job.{Job, Sort, once, limited, free, Kind, packing, subset-sums, fewest-blocks, block-ways, sharing, labels, kindOf, allKinds, jobOf}
+use Rattle.meaning.specs.Lent.{Lent, lentOf, roomFor, roomOf, cellCount}
+use Rattle.meaning.specs.Refusals.{kindRefusal, jobRefusal, roomFits, hasCopies, mostBudget, mostValue}
+use Rattle.meaning.specs.Orders.{last-least}
+use Rattle.meaning.specs.Knapsacks.{MayPick, BestValue, BestPicks, orderOf, ValueTable, FullTable, OneRow, cellNumber}
+use Rattle.meaning.specs.Answers.{saidOf}
+use Rattle.meaning.specs.Solved.{Answered, Outcome, Packed, Gives, TableHolds, Solved}
+use Rattle.meaning.proofs.Valid.{Valid, is-cleared, is-valid, weight-rule, value-rule}
+use Rattle.meaning.proofs.Laws.{solved-kind}
+use Rattle.meaning.proofs.Totals.{total-none, empty-of}
+use Rattle.meaning.proofs.Trace.{picks-none, picks-worth}
+use Rattle.knapsack.specs.Tables.{Bounded, limitOf, rowOf, Filled, Climbed}
+use Rattle.knapsack.specs.Ways.{WayBack, WayAlong}
+use Rattle.knapsack.specs.Doors.{Accepted, AcceptedAny, Packs}
+use Rattle.knapsack.proofs.FullRows.{row-best, back-picks, back-weight}
+use Rattle.knapsack.proofs.FreeRow.{climbed-best, along-picks, along-weight}
+
+-- ---- the kind number
+
+-- of the three knapsacks
+pub numberOf : Sort → ℕ
+numberOf once = 1
+numberOf limited = 2
+numberOf free = 3
+
+rest-of-kinds : (m : ℕ) (k : Sort) → ¬ (getElem? (subset-sums ∷ fewest-blocks ∷ block-ways ∷ sharing ∷ []) m ≡ some (packing k))
+rest-of-kinds zero k e = let z : _≡_ {A = ℕ} 0 1 = cc in omega arith
+rest-of-kinds (suc zero) k e = let z : _≡_ {A = ℕ} 0 1 = cc in omega arith
+rest-of-kinds (suc (suc zero)) k e = let z : _≡_ {A = ℕ} 0 1 = cc in omega arith
+rest-of-kinds (suc (suc (suc zero))) k e = let z : _≡_ {A = ℕ} 0 1 = cc in omega arith
+rest-of-kinds (suc (suc (suc (suc m)))) k e = let z : _≡_ {A = ℕ} 0 1 = cc in omega arith
+
+-- a knapsack's kind number is its own
+pub kind-number : (m : ℕ) (k : Sort) → kindOf m ≡ some (packing k) → m ≡ numberOf k
+unfolding kindOf allKinds numberOf
+kind-number zero k e = let z : _≡_ {A = ℕ} 0 1 = cc in absurd (omega arith)
+kind-number (suc zero) k e = let same : once ≡ k = cc in subst (λ (x : Sort). 1 ≡ numberOf x) same refl
+kind-number (suc (suc zero)) k e = let same : limited ≡ k = cc in subst (λ (x : Sort). 2 ≡ numberOf x) same refl
+kind-number (suc (suc (suc zero))) k e = let same : free ≡ k = cc in subst (λ (x : Sort). 3 ≡ numberOf x) same refl
+kind-number (suc (suc (suc (suc m)))) k e = absurd (rest-of-kinds m k e)
+
+-- ---- what an accepted job keeps
+
+-- a knapsack that keeps the rules, with room in cells and picks
+pub record Ready (k : Sort) (j : Job) (cells picks : List ℕ) : Type 0 where
+  pub valid : Valid k j
+  pub cells-room : roomFor (packing k) j .cells ≤ length cells
+  pub picks-room : labels j ≤ length picks
+
+-- picks need n places in each of the three
+picks-needed : (k : Sort) (j : Job) → roomFor (packing k) j .picks ≡ labels j
+unfolding roomFor roomOf
+picks-needed once j = refl
+picks-needed limited j = refl
+picks-needed free j = refl
+
+pub ready : {k : Sort} {j : Job} {cells picks : List ℕ} → Accepted k j cells picks → Ready k j cells picks
+unfolding roomFits lentOf
+ready {k} {j} {cells} {picks} a =
+    let room = roomFor (packing k) j in
+    let c = is-cleared room (packing k) j (lentOf cells [] picks) (a .unrefused) in
+    let (cells-words, p) = and-yes (leb (room .cells) (length cells) && leb (room .words) 0) (leb (room .picks) (length picks)) (c .roomy) in
+    let (f, _) = and-yes (leb (room .cells) (length cells)) (leb (room .words) 0) cells-words in
+    let needed : room .picks ≤ length picks = leb-yes p in
+    record { valid = is-valid k j _ (c .keeps); cells-room = leb-yes f; picks-room = rw (picks-needed k j) at needed }
+
+pub bounded : (k : Sort) (j : Job) → Valid k j → Bounded (j .budget + 1) (j .weights) (j .values)
+unfolding labels
+bounded k j ok = record {
+  wide = omega arith;
+  narrow = omega (arith, ok .small);
+  valued = ok .valued;
+  heavy = weight-rule k j ok;
+  cheap = value-rule k j ok;
+}
+
+-- kinds 1 and 2: the limits are those of the knapsack
+pub limit-few : (k : Sort) (j : Job) (i x : ℕ) → numberOf k < 3 → MayPick k (at (j .copies) i) x → x ≤ limitOf (numberOf k) (j .copies) i
+unfolding numberOf limitOf MayPick if
+limit-few once j i x h m = m
+limit-few limited j i x h m = m
+limit-few free j i x h m = absurd (omega arith)
+
+pub limit-may : (k : Sort) (j : Job) (i x : ℕ) → numberOf k < 3 → x ≤ limitOf (numberOf k) (j .copies) i → MayPick k (at (j .copies) i) x
+unfolding numberOf limitOf MayPick if
+limit-may once j i x h m = m
+limit-may limited j i x h m = m
+limit-may free j i x h m = absurd (omega arith)
+
+-- as many cells as the full table has
+pub full-room : (k : Sort) (j : Job) → numberOf k < 3 → roomFor (packing k) j .cells ≡ cellCount j
+unfolding roomFor roomOf numberOf
+full-room once j h = refl
+full-room limited j h = refl
+full-room free j h = absurd (omega arith)
+
+-- kind 2 has a number of copies for each label
+pub copies-long : (k : Sort) (j : Job) → Valid k j → numberOf k < 3 → ¬ (numberOf k ≡ 1) → length (j .copies) ≡ labels j
+unfolding numberOf hasCopies if
+copies-long once j ok h other = absurd (other refl)
+copies-long limited j ok h other = ok .copied
+copies-long free j ok h other = absurd (omega arith)
+
+-- ---- what an answer comes to
+
+words-needed : (k : Sort) (j : Job) → 0 ≡ roomFor (packing k) j .words
+unfolding roomFor roomOf
+words-needed once j = refl
+words-needed limited j = refl
+words-needed free j = refl
+
+-- the words have no part in a knapsack's refusal
+no-words : (k : Sort) (j : Job) (cells words picks : List ℕ)
+    → kindRefusal (roomFor (packing k) j) (packing k) j (lentOf cells words picks) ≡ kindRefusal (roomFor (packing k) j) (packing k) j (lentOf cells [] picks)
+unfolding kindRefusal roomFits lentOf
+no-words k j cells words picks = rw (← words-needed k j, leb·zero (length words), leb·zero 0)
+
+-- the table and the picks that were written are those of the knapsack, and the numbers are those of the picks
+pub packs : {k : Sort} {j : Job} {cells picks : List ℕ} (a : Accepted k j cells picks) (cells-after picks-after table found : List ℕ) (value weight : ℕ)
+    → length table ≡ roomFor (packing k) j .cells → ValueTable k j table → BestPicks k j (labels j) (j .budget) found
+    → value ≡ total (j .values) found → weight ≡ total (j .weights) found → Holds table cells cells-after → Holds found picks picks-after
+    → Packs j cells picks (Says.Knapsack value weight) cells-after picks-after
+unfolding Packs Outcome Gives TableHolds Holds lentOf
+packs {k} {j} {cells} {picks} a cells-after picks-after table found value weight long right chosen v w in-cells in-picks words =
+    solved-kind j (lentOf cells words picks) (packing k) 0 (Says.Knapsack value weight) (lentOf cells-after words picks-after) (a .of-kind)
+    (no-words k j cells words picks ∙ a .unrefused)
+    (record {
+      content = lentOf table [] found;
+      gives = record { picked = chosen; numbers = rw (v, w) };
+      table-right = right;
+      cells-needed = long;
+      words-needed = words-needed k j;
+      cells-hold = in-cells;
+      words-hold = refl;
+      picks-hold = in-picks;
+    })
+
+-- a slice with its first places written
+holds-front : (new old : List ℕ) (n : ℕ) → length new ≡ n → Holds new old (new ++ drop n old)
+unfolding Holds
+holds-front new old n long = rw long
+
+-- kinds 1 and 2, by the table that was filled and the way back through it
+module _ (k : Sort) (j : Job) (cells picks table found : List ℕ) (left : ℕ) (numbered : numberOf k < 3) (a : Accepted k j cells picks)
+    (long : length table ≡ cellCount j) (filled : Filled (j .weights) (j .values) (limitOf (numberOf k) (j .copies)) (j .budget + 1) (labels j) table)
+    (way : WayBack (rowOf table (j .budget + 1)) (j .weights) (j .values) (labels j) (j .budget) 0 left found) where
+  abbrev few : (i x : ℕ) → i < labels j → MayPick k (at (j .copies) i) x → x ≤ limitOf (numberOf k) (j .copies) i
+  few i x h = limit-few k j i x numbered
+
+  abbrev may : (i x : ℕ) → i < labels j → x ≤ limitOf (numberOf k) (j .copies) i → MayPick k (at (j .copies) i) x
+  may i x h = limit-may k j i x numbered
+
+  order-back : (k : Sort) → numberOf k < 3 → orderOf k ≡ last-least
+  unfolding orderOf numberOf
+  order-back once h = refl
+  order-back limited h = refl
+  order-back free h = absurd (omega arith)
+
+  full-table : (k : Sort) → numberOf k < 3 → FullTable k j table → ValueTable k j table
+  unfolding ValueTable numberOf
+  full-table once h t = t
+  full-table limited h t = t
+  full-table free h t = absurd (omega arith)
+
+  chosen : BestPicks k j (labels j) (j .budget) found
+  chosen = back-picks k j (limitOf (numberOf k) (j .copies)) (j .budget + 1) table few may filled (order-back k numbered) (j .budget) (omega arith) way [] (picks-none k j left)
+
+  pub packs-full : (needed n value : ℕ) → needed ≡ cellCount j → n ≡ labels j → value ≡ at table (labels j * (j .budget + 1) + j .budget)
+      → Packs j cells picks (Says.Knapsack value (j .budget - left)) (table ++ drop needed cells) (found ++ drop n picks)
+  unfolding FullTable cellNumber BestPicks
+  packs-full needed n value e₁ e₂ e₃ =
+      let best = row-best k j (limitOf (numberOf k) (j .copies)) (j .budget + 1) table few may filled in
+      packs a (table ++ drop needed cells) (found ++ drop n picks) table found value (j .budget - left)
+      (long ∙ sym (full-room k j numbered)) (full-table k numbered (λ i c h l. best i c h (omega arith))) chosen
+      (e₃ ∙ picks-worth k j (labels j) (j .budget) found chosen (best (labels j) (j .budget) (omega arith) (omega arith)))
+      (omega (arith, back-weight k j (limitOf (numberOf k) (j .copies)) (j .budget + 1) table few may filled way [] refl, total-none (j .weights)))
+      (holds-front table cells needed (long ∙ sym e₁))
+      (holds-front found picks n (chosen .one-of .fits .selection .one-each ∙ sym e₂))
+
+-- kind 3, by the row that was filled and the way along the labels
+module _ (j : Job) (cells picks row found : List ℕ) (left : ℕ) (a : Accepted free j cells picks) (long : length row ≡ j .budget + 1)
+    (climbed : Climbed (j .weights) (j .values) (j .budget + 1) (labels j) row)
+    (way : WayAlong (at row) (j .weights) (j .values) (j .budget) (labels j) left 0 found) where
+  row-best-values : (c : ℕ) → c ≤ j .budget → BestValue free j (labels j) c (at row c)
+  row-best-values c h = climbed-best j (j .budget + 1) (labels j) row (weight-rule free j (ready a .valid)) climbed c (omega arith)
+
+  pub packs-free : (n value : ℕ) → n ≡ labels j → value ≡ at row (j .budget)
+      → Packs j cells picks (Says.Knapsack value (j .budget - left)) (row ++ drop (j .budget + 1) cells) (found ++ drop n picks)
+  unfolding ValueTable OneRow BestPicks roomFor roomOf
+  packs-free n value e₁ e₂ =
+      let chosen = along-picks j (at row) (j .budget) row-best-values left found way in
+      packs a (row ++ drop (j .budget + 1) cells) (found ++ drop n picks) row found value (j .budget - left)
+      long row-best-values chosen
+      (e₂ ∙ picks-worth free j (labels j) (j .budget) found chosen (row-best-values (j .budget) (omega arith)))
+      (omega (arith, along-weight j (at row) (j .budget) row-best-values left found way))
+      (holds-front row cells (j .budget + 1) long)
+      (holds-front found picks n (chosen .one-of .fits .selection .one-each ∙ sym e₁))
+
+-- ---- the choice among the three
+
+-- kind 3 has no copies, and is the knapsack of any number
+pub any-free : (j : Job) (cells picks : List ℕ) → j .kind-number ≡ 3 → AcceptedAny j cells picks → Accepted free j cells picks × (j .copies ≡ [])
+unfolding numberOf hasCopies if
+any-free j cells picks e a = go (a .sort) (sym (kind-number (j .kind-number) (a .sort) (a .accepted .of-kind)) ∙ e) (a .accepted)
+  where
+    go : (k : Sort) → numberOf k ≡ 3 → Accepted k j cells picks → Accepted free j cells picks × (j .copies ≡ [])
+    go once n r = absurd (omega arith)
+    go limited n r = absurd (omega arith)
+    go free n r = (r, empty-of (j .copies) (ready r .valid .copied))
+
+-- another kind is 1 or 2
+pub any-below : (j : Job) (cells picks : List ℕ) → ¬ (j .kind-number ≡ 3) → AcceptedAny j cells picks → j .kind-number < 3
+unfolding numberOf
+any-below j cells picks other a = go (a .sort) (kind-number (j .kind-number) (a .sort) (a .accepted .of-kind))
+  where
+    go : (k : Sort) → j .kind-number ≡ numberOf k → j .kind-number < 3
+    go once e = omega arith
+    go limited e = omega arith
+    go free e = absurd (other e)
+
+-- so a job of kind 3 is one without copies
+pub job-free : (kind budget : ℕ) (ws vs cs cells picks : List ℕ) → kind ≡ 3 → AcceptedAny (jobOf kind (budget ∷ []) ws vs cs) cells picks
+    → (jobOf kind (budget ∷ []) ws vs cs ≡ jobOf 3 (budget ∷ []) ws vs []) × Accepted free (jobOf 3 (budget ∷ []) ws vs []) cells picks
+unfolding jobOf
+job-free kind budget ws vs cs cells picks e a =
+    let (r, none-of) = any-free (jobOf kind (budget ∷ []) ws vs cs) cells picks e a in
+    let same : jobOf kind (budget ∷ []) ws vs cs ≡ jobOf 3 (budget ∷ []) ws vs [] = cc in
+    (same, subst (λ (j : Job). Accepted free j cells picks) same r)

@@ -1,0 +1,224 @@
+use mathlib.Core.Path.{_≡_, sym, ap, _∙_}
+use Prim.Native.Nat.{ℕ, suc, _+_, _-_, _*_, _≤_, _<_}
+use native.Mathlib.Nat.{add-sub-cancel}
+use native.Mathlib.Omega.{arith}
+use mathlib.Core.List.{List, [], _∷_, _++_}
+use lib.ListN.{length, drop, take, length-append, List·getD-append}
+use lib.Seq.{length-take-le, take-at}
+use borrow.Author.Needs.{needs}
+use Rattle.meaning.specs.Lists.{at}
+use Rattle.meaning.specs.Job.{Job, Sort, jobOf, labels}
+use Rattle.meaning.specs.Lent.{cellCount}
+use Rattle.meaning.specs.Refusals.{mostBudget}
+use Rattle.numbers.specs.Handed.{handed}
+use Rattle.knapsack.specs.Rows.{SomeCount}
+use Rattle.knapsack.specs.Tables.{Bounded, limitOf, rowOf, Filled}
+use Rattle.knapsack.specs.Ways.{WayBack}
+use Rattle.knapsack.proofs.FullRows.{one-row-more, some-back, way-within}
+use Rattle.knapsack.proofs.Doors.{numberOf, kind-number, ready, bounded, limit-few, limit-may, full-room, copies-long, packs-full}
+use borrow.Author.Needs.{needs}
+use Rattle.knapsack.proofs.full_table.Statement.{statement}
+use Rattle.knapsack.proofs.full_table.Tie as tie
+
+-- what the job keeps
+module _ (s : tie.Start) where
+  abbrev weights : List ℕ
+  weights = handed (s .args .weights .now) (s .args .wbytes .now)
+
+  abbrev values : List ℕ
+  values = handed (s .args .values .now) (s .args .vbytes .now)
+
+  abbrev copies : List ℕ
+  copies = handed (s .args .copies .now) (s .args .cbytes .now)
+
+  abbrev job : Job
+  job = jobOf (s .args .kind) (s .args .budget ∷ []) weights values copies
+
+  abbrev sort : Sort
+  sort = s .pre .0 .sort
+
+  numbered : s .args .kind ≡ numberOf sort
+  unfolding jobOf
+  numbered = kind-number (s .args .kind) sort (s .pre .0 .accepted .of-kind)
+
+  below : numberOf sort < 3
+  below = rw numbered at (s .pre .1)
+
+  bounds : Bounded (s .args .budget + 1) weights values
+  unfolding jobOf
+  bounds = bounded sort job (ready (s .pre .0 .accepted) .valid)
+
+  cells-room : (length weights + 1) * (s .args .budget + 1) ≤ length (s .args .cells .now)
+  unfolding jobOf labels cellCount
+  cells-room = rw (full-room sort job below) at (ready (s .pre .0 .accepted) .cells-room)
+
+  picks-room : length weights ≤ length (s .args .picks .now)
+  unfolding jobOf labels
+  picks-room = ready (s .pre .0 .accepted) .picks-room
+
+  copied : ¬ (s .args .kind ≡ 1) → length copies ≡ length weights
+  unfolding jobOf labels
+  copied other = copies-long sort job (ready (s .pre .0 .accepted) .valid) below (rw numbered at other)
+
+-- how many cells and picks are needed
+module _ (l : tie.After-list-length) where
+  abbrev at-start : tie.Start
+  at-start = l .before .before .before .before .before .before .before .before .before
+
+  abbrev needed : ℕ
+  needed = (l .list-length .result + 1) * (at-start .args .budget + 1)
+
+  needed-is : needed ≡ (length (weights at-start) + 1) * (at-start .args .budget + 1)
+  needed-is = ap (λ (n : ℕ). (n + 1) * (at-start .args .budget + 1)) (l .list-length .ensures)
+
+  cells-enough : needed ≤ length (at-start .args .cells .now)
+  cells-enough = omega (arith, needed-is, cells-room at-start)
+
+  cells-long : length (take needed (at-start .args .cells .now)) ≡ needed
+  cells-long = length-take-le needed (at-start .args .cells .now) cells-enough
+
+  picks-enough : l .list-length .result ≤ length (at-start .args .picks .now)
+  picks-enough = omega (arith, l .list-length .ensures, picks-room at-start)
+
+  picks-long : length (take (l .list-length .result) (at-start .args .picks .now)) ≡ length (weights at-start)
+  picks-long = length-take-le (l .list-length .result) (at-start .args .picks .now) picks-enough ∙ l .list-length .ensures
+
+-- what the call of `fill` leaves
+module _ (f : tie.After-fill) where
+  abbrev listed : tie.After-list-length
+  listed = f .before .before
+
+  abbrev start : tie.Start
+  start = at-start listed
+
+  abbrev table : List ℕ
+  table = f .fill .last .1 .1 .1 .1 .1 .1 .1 .1 .0
+
+  table-long : length table ≡ needed listed
+  table-long = f .fill .kept .1 .1 .1 .1 .1 .1 .1 .1 .0 ∙ cells-long listed
+
+  -- the first cells of the slice are the table
+  table-front : take (needed listed) (table ++ drop (needed listed) (start .args .cells .now)) ≡ table
+  table-front = take-at table (drop (needed listed) (start .args .cells .now)) (needed listed) table-long
+
+  filled : Filled (weights start) (values start) (limitOf (numberOf (sort start)) (copies start)) (start .args .budget + 1) (length (weights start)) table
+  filled = rw (numbered start) at (f .fill .ensures)
+
+  some-count : (i c : ℕ) → i < length (weights start) → c < start .args .budget + 1
+      → SomeCount (rowOf table (start .args .budget + 1) i) (at (weights start) i) (at (values start) i) c (rowOf table (start .args .budget + 1) (suc i) c)
+  unfolding jobOf labels
+  some-count =
+      some-back (sort start) (job start) (limitOf (numberOf (sort start)) (copies start)) (start .args .budget + 1) table
+      (λ i x h. limit-few (sort start) (job start) i x (below start)) (λ i x h. limit-may (sort start) (job start) i x (below start)) filled
+
+-- what the call of `way_back` leaves
+module _ (w : tie.After-way-back) where
+  abbrev after-fill : tie.After-fill
+  after-fill = w .before .before .before .before .before
+
+  abbrev found : List ℕ
+  found = w .way-back .last .1 .1 .1 .1 .1 .1 .0
+
+  way : let s = start after-fill in WayBack (rowOf (table after-fill) (s .args .budget + 1)) (weights s) (values s) (length (weights s)) (s .args .budget) 0 (w .way-back .result) found
+  way = rw (table-front after-fill, add-sub-cancel) at (w .way-back .ensures)
+
+list-length-requires : tie.Need-list-length-requires
+list-length-requires c κs = search needs
+
+add-width : tie.Need-add-width
+add-width c = search needs
+
+add-needed : tie.Need-add-needed
+add-needed c = omega (arith, picks-enough c, at-start c .good)
+
+mul-needed : tie.Need-mul-needed
+mul-needed c = omega (arith, cells-enough c, at-start c .good)
+
+slice-relend-prefix-fill : tie.Need-slice-relend-prefix-fill
+slice-relend-prefix-fill c = cells-enough c
+
+slice-aggregate-fill : tie.Need-slice-aggregate-fill
+slice-aggregate-fill c = sym (cells-long (c .before))
+
+fill-requires : tie.Need-fill-requires
+fill-requires c κs = let s = at-start (c .before) in (bounds s, (copied s, sym (needed-is (c .before)) ∙ sym (cells-long (c .before))))
+
+slice-reshare-prefix-way-back : tie.Need-slice-reshare-prefix-way-back
+slice-reshare-prefix-way-back c = let f = c .before .before in omega (arith, table-long f, length-append (table f) (drop (needed (listed f)) (start f .args .cells .now)))
+
+slice-aggregate-way-back : tie.Need-slice-aggregate-way-back
+slice-aggregate-way-back c = let f = c .before .before .before in sym (table-long f) ∙ ap length (sym (table-front f))
+
+slice-relend-prefix-way-back : tie.Need-slice-relend-prefix-way-back
+slice-relend-prefix-way-back c = picks-enough (listed (c .before .before .before))
+
+slice-aggregate-way-back-2 : tie.Need-slice-aggregate-way-back-2
+slice-aggregate-way-back-2 c = let l = listed (c .before .before .before .before) in l .list-length .ensures ∙ sym (picks-long l)
+
+way-back-requires : tie.Need-way-back-requires
+way-back-requires c κs =
+    let f = c .before .before .before .before in
+    rw (table-front f) (bounds (start f), ((sym (needed-is (listed f)) ∙ sym (table-long f), sym (picks-long (listed f))), some-count f))
+
+sub-t15 : tie.Need-sub-t15
+sub-t15 c = search needs
+
+mul-t23 : tie.Need-mul-t23
+mul-t23 c = let l = listed (after-fill (c .before .before)) in omega (arith, cells-enough l, at-start l .good)
+
+slice-read-t25 : tie.Need-slice-read-t25
+slice-read-t25 c = let f = after-fill (c .before .before .before) in let s = start f in omega (arith, table-long f, needed-is (listed f), one-row-more (length (weights s)) (s .args .budget + 1), length-append (table f) (drop (needed (listed f)) (s .args .cells .now)))
+
+cast-t26 : tie.Need-cast-t26
+unfolding mostBudget
+cast-t26 c = let w = c .before .before .before in omega (arith, way-within (way w) .1, bounds (start (after-fill w)) .narrow)
+
+sub-t27 : tie.Need-sub-t27
+sub-t27 c = way-within (way (c .before .before .before)) .1
+
+same-length : tie.Need-same-length
+same-length c = search needs
+
+same-length-2 : tie.Need-same-length-2
+same-length-2 c = search needs
+
+returns : tie.Need-returns
+unfolding jobOf labels cellCount
+returns c =
+    let w = c .before .before .before in
+    let f = after-fill w in
+    let l = listed f in
+    let s = start f in
+    let a = s .args in
+    let rest = drop (needed l) (a .cells .now) in
+    let more = one-row-more (length (weights s)) (a .budget + 1) in
+    let last : at (table f ++ rest) (needed l - 1) ≡ at (table f) (length (weights s) * (a .budget + 1) + a .budget) =
+    ap (at (table f ++ rest)) (omega (arith, needed-is l, more))
+    ∙ List·getD-append (table f) rest 0 (length (weights s) * (a .budget + 1) + a .budget) (omega (arith, table-long f, needed-is l, more)) in
+    packs-full (sort s) (job s) (a .cells .now) (a .picks .now) (table f) (found w) (w .way-back .result) (below s) (s .pre .0 .accepted) (table-long f ∙ needed-is l) (filled f) (way w)
+    (needed l) (l .list-length .result) _ (needed-is l) (l .list-length .ensures) last
+
+pub full-table-spec : {M : Type 1} → statement M
+full-table-spec =
+    tie.close
+    (tie.spec
+    list-length-requires
+    add-width
+    add-needed
+    mul-needed
+    slice-relend-prefix-fill
+    slice-aggregate-fill
+    fill-requires
+    slice-reshare-prefix-way-back
+    slice-aggregate-way-back
+    slice-relend-prefix-way-back
+    slice-aggregate-way-back-2
+    way-back-requires
+    sub-t15
+    mul-t23
+    slice-read-t25
+    cast-t26
+    sub-t27
+    same-length
+    same-length-2
+    returns)

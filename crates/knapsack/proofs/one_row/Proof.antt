@@ -1,0 +1,162 @@
+use mathlib.Core.Path.{_≡_, refl, sym, ap, _∙_}
+use Prim.Native.Nat.{ℕ, suc, _+_, _-_, _*_, _≤_, _<_}
+use native.Mathlib.Nat.{add-sub-cancel}
+use native.Mathlib.Omega.{arith}
+use mathlib.Core.List.{List, [], _∷_, _++_}
+use lib.ListN.{length, drop, take, length-append, List·getD-append}
+use lib.Seq.{length-take-le, take-at}
+use borrow.Author.Needs.{needs}
+use Rattle.meaning.specs.Lists.{at}
+use Rattle.meaning.specs.Job.{Job, jobOf, free, labels}
+use Rattle.meaning.specs.Lent.{roomFor, roomOf}
+use Rattle.meaning.specs.Refusals.{mostBudget}
+use Rattle.numbers.specs.Handed.{handed}
+use Rattle.knapsack.specs.Tables.{Bounded, Climbed}
+use Rattle.knapsack.specs.Ways.{WayAlong}
+use Rattle.knapsack.proofs.FreeRow.{climbed-low, along-within}
+use Rattle.knapsack.proofs.Doors.{Ready, ready, bounded, packs-free}
+use borrow.Author.Needs.{needs}
+use Rattle.knapsack.proofs.one_row.Statement.{statement}
+use Rattle.knapsack.proofs.one_row.Tie as tie
+
+-- what the job keeps
+module _ (s : tie.Start) where
+  abbrev job : Job
+  job = jobOf 3 (s .args .budget ∷ []) (handed (s .args .weights .now) (s .args .wbytes .now)) (handed (s .args .values .now) (s .args .vbytes .now)) []
+
+  record Kept : Type 0 where
+    cells-room : s .args .budget + 1 ≤ length (s .args .cells .now)
+    picks-room : length (handed (s .args .weights .now) (s .args .wbytes .now)) ≤ length (s .args .picks .now)
+    bounds : Bounded (s .args .budget + 1) (handed (s .args .weights .now) (s .args .wbytes .now)) (handed (s .args .values .now) (s .args .vbytes .now))
+
+  ok : Kept
+  unfolding jobOf labels roomFor roomOf
+  ok = let r = ready (s .pre) in record { cells-room = r .cells-room; picks-room = r .picks-room; bounds = bounded free job (r .valid) }
+
+-- what the call of `fill_row` leaves
+module _ (f : tie.After-fill-row) where
+  abbrev start : tie.Start
+  start = f .before .before .before .before .before .before .before .before .before
+
+  abbrev row : List ℕ
+  row = f .fill-row .last .1 .1 .1 .1 .0
+
+  row-long : length row ≡ start .args .budget + 1
+  row-long = f .fill-row .kept .1 .1 .1 .1 .0 ∙ length-take-le (start .args .budget + 1) (start .args .cells .now) (ok start .cells-room)
+
+  -- the first cells of the slice are the row
+  row-front : take (start .args .budget + 1) (row ++ drop (start .args .budget + 1) (start .args .cells .now)) ≡ row
+  row-front = take-at row (drop (start .args .budget + 1) (start .args .cells .now)) (start .args .budget + 1) row-long
+
+  labelled : f .before .before .list-length .result ≡ length (handed (start .args .weights .now) (start .args .wbytes .now))
+  labelled = f .before .before .list-length .ensures
+
+  row-climbed : Climbed (handed (start .args .weights .now) (start .args .wbytes .now)) (handed (start .args .values .now) (start .args .vbytes .now)) (start .args .budget + 1) (length (handed (start .args .weights .now) (start .args .wbytes .now))) row
+  row-climbed = rw (length-take-le (start .args .budget + 1) (start .args .cells .now) (ok start .cells-room)) at (f .fill-row .ensures)
+
+  -- and the first picks are one for each label
+  picks-long : length (take (f .before .before .list-length .result) (start .args .picks .now)) ≡ length (handed (start .args .weights .now) (start .args .wbytes .now))
+  picks-long = length-take-le (f .before .before .list-length .result) (start .args .picks .now) (omega (arith, labelled, ok start .picks-room)) ∙ labelled
+
+-- what the call of `way_along` leaves
+module _ (w : tie.After-way-along) where
+  abbrev filled : tie.After-fill-row
+  filled = w .before .before .before .before .before
+
+  abbrev found : List ℕ
+  found = w .way-along .last .1 .1 .1 .1 .1 .0
+
+  way : let a = start filled .args in WayAlong (at (row filled)) (handed (a .weights .now) (a .wbytes .now)) (handed (a .values .now) (a .vbytes .now)) (a .budget) (length (handed (a .weights .now) (a .wbytes .now))) (w .way-along .result) 0 found
+  way = rw (row-front filled, row-long filled, add-sub-cancel, picks-long filled) at (w .way-along .ensures)
+
+list-length-requires : tie.Need-list-length-requires
+list-length-requires c κs = search needs
+
+add-width : tie.Need-add-width
+add-width c = search needs
+
+slice-relend-prefix-fill-row : tie.Need-slice-relend-prefix-fill-row
+slice-relend-prefix-fill-row c = ok (c .before .before .before .before .before .before .before) .cells-room
+
+slice-aggregate-fill-row : tie.Need-slice-aggregate-fill-row
+slice-aggregate-fill-row c = let s = c .before .before .before .before .before .before .before .before in sym (length-take-le (s .args .budget + 1) (s .args .cells .now) (ok s .cells-room))
+
+fill-row-requires : tie.Need-fill-row-requires
+fill-row-requires c κs = let s = c .before .before .before .before .before .before .before .before in rw (length-take-le (s .args .budget + 1) (s .args .cells .now) (ok s .cells-room)) (ok s .bounds)
+
+slice-reshare-prefix-way-along : tie.Need-slice-reshare-prefix-way-along
+slice-reshare-prefix-way-along c = let f = c .before .before in omega (arith, row-long f, length-append (row f) (drop (start f .args .budget + 1) (start f .args .cells .now)))
+
+slice-aggregate-way-along : tie.Need-slice-aggregate-way-along
+slice-aggregate-way-along c = let f = c .before .before .before in sym (row-long f) ∙ ap length (sym (row-front f))
+
+slice-relend-prefix-way-along : tie.Need-slice-relend-prefix-way-along
+slice-relend-prefix-way-along c = let f = c .before .before .before in omega (arith, labelled f, ok (start f) .picks-room)
+
+slice-aggregate-way-along-2 : tie.Need-slice-aggregate-way-along-2
+slice-aggregate-way-along-2 c = let f = c .before .before .before .before in labelled f ∙ sym (picks-long f)
+
+way-along-requires : tie.Need-way-along-requires
+way-along-requires c κs =
+    let f = c .before .before .before .before in
+    let s = start f in
+    let a = s .args in
+    let ws = handed (a .weights .now) (a .wbytes .now) in
+    let vs = handed (a .values .now) (a .vbytes .now) in
+    rw (row-front f, row-long f) (ok s .bounds, (climbed-low ws vs (a .budget + 1) (length ws) (row f) (ok s .bounds) (omega arith) (row-climbed f), sym (picks-long f)))
+
+sub-t11 : tie.Need-sub-t11
+sub-t11 c = search needs
+
+mul-t19 : tie.Need-mul-t19
+mul-t19 c = search needs
+
+slice-read-t21 : tie.Need-slice-read-t21
+slice-read-t21 c = let f = c .before .before .before .before .before .before .before .before in omega (arith, row-long f, length-append (row f) (drop (start f .args .budget + 1) (start f .args .cells .now)))
+
+cast-t22 : tie.Need-cast-t22
+unfolding mostBudget
+cast-t22 c = let w = c .before .before .before in omega (arith, along-within (way w), ok (start (filled w)) .bounds .narrow)
+
+sub-t23 : tie.Need-sub-t23
+sub-t23 c = let w = c .before .before .before in along-within (way w)
+
+same-length : tie.Need-same-length
+same-length c = search needs
+
+same-length-2 : tie.Need-same-length-2
+same-length-2 c = search needs
+
+returns : tie.Need-returns
+unfolding jobOf labels
+returns c =
+    let w = c .before .before .before in
+    let f = filled w in
+    let s = start f in
+    let a = s .args in
+    let last : at (row f ++ drop (a .budget + 1) (a .cells .now)) (a .budget + 1 - 1) ≡ at (row f) (a .budget) =
+    ap (at (row f ++ drop (a .budget + 1) (a .cells .now))) (add-sub-cancel (a .budget) 1) ∙ List·getD-append (row f) (drop (a .budget + 1) (a .cells .now)) 0 (a .budget) (omega (arith, row-long f)) in
+    packs-free (job s) (a .cells .now) (a .picks .now) (row f) (found w) (w .way-along .result) (s .pre) (row-long f) (row-climbed f) (way w) _ _ (labelled f) last
+
+pub one-row-spec : {M : Type 1} → statement M
+one-row-spec =
+    tie.close
+    (tie.spec
+    list-length-requires
+    add-width
+    slice-relend-prefix-fill-row
+    slice-aggregate-fill-row
+    fill-row-requires
+    slice-reshare-prefix-way-along
+    slice-aggregate-way-along
+    slice-relend-prefix-way-along
+    slice-aggregate-way-along-2
+    way-along-requires
+    sub-t11
+    mul-t19
+    slice-read-t21
+    cast-t22
+    sub-t23
+    same-length
+    same-length-2
+    returns)

@@ -1,0 +1,61 @@
+use mathlib.Core.Path.{_≡_}
+use mathlib.Core.List.{[], _∷_}
+use borrow.Author.Needs.{needs}
+use Rattle.meaning.specs.Job.{Job, jobOf, free}
+use Rattle.numbers.specs.Handed.{handed}
+use Rattle.knapsack.specs.Doors.{Accepted}
+use Rattle.knapsack.proofs.Doors.{any-below, job-free}
+use Rattle.knapsack.proofs.solve.Statement.{statement}
+use Rattle.knapsack.proofs.solve.Tie as tie
+
+abbrev job : tie.Start → Job
+job s =
+    jobOf (s .args .kind) (s .args .budget ∷ []) (handed (s .args .weights .now) (s .args .wbytes .now)) (handed (s .args .values .now) (s .args .vbytes .now)) (handed (s .args .copies .now) (s .args .cbytes .now))
+
+-- where the kind is 3, the job is one without copies
+three : (c : tie.Then1) → let s = c .before .before .before .before .before .before .before .before .before in let bare = jobOf 3 (s .args .budget ∷ []) (handed (s .args .weights .now) (s .args .wbytes .now)) (handed (s .args .values .now) (s .args .vbytes .now)) [] in
+    (job s ≡ bare) × Accepted free bare (s .args .cells .now) (s .args .picks .now)
+three c =
+    let s = c .before .before .before .before .before .before .before .before .before in
+    job-free (s .args .kind) (s .args .budget) (handed (s .args .weights .now) (s .args .wbytes .now)) (handed (s .args .values .now) (s .args .vbytes .now)) (handed (s .args .copies .now) (s .args .cbytes .now)) (s .args .cells .now) (s .args .picks .now) (c .if1 .taken) (s .pre)
+
+one-row-requires : tie.Need-one-row-requires
+one-row-requires c κs = three (c .before .before) .1
+
+same-length : tie.Need-same-length
+same-length c = search needs
+
+same-length-2 : tie.Need-same-length-2
+same-length-2 c = search needs
+
+returns : tie.Need-returns
+returns c = let row = c .before .before .before .before in rw (three (row .before .before .before) .0) (row .one-row .ensures)
+
+full-table-requires : tie.Need-full-table-requires
+unfolding jobOf
+full-table-requires c κs =
+    let other = c .before .before in
+    let s = other .before .before .before .before .before .before .before .before .before in
+    (s .pre, any-below (job s) (s .args .cells .now) (s .args .picks .now) (other .if1 .left) (s .pre))
+
+same-length-3 : tie.Need-same-length-3
+same-length-3 c = search needs
+
+same-length-4 : tie.Need-same-length-4
+same-length-4 c = search needs
+
+returns-2 : tie.Need-returns-2
+returns-2 c = c .before .before .before .before .full-table .ensures
+
+pub solve-spec : {M : Type 1} → statement M
+solve-spec =
+    tie.close
+    (tie.spec
+    one-row-requires
+    same-length
+    same-length-2
+    returns
+    full-table-requires
+    same-length-3
+    same-length-4
+    returns-2)
