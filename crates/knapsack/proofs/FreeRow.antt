@@ -4,11 +4,7 @@ use mathlib.Core.Path.{_≡_, refl, sym, ap, _∙_, subst}
 use Prim.Native.Nat.{ℕ, zero, suc, _+_, _-_, _*_, _≤_, _<_}
 use native.Mathlib.Nat.{le-trans, le-of-eq, mul-suc, mul-zero, add-zero}
 use native.Mathlib.Omega.{arith}
-use mathlib.Core.Bool.{true, false, _&&_}
 use mathlib.Core.List.{List, [], _∷_, _++_, append-nil}
-use lib.Dec.{T, leb, eqb}
-use mir.Facts.{and-yes, eqb-yes, leb-yes}
-use borrow.Author.Tests.{le-leb, eq-eqb}
 use lib.ListN.{length, drop, set, length-append, drop-of-length-le, length-set}
 use lib.Seq.{append-snoc, set-set, set-getD, ext-getD}
 use Rattle.meaning.specs.Lists.{at, total}
@@ -21,11 +17,12 @@ use Rattle.meaning.proofs.Steps.{best-none, none-better}
 use Rattle.meaning.proofs.Free.{free-more, free-fewer}
 use Rattle.meaning.proofs.Greedy.{first-is, greedy-step}
 use Rattle.meaning.proofs.OneOfEach.{only-choice}
-use Rattle.knapsack.specs.Rows.{ToppedRow, Low}
+use Rattle.rows.specs.Rows.{Low}
 use Rattle.knapsack.specs.Tables.{Bounded, Climbed, level, climb}
-use Rattle.knapsack.specs.Ways.{leadsOn, WayAlong, start, taken, passed}
-use Rattle.knapsack.proofs.Stores.{by, stored-first}
-use Rattle.knapsack.proofs.Counts.{topped-any, topped-low, topped-best}
+use Rattle.knapsack.specs.Ways.{WayAlong, start, taken, passed}
+use Rattle.rows.proofs.Stores.{by, stored-first}
+use Rattle.rows.proofs.LeadsOn.{leads-true, leads-false}
+use Rattle.rows.proofs.Counts.{topped-any, topped-low, topped-best}
 
 -- ---- the row as it is filled
 
@@ -47,20 +44,6 @@ climbed-low ws vs width (suc i) next b h (climb {row = row} d up) c l =
     (topped-any (at row) (at next) (at ws i) (at vs i) width (b .heavy i h) up) c l
 
 -- ---- the way along
-
-pub leads-true : (row : ℕ → ℕ) (w v c : ℕ) → leadsOn row w v c ≡ true → (w ≤ c) × (row (c - w) + v ≡ row c)
-unfolding leadsOn
-leads-true row w v c e =
-    let both : T (leb w c && eqb (row (c - w) + v) (row c)) = rw e tt in
-    let (light, on) = and-yes (leb w c) (eqb (row (c - w) + v) (row c)) both in
-    (leb-yes light, eqb-yes on)
-
-leads-false : (row : ℕ → ℕ) (w v c : ℕ) → leadsOn row w v c ≡ false → w ≤ c → ¬ (row (c - w) + v ≡ row c)
-unfolding leadsOn
-leads-false row w v c e light on =
-    let both : true ≡ false = rw (le-leb w c light, eq-eqb (row (c - w) + v) (row c) on) at e in
-    let z : _≡_ {A = ℕ} 0 1 = cc in
-    omega arith
 
 -- no more is left than there was
 pub along-within : {row : ℕ → ℕ} {ws vs : List ℕ} {budget i c x : ℕ} {found : List ℕ} → WayAlong row ws vs budget i c x found → c ≤ budget

@@ -17,11 +17,11 @@ use Rattle.meaning.proofs.Totals.{total-with}
 use Rattle.meaning.proofs.OneOfEach.{best-value-unique}
 use Rattle.meaning.proofs.Steps.{best-none}
 use Rattle.meaning.proofs.Trace.{trace-step, picks-worth}
-use Rattle.knapsack.specs.Rows.{Worth, SomeCount, Topped, ToppedRow, Least, Stored, NextRow, Low}
+use Rattle.rows.specs.Rows.{Worth, SomeCount, Topped, ToppedRow, Least, Stored, NextRow, Low}
 use Rattle.knapsack.specs.Tables.{Bounded, rowOf, Filled}
 use Rattle.knapsack.specs.Ways.{WayBack, begin, back}
-use Rattle.knapsack.proofs.Stores.{by, stored-first}
-use Rattle.knapsack.proofs.Counts.{topped-same, topped-may, topped-low, topped-best}
+use Rattle.rows.proofs.Stores.{by, stored-first}
+use Rattle.rows.proofs.Counts.{topped-same, topped-may, topped-low, topped-best}
 
 -- ---- the table as it is filled
 

@@ -1,5 +1,4 @@
 -- The definitions that the contracts of this crate cite beside those of `meaning`.
-pub mod Rows
 pub mod Tables
 pub mod Ways
 pub mod Doors

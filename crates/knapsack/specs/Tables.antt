@@ -7,7 +7,7 @@ use lib.Dec.{eqb}
 use lib.ListN.{length}
 use Rattle.meaning.specs.Lists.{at, if}
 use Rattle.meaning.specs.Refusals.{mostBudget, mostValue}
-use Rattle.knapsack.specs.Rows.{ToppedRow, Raised}
+use Rattle.rows.specs.Rows.{ToppedRow, Raised}
 
 -- what the lists and the width of a row keep in kinds 1 to 3
 pub record Bounded (width : ℕ) (weights values : List ℕ) : Type 0 where

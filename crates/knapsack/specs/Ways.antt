@@ -2,12 +2,11 @@
 -- Assumes nothing.
 use mathlib.Core.Path.{_≡_}
 use Prim.Native.Nat.{ℕ, suc, _+_, _-_, _*_, _<_}
-use mathlib.Core.Bool.{Bool, true, false, _&&_}
+use mathlib.Core.Bool.{true, false}
 use mathlib.Core.List.{List, [], _∷_, _++_}
-use lib.Dec.{leb, eqb}
 use lib.ListN.{length}
 use Rattle.meaning.specs.Lists.{at}
-use Rattle.knapsack.specs.Rows.{Least}
+use Rattle.rows.specs.Rows.{Least, leadsOn}
 
 -- kinds 1 and 2: the way back through the rows, from row n at the budget. It has come to row i with budget c left, and `found` are the
 -- counts of the labels from i on, each the least that its row leaves
@@ -16,10 +15,6 @@ pub data WayBack (row : ℕ → ℕ → ℕ) (weights values : List ℕ) (n budg
   back : {i c x rest : ℕ} {found : List ℕ} → WayBack row weights values n budget (suc i) c found
       → Least (row i) (at weights i) (at values i) c (row (suc i) c) x → rest + at weights i * x ≡ c
       → WayBack row weights values n budget i rest (x ∷ found)
-
--- kind 3: one of a label of weight w and value v leads on from budget c, where the row is right with it
-unfoldable pub leadsOn : (ℕ → ℕ) → ℕ → ℕ → ℕ → Bool
-leadsOn row w v c = leb w c && eqb (row (c - w) + v) (row c)
 
 -- kind 3: the way along the labels, from label 0 at the budget. It has come to label i with budget c left and x of label i taken, and
 -- `found` are the counts of the labels before i. One more of label i is taken wherever it leads on

@@ -7,7 +7,7 @@ use lib.ListN.{length}
 use borrow.Author.Needs.{needs}
 use Rattle.meaning.specs.Lists.{at}
 use Rattle.numbers.specs.Handed.{handed}
-use Rattle.knapsack.specs.Rows.{Low}
+use Rattle.rows.specs.Rows.{Low}
 use Rattle.knapsack.specs.Tables.{Climbed, level, climb}
 use Rattle.knapsack.proofs.FreeRow.{climbed-low}
 use Rattle.knapsack.proofs.fill_row.Statement.{statement}

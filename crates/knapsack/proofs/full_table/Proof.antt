@@ -11,7 +11,7 @@ use Rattle.meaning.specs.Job.{Job, Sort, jobOf, labels}
 use Rattle.meaning.specs.Lent.{cellCount}
 use Rattle.meaning.specs.Refusals.{mostBudget}
 use Rattle.numbers.specs.Handed.{handed}
-use Rattle.knapsack.specs.Rows.{SomeCount}
+use Rattle.rows.specs.Rows.{SomeCount}
 use Rattle.knapsack.specs.Tables.{Bounded, limitOf, rowOf, Filled}
 use Rattle.knapsack.specs.Ways.{WayBack}
 use Rattle.knapsack.proofs.FullRows.{one-row-more, some-back, way-within}

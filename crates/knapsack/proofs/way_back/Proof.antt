@@ -10,7 +10,7 @@ use Rattle.meaning.specs.Lists.{at}
 use Rattle.meaning.specs.Refusals.{mostBudget}
 use Rattle.numbers.specs.Handed.{handed}
 use lib.ListN.{drop, length-set}
-use Rattle.knapsack.specs.Rows.{Least}
+use Rattle.rows.specs.Rows.{Least}
 use Rattle.knapsack.specs.Tables.{Bounded, rowOf}
 use Rattle.knapsack.specs.Ways.{WayBack, begin, back}
 use Rattle.knapsack.proofs.way_back.Statement.{statement}

@@ -4,11 +4,11 @@ use Prim.Native.Nat.{_+_, _-_, _≤_, _<_}
 use native.Mathlib.Omega.{arith}
 use borrow.Author.Tests.{lt-leb, le-leb}
 use Rattle.meaning.specs.Refusals.{mostValue, mostBudget}
-use Rattle.knapsack.specs.Rows.{Low}
-use Rattle.knapsack.specs.Ways.{leadsOn}
+use Rattle.rows.specs.Rows.{Low}
+use Rattle.rows.specs.Rows.{leadsOn}
 use borrow.Author.Needs.{needs}
-use Rattle.knapsack.proofs.leads.Statement.{statement}
-use Rattle.knapsack.proofs.leads.Tie as tie
+use Rattle.rows.proofs.leads.Statement.{statement}
+use Rattle.rows.proofs.leads.Tie as tie
 
 returns : tie.Need-returns
 unfolding leadsOn

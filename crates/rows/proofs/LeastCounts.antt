@@ -4,8 +4,8 @@ use mathlib.Core.Path.{_≡_, sym, ap, _∙_}
 use Prim.Native.Nat.{ℕ, _+_, _-_, _*_, _≤_, _<_}
 use native.Mathlib.Nat.{mul-add, mul-le-mul-left, mul-le-mul-right, one-mul}
 use native.Mathlib.Omega.{arith}
-use Rattle.knapsack.specs.Rows.{Worth, SomeCount, Least}
-use Rattle.knapsack.proofs.Stores.{by}
+use Rattle.rows.specs.Rows.{Worth, SomeCount, Least}
+use Rattle.rows.proofs.Stores.{by}
 
 -- what is known where x of the label are not worth the goal yet
 pub record GoesOn (f : ℕ → ℕ) (w v c goal x left rest : ℕ) : Type 0 where

@@ -4,10 +4,10 @@ use native.Mathlib.Omega.{arith}
 use lib.ListN.{length, length-set}
 use borrow.Author.Needs.{needs}
 use Rattle.meaning.specs.Lists.{at}
-use Rattle.knapsack.specs.Rows.{Stored}
-use Rattle.knapsack.proofs.Stores.{stored-none, stored-up}
-use Rattle.knapsack.proofs.clear.Statement.{statement}
-use Rattle.knapsack.proofs.clear.Tie as tie
+use Rattle.rows.specs.Rows.{Stored}
+use Rattle.rows.proofs.Stores.{stored-none, stored-up}
+use Rattle.rows.proofs.clear.Statement.{statement}
+use Rattle.rows.proofs.clear.Tie as tie
 
 abbrev Inv-loop : tie.InvT-loop
 Inv-loop cells₀ width c₀ cells c = (c ≤ width) × (length cells ≡ length cells₀) × Stored cells₀ cells 0 0 c (λ k. 0)

@@ -1,6 +1,6 @@
 use native.Mathlib.Nat.{mul-add, mul-zero}
-use Rattle.knapsack.specs.Rows.{Worth}
-use Rattle.knapsack.proofs.LeastCounts.{found, GoesOn, goes-on}
+use Rattle.rows.specs.Rows.{Worth}
+use Rattle.rows.proofs.LeastCounts.{found, GoesOn, goes-on}
 use mathlib.Core.Path.{_≡_, refl, sym, ap, _∙_}
 use Prim.Native.Nat.{ℕ, suc, _+_, _-_, _*_, _≤_, _<_, min}
 use native.Mathlib.Omega.{arith}
@@ -8,8 +8,8 @@ use lib.ListN.{length}
 use borrow.Author.Needs.{needs}
 use Rattle.meaning.specs.Lists.{at}
 use Rattle.meaning.specs.Refusals.{mostBudget}
-use Rattle.knapsack.proofs.least_count.Statement.{statement}
-use Rattle.knapsack.proofs.least_count.Tie as tie
+use Rattle.rows.proofs.least_count.Statement.{statement}
+use Rattle.rows.proofs.least_count.Tie as tie
 
 abbrev Inv-loop : tie.InvT-loop
 Inv-loop cells from c w v goal x₀ left₀ rest₀ x left rest = (left + w * x ≡ c) × (rest + v * x ≡ goal) × ((y : ℕ) → y < x → ¬ Worth (λ d. at cells (from + d)) w v c y goal)

@@ -4,10 +4,10 @@ use native.Mathlib.Omega.{arith}
 use lib.ListN.{length, length-set}
 use borrow.Author.Needs.{needs}
 use Rattle.meaning.specs.Lists.{at}
-use Rattle.knapsack.specs.Rows.{Stored}
-use Rattle.knapsack.proofs.Stores.{stored-none, stored-up}
-use Rattle.knapsack.proofs.copy.Statement.{statement}
-use Rattle.knapsack.proofs.copy.Tie as tie
+use Rattle.rows.specs.Rows.{Stored}
+use Rattle.rows.proofs.Stores.{stored-none, stored-up}
+use Rattle.rows.proofs.copy.Statement.{statement}
+use Rattle.rows.proofs.copy.Tie as tie
 
 abbrev Inv-loop : tie.InvT-loop
 Inv-loop cells₀ from to count c₀ cells c = (c ≤ count) × (length cells ≡ length cells₀) × Stored cells₀ cells to 0 c (λ k. at cells₀ (from + k))

@@ -6,11 +6,11 @@ use borrow.Author.Needs.{needs}
 use Rattle.meaning.specs.Lists.{at}
 use Rattle.meaning.specs.Refusals.{mostValue, mostBudget}
 use borrow.Author.Needs.{needs}
-use Rattle.knapsack.specs.Rows.{Low}
-use Rattle.knapsack.proofs.Parts.{partOf, part-long}
-use Rattle.knapsack.proofs.NextRow.{most-light, start-within, part-low, next-made}
-use Rattle.knapsack.proofs.next_row.Statement.{statement}
-use Rattle.knapsack.proofs.next_row.Tie as tie
+use Rattle.rows.specs.Rows.{Low}
+use Rattle.rows.proofs.Parts.{partOf, part-long}
+use Rattle.rows.proofs.NextRow.{most-light, start-within, part-low, next-made}
+use Rattle.rows.proofs.next_row.Statement.{statement}
+use Rattle.rows.proofs.next_row.Tie as tie
 
 add-to : tie.Need-add-to
 add-to c = search needs

@@ -9,7 +9,7 @@ use lib.ListN.{length, set, drop}
 use lib.Seq.{getD-set-same, getD-set-other, drop-cons, drop-set-lt, lt-length-set}
 use Rattle.meaning.specs.Lists.{at}
 use Rattle.meaning.specs.Refusals.{mostValue}
-use Rattle.knapsack.specs.Rows.{Raised, Stored, Low}
+use Rattle.rows.specs.Rows.{Raised, Stored, Low}
 
 -- by cases, a below b or not; the numbers come first, so that what each case is handed is known
 pub by : {C : Type 0} (a b : ℕ) → (a < b → C) → (b ≤ a → C) → C

@@ -2,7 +2,9 @@
 -- Assumes nothing.
 use mathlib.Core.Path.{_≡_}
 use Prim.Native.Nat.{ℕ, _+_, _-_, _*_, _≤_, _<_, max, min}
+use mathlib.Core.Bool.{Bool, _&&_}
 use mathlib.Core.List.{List}
+use lib.Dec.{leb, eqb}
 use Rattle.meaning.specs.Lists.{at}
 use Rattle.meaning.specs.Refusals.{mostValue}
 
@@ -57,3 +59,7 @@ pub record NextRow (s t : List ℕ) (from width w v limit : ℕ) : Type 0 where
 -- no cell is more than the greatest value for each unit of its budget, so that a label more still fits 32 bits
 unfoldable pub Low : (ℕ → ℕ) → ℕ → Type 0
 Low f width = (c : ℕ) → c < width → f c ≤ mostValue * c
+
+-- one of the label leads on from budget c, where the row is right with it
+unfoldable pub leadsOn : (ℕ → ℕ) → ℕ → ℕ → ℕ → Bool
+leadsOn row w v c = leb w c && eqb (row (c - w) + v) (row c)

@@ -4,10 +4,10 @@ use native.Mathlib.Omega.{arith}
 use lib.ListN.{length, length-set}
 use borrow.Author.Needs.{needs}
 use Rattle.meaning.specs.Lists.{at}
-use Rattle.knapsack.specs.Rows.{Stored}
-use Rattle.knapsack.proofs.Stores.{stored-none, stored-up}
-use Rattle.knapsack.proofs.raise.Statement.{statement}
-use Rattle.knapsack.proofs.raise.Tie as tie
+use Rattle.rows.specs.Rows.{Stored}
+use Rattle.rows.proofs.Stores.{stored-none, stored-up}
+use Rattle.rows.proofs.raise.Statement.{statement}
+use Rattle.rows.proofs.raise.Tie as tie
 
 abbrev Inv-loop : tie.InvT-loop
 Inv-loop cells₀ from to width w v c₀ cells c = (w ≤ c) × (c ≤ width) × (length cells ≡ length cells₀) × Stored cells₀ cells to w c (λ k. max (at cells₀ (from + k)) (at cells₀ (from + (k - w)) + v))

@@ -9,8 +9,8 @@ use Rattle.meaning.specs.Job.{Job, Sort}
 use Rattle.meaning.specs.Refusals.{mostValue}
 use Rattle.meaning.specs.Knapsacks.{MayPick, BestValue}
 use Rattle.meaning.proofs.Steps.{best-step}
-use Rattle.knapsack.specs.Rows.{Worth, Topped, ToppedRow, Raised, Low}
-use Rattle.knapsack.proofs.Stores.{by}
+use Rattle.rows.specs.Rows.{Worth, Topped, ToppedRow, Raised, Low}
+use Rattle.rows.proofs.Stores.{by}
 
 -- x times w, with s of the x apart
 pub apart : (w x s : ℕ) → s ≤ x → w * x ≡ w * (x - s) + w * s

@@ -5,10 +5,10 @@ use lib.ListN.{length}
 use borrow.Author.Needs.{needs}
 use Rattle.meaning.specs.Lists.{at}
 use Rattle.meaning.specs.Refusals.{mostValue, mostBudget}
-use Rattle.knapsack.specs.Rows.{ToppedRow, Repeated, Low}
-use Rattle.knapsack.proofs.Counts.{topped-part, PartFits, part-fits, raised-low}
-use Rattle.knapsack.proofs.add_parts.Statement.{statement}
-use Rattle.knapsack.proofs.add_parts.Tie as tie
+use Rattle.rows.specs.Rows.{ToppedRow, Repeated, Low}
+use Rattle.rows.proofs.Counts.{topped-part, PartFits, part-fits, raised-low}
+use Rattle.rows.proofs.add_parts.Statement.{statement}
+use Rattle.rows.proofs.add_parts.Tie as tie
 
 abbrev Inv-loop : tie.InvT-loop
 Inv-loop row₀ w v most m₀ row m =

@@ -1,0 +1,170 @@
+// A row of cells by budget, and what one label of weight w and value v makes of it. Nothing here knows of jobs.
+ghost use mathlib.Core.Path.{_≡_};
+ghost use Prim.Native.Nat.{ℕ, _+_, _-_, _*_, _≤_, _<_, max, min};
+ghost use lib.ListN.{length};
+ghost use Rattle.meaning.specs.Lists.{at};
+ghost use Rattle.meaning.specs.Refusals.{mostBudget, mostValue};
+ghost use Rattle.rows.specs.Rows.{SomeCount, Least, Raised, Stored, Low, Repeated, NextRow, leadsOn};
+
+// The lesser of two numbers.
+fn lesser(a: u32, b: u32) -> u32
+    ensures { λ r. ⌜ r ≡ min a b ⌝ }
+{
+    if a < b { a } else { b }
+}
+
+// The greater of two numbers.
+fn greater(a: u32, b: u32) -> u32
+    ensures { λ r. ⌜ r ≡ max a b ⌝ }
+{
+    if a < b { b } else { a }
+}
+
+// The row of no labels: zeros.
+pub fn clear(cells: &mut [u32], width: usize)
+    requires { ⌜ width ≤ length (now cells) ⌝ }
+    ensures { λ _. ⌜ Stored (now (cells .entry)) (now (cells .exit)) 0 0 width (λ c. 0) ⌝ }
+{
+    let mut c = 0;
+    while c < width {
+        cells[c] = 0;
+        c += 1;
+    }
+}
+
+// ---- a row made of the row before it, in a table
+
+// Copies the first cells of the row at `from` to the row at `to`.
+fn copy(cells: &mut [u32], from: usize, to: usize, count: usize)
+    requires { ⌜ (from + count ≤ to) × (to + count ≤ length (now cells)) ⌝ }
+    ensures { λ _. ⌜ Stored (now (cells .entry)) (now (cells .exit)) to 0 count (λ c. at (now (cells .entry)) (from + c)) ⌝ }
+{
+    let mut c = 0;
+    while c < count {
+        cells[to + c] = cells[from + c];
+        c += 1;
+    }
+}
+
+// One of a label of weight w and value v over the row at `from`, into the row at `to`, for the budgets that hold it. There is no test
+// of the weight in the loop and no store on a condition, so that it runs in vectors.
+fn raise(cells: &mut [u32], from: usize, to: usize, width: usize, w: usize, v: u32)
+    requires { ⌜ (w ≤ width) × ((from + width ≤ to) × (to + width ≤ length (now cells))) ⌝ }
+    requires { ⌜ ((c : ℕ) → c + w < width → at (now cells) (from + c) + v < 4_294_967_296) ⌝ }
+    ensures { λ _. ⌜ Stored (now (cells .entry)) (now (cells .exit)) to w width (λ c. max (at (now (cells .entry)) (from + c)) (at (now (cells .entry)) (from + (c - w)) + v)) ⌝ }
+{
+    let mut c = w;
+    while c < width {
+        let without = cells[from + c];
+        let with = cells[from + c - w] + v;
+        cells[to + c] = greater(without, with);
+        c += 1;
+    }
+}
+
+// ---- a row in place
+
+// One more of a label of weight w and value v in a row, in place: from the greatest budget down, so that it is added once.
+fn raise_down(row: &mut [u32], w: u32, v: u32)
+    requires { ⌜ ((c : ℕ) → c + w < length (now row) → at (now row) c + v < 4_294_967_296) ⌝ }
+    ensures { λ _. ⌜ Raised (at (now (row .entry))) (at (now (row .entry))) (at (now (row .exit))) w v (length (now (row .entry))) ⌝ }
+{
+    let w = w as usize;
+    let mut c = row.len();
+    while w < c {
+        c -= 1;
+        let without = row[c];
+        let with = row[c - w] + v;
+        row[c] = greater(without, with);
+    }
+}
+
+// A row that holds up to one of a label is made to hold up to `most` of it, in parts as large as keep every count within reach: 1, 2, 4
+// and so on, and what is left.
+fn add_parts(row: &mut [u32], w: u32, v: u32, most: u32)
+    requires { ⌜ (1 ≤ w) × ((v ≤ mostValue) × ((length (now row) ≤ mostBudget + 1) × (w * most < length (now row)))) ⌝ }
+    requires { ⌜ Low (at (now row)) (length (now row)) ⌝ }
+    ensures { λ _. ⌜ Repeated (now (row .entry)) (now (row .exit)) w v (length (now (row .entry))) most ⌝ }
+{
+    let mut m = lesser(1, most);
+    while m < most {
+        let part = lesser(m + 1, most - m);
+        raise_down(row, w * part, v * part);
+        m += part;
+    }
+}
+
+// Any number of a label of weight w and value v in a row, in place: from the least budget up, so that it is added again and again.
+pub fn raise_up(row: &mut [u32], w: u32, v: u32)
+    requires { ⌜ (1 ≤ w) × ((v ≤ mostValue) × (length (now row) ≤ mostBudget + 1)) ⌝ }
+    requires { ⌜ Low (at (now row)) (length (now row)) ⌝ }
+    ensures { λ _. ⌜ Raised (at (now (row .entry))) (at (now (row .exit))) (at (now (row .exit))) w v (length (now (row .entry))) ⌝ }
+{
+    let w = w as usize;
+    let mut c = w;
+    while c < row.len() {
+        let without = row[c];
+        let with = row[c - w] + v;
+        row[c] = greater(without, with);
+        c += 1;
+    }
+}
+
+// ---- the next row of a table
+
+// From which budget on a row is raised: the weight, or the end of the row where none of the label may be picked.
+fn reach(width: usize, w: u32, most: u32) -> usize
+    ensures { λ r. ⌜ ((most ≡ 0) → r ≡ width) × ((0 < most) → r ≡ w) ⌝ }
+{
+    if most == 0 {
+        return width;
+    }
+    w as usize
+}
+
+// The row after the one at `from`, with up to `limit` of a label.
+pub fn next_row(cells: &mut [u32], from: usize, width: usize, w: u32, v: u32, limit: u32)
+    requires { ⌜ (0 < width) × ((width ≤ mostBudget + 1) × (from + width + width ≤ length (now cells))) ⌝ }
+    requires { ⌜ (1 ≤ w) × (v ≤ mostValue) ⌝ }
+    requires { ⌜ Low (λ c. at (now cells) (from + c)) width ⌝ }
+    ensures { λ _. ⌜ NextRow (now (cells .entry)) (now (cells .exit)) from width w v limit ⌝ }
+{
+    let to = from + width;
+    let most = lesser(limit, (width - 1) as u32 / w);
+    let start = reach(width, w, most);
+    copy(cells, from, to, start);
+    raise(cells, from, to, width, start, v);
+    add_parts(&mut cells[to..to + width], w, v, most);
+}
+
+// ---- what a row says of a count
+
+// The least count of a label of weight w and value v that is worth `goal` at budget c, over the row at `from`.
+pub fn least_count(cells: &[u32], from: usize, c: usize, w: u32, v: u32, goal: u32) -> u32
+    requires { ⌜ (1 ≤ w) × ((c ≤ mostBudget) × (from + c < length (now cells))) ⌝ }
+    requires { ⌜ SomeCount (λ d. at (now cells) (from + d)) w v c goal ⌝ }
+    ensures { λ r. ⌜ Least (λ d. at (now (cells .entry)) (from + d)) w v c goal r ⌝ }
+{
+    let mut x: u32 = 0;
+    let mut left = c;
+    let mut rest = goal;
+    while cells[from + left] != rest {
+        left -= w as usize;
+        rest -= v;
+        x += 1;
+    }
+    x
+}
+
+// Whether one of a label of weight w and value v leads on from budget c.
+pub fn leads(row: &[u32], w: u32, v: u32, c: usize) -> bool
+    requires { ⌜ (1 ≤ w) × ((v ≤ mostValue) × ((c < length (now row)) × (length (now row) ≤ mostBudget + 1))) ⌝ }
+    requires { ⌜ Low (at (now row)) (length (now row)) ⌝ }
+    ensures { λ r. ⌜ r ≡ leadsOn (at (now (row .entry))) w v c ⌝ }
+{
+    let w = w as usize;
+    if c < w {
+        return false;
+    }
+    row[c - w] + v == row[c]
+}
