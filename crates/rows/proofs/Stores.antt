@@ -9,7 +9,7 @@ use lib.ListN.{length, set, drop}
 use lib.Seq.{getD-set-same, getD-set-other, drop-cons, drop-set-lt, lt-length-set}
 use Rattle.meaning.specs.Lists.{at}
 use Rattle.meaning.specs.Refusals.{mostValue}
-use Rattle.rows.specs.Rows.{Raised, Stored, Low}
+use Rattle.rows.specs.Rows.{RaisedBetween, Stored, Low}
 
 -- by cases, a below b or not; the numbers come first, so that what each case is handed is known
 pub by : {C : Type 0} (a b : ℕ) → (a < b → C) → (b ≤ a → C) → C
@@ -56,32 +56,36 @@ module _ (s : List ℕ) (to lo hi : ℕ) (rule : ℕ → ℕ) where
       before = λ k l. at-other t place x k (omega arith) ∙ d .before k (omega arith);
     }
 
--- a row in place, up to budget c: what lies past it is as it was
-pub record RaisedTo (s t : List ℕ) (w v c : ℕ) : Type 0 where
-  pub raised : Raised (at s) (at t) (at t) w v c
-  pub past : (k : ℕ) → c ≤ k → at t k ≡ at s k
+-- ---- a row in place, from small budgets up
 
 module _ (s : List ℕ) (w v : ℕ) where
-  -- below the weight nothing is raised
-  pub raised-none : RaisedTo s s w v w
-  raised-none = record { raised = record { short = λ c l m. refl; long = λ c l m. absurd (omega arith) }; past = λ k l. refl }
+  pub between-none : (c : ℕ) → RaisedBetween s s w v c c
+  between-none c = record { long = λ k l h. absurd (omega arith); before = λ k l. refl; past = λ k l. refl }
 
   -- one cell more
-  pub raised-up : (t : List ℕ) (c x : ℕ) → c < length t → 1 ≤ w → w ≤ c → RaisedTo s t w v c → x ≡ max (at t c) (at t (c - w) + v)
-      → RaisedTo s (set t c x) w v (c + 1)
-  raised-up t c x inside pos h d e =
+  pub between-more : (t : List ℕ) (lo c x : ℕ) → c < length t → 1 ≤ w → w ≤ lo → lo ≤ c → RaisedBetween s t w v lo c → x ≡ max (at t c) (at t (c - w) + v)
+      → RaisedBetween s (set t c x) w v lo (c + 1)
+  between-more t lo c x inside pos light h d e =
       let same : (k : ℕ) → k < c → at (set t c x) k ≡ at t k = λ k l. at-other t c x k (omega arith) in
       record {
-        raised = record {
-          short = λ k l m. same k (omega arith) ∙ d .raised .short k (omega arith) m;
-          long = λ k l m. by k c
-              (λ b. omega (arith, same k b, same (k - w) (omega arith), d .raised .long k b m))
-              (λ b.
-              let here : k ≡ c = omega arith in
-              rw here (omega (arith, at-same t c x c inside refl, same (c - w) (omega arith), d .past c (omega arith))));
-        };
+        long = λ k l m. by k c
+            (λ b. omega (arith, same k b, same (k - w) (omega arith), d .long k l b))
+            (λ b.
+            let here : k ≡ c = omega arith in
+            rw here (omega (arith, at-same t c x c inside refl, same (c - w) (omega arith), d .past c (omega arith))));
+        before = λ k l. same k (omega arith) ∙ d .before k l;
         past = λ k l. at-other t c x k (omega arith) ∙ d .past k (omega arith);
       }
+
+  -- one stretch after another
+  pub between-on : (t u : List ℕ) (lo mid hi : ℕ) → 1 ≤ w → lo ≤ mid → mid ≤ hi → RaisedBetween s t w v lo mid → RaisedBetween t u w v mid hi → RaisedBetween s u w v lo hi
+  between-on t u lo mid hi pos h₁ h₂ d e = record {
+    long = λ k l m. by k mid
+        (λ b. omega (arith, e .before k b, e .before (k - w) (omega arith), d .long k l b))
+        (λ b. omega (arith, e .long k b m, d .past k b));
+    before = λ k l. e .before k (omega arith) ∙ d .before k l;
+    past = λ k l. e .past k l ∙ d .past k (omega arith);
+  }
 
 -- a cell that is low stays so with a label more
 pub low-more : (x y c w v : ℕ) → x ≤ mostValue * c → w ≤ c → y ≤ mostValue * (c - w) → v ≤ mostValue * w → max x (y + v) ≤ mostValue * c

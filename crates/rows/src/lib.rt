@@ -4,7 +4,7 @@ ghost use Prim.Native.Nat.{ℕ, _+_, _-_, _*_, _≤_, _<_, max, min};
 ghost use lib.ListN.{length};
 ghost use Rattle.meaning.specs.Lists.{at};
 ghost use Rattle.meaning.specs.Refusals.{mostBudget, mostValue};
-ghost use Rattle.rows.specs.Rows.{SomeCount, Least, Raised, Stored, Low, Repeated, NextRow, leadsOn};
+ghost use Rattle.rows.specs.Rows.{SomeCount, Least, Raised, RaisedBetween, Stored, Low, Repeated, NextRow, leadsOn};
 
 // The lesser of two numbers.
 fn lesser(a: u32, b: u32) -> u32
@@ -80,7 +80,8 @@ fn raise_down(row: &mut [u32], w: u32, v: u32)
 }
 
 // A row that holds up to one of a label is made to hold up to `most` of it, in parts as large as keep every count within reach: 1, 2, 4
-// and so on, and what is left.
+// and so on, and what is left. A part's weight is below the remainder's divisor, which tells the compiler so: only then does the pass
+// run in vectors.
 fn add_parts(row: &mut [u32], w: u32, v: u32, most: u32)
     requires { ⌜ (1 ≤ w) × ((v ≤ mostValue) × ((length (now row) ≤ mostBudget + 1) × (w * most < length (now row)))) ⌝ }
     requires { ⌜ Low (at (now row)) (length (now row)) ⌝ }
@@ -89,9 +90,39 @@ fn add_parts(row: &mut [u32], w: u32, v: u32, most: u32)
     let mut m = lesser(1, most);
     while m < most {
         let part = lesser(m + 1, most - m);
-        raise_down(row, w * part, v * part);
+        raise_down(row, w * part % 65_536, v * part);
         m += part;
     }
+}
+
+// A stretch of a row from small budgets up: a label of weight w and value v is added as often as it may be.
+fn raise_stretch(row: &mut [u32], from: usize, to: usize, w: usize, v: u32)
+    requires { ⌜ (1 ≤ w) × ((w ≤ from) × ((from ≤ to) × (to ≤ length (now row)))) ⌝ }
+    requires { ⌜ (v ≤ mostValue) × ((length (now row) ≤ mostBudget + 1) × Low (at (now row)) (length (now row))) ⌝ }
+    ensures { λ _. ⌜ RaisedBetween (now (row .entry)) (now (row .exit)) w v from to × Low (at (now (row .exit))) (length (now (row .entry))) ⌝ }
+{
+    let mut c = from;
+    while c < to {
+        let without = row[c];
+        let with = row[c - w] + v;
+        row[c] = greater(without, with);
+        c += 1;
+    }
+}
+
+// Where a stretch that starts at budget c ends. Within w cells no cell depends on another, so that such a stretch runs in vectors; for a
+// small weight there is nothing to win.
+fn stretch_end(width: usize, c: usize, w: usize) -> usize
+    requires { ⌜ (c < width) × (1 ≤ w) ⌝ }
+    ensures { λ r. ⌜ (c < r) × (r ≤ width) ⌝ }
+{
+    if w < 8 {
+        return width;
+    }
+    if width - c < w {
+        return width;
+    }
+    c + w
 }
 
 // Any number of a label of weight w and value v in a row, in place: from the least budget up, so that it is added again and again.
@@ -103,10 +134,9 @@ pub fn raise_up(row: &mut [u32], w: u32, v: u32)
     let w = w as usize;
     let mut c = w;
     while c < row.len() {
-        let without = row[c];
-        let with = row[c - w] + v;
-        row[c] = greater(without, with);
-        c += 1;
+        let end = stretch_end(row.len(), c, w);
+        raise_stretch(row, c, end, w, v);
+        c = end;
     }
 }
 

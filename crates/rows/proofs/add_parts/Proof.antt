@@ -1,5 +1,6 @@
 use mathlib.Core.Path.{_≡_, refl, sym, ap, _∙_}
-use Prim.Native.Nat.{ℕ, suc, _+_, _-_, _*_, _≤_, _<_, min}
+use Prim.Native.Nat.{ℕ, suc, _+_, _-_, _*_, _%_, _≤_, _<_, min}
+use native.Mathlib.Nat.{mod-eq-of-lt}
 use native.Mathlib.Omega.{arith}
 use lib.ListN.{length}
 use borrow.Author.Needs.{needs}
@@ -30,6 +31,11 @@ fits c =
     let s = start (c .before .before .before) in
     let a = s .args in
     part-fits (a .w) (a .v) (c .before .lesser2 .result) (a .most) (length (a .row .now)) (s .pre .0 .0) (s .pre .0 .1 .0) (omega (arith, c .before .lesser2 .ensures)) (s .pre .0 .1 .1 .1)
+
+-- a part's weight is below the remainder's divisor
+whole : (c : tie.After-raise-down-arg Inv-loop μ-loop) → let a = start (c .before .before .before) .args in a .w * c .before .lesser2 .result % 65_536 ≡ a .w * c .before .lesser2 .result
+unfolding mostBudget
+whole c = mod-eq-of-lt (omega (arith, fits c .light, start (c .before .before .before) .pre .0))
 
 lesser-requires : tie.Need-lesser-requires Inv-loop μ-loop
 lesser-requires c κs = search needs
@@ -62,7 +68,7 @@ unfolding Low mostValue mostBudget
 raise-down-requires c κs =
     λ d h.
     let l = c .before .before .before .loop in
-    omega (arith, l .inv .3 d (omega (arith, l .inv .2)), fits c .cheap, l .inv .2, start (c .before .before .before) .pre .0)
+    omega (arith, l .inv .3 d (omega (arith, l .inv .2)), fits c .cheap, whole c, l .inv .2, start (c .before .before .before) .pre .0)
 
 add-m : tie.Need-add-m Inv-loop μ-loop
 add-m c = search needs
@@ -78,7 +84,7 @@ loop-again c =
     let l = head .loop in
     let part = c .before .before .before .before .lesser2 in
     let up = c .before .before .raise-down in
-    let raised = rw (l .inv .2) at (up .ensures) in (
+    let raised = rw (whole (c .before .before .before), l .inv .2) at (up .ensures) in (
       omega (arith, part .ensures),
       omega (arith, part .ensures),
       up .kept .0 ∙ l .inv .2,
