@@ -241,3 +241,12 @@ job-free kind budget ws vs cs cells picks e a =
     let (r, none-of) = any-free (jobOf kind (budget ∷ []) ws vs cs) cells picks e a in
     let same : jobOf kind (budget ∷ []) ws vs cs ≡ jobOf 3 (budget ∷ []) ws vs [] = cc in
     (same, subst (λ (j : Job). Accepted free j cells picks) same r)
+
+-- only the lengths of cells and picks count
+pub accepted-long : (j : Job) (cells picks cells-too picks-too : List ℕ) → length cells ≡ length cells-too → length picks ≡ length picks-too
+    → AcceptedAny j cells picks → AcceptedAny j cells-too picks-too
+unfolding kindRefusal roomFits lentOf
+accepted-long j cells picks cells-too picks-too e f a = record {
+  sort = a .sort;
+  accepted = record { of-kind = a .accepted .of-kind; unrefused = rw (← e, ← f) (a .accepted .unrefused) };
+}
