@@ -1,9 +1,12 @@
 // Runs cases of document 01 and prints what each is answered by. The gate holds the print to the file stdout.
 use libc::STDOUT_FILENO;
 use meaning::Answer;
+ghost use mathlib.Core.Path.{_≡_};
 ghost use mathlib.Core.List.{[], _∷_};
 ghost use lib.ListN.{replicate};
 ghost use Rattle.meaning.specs.Job.{jobOf};
+ghost use Rattle.meaning.specs.Bytes.{jobBytes};
+ghost use Rattle.numbers.specs.Handed.{handed};
 ghost use Rattle.knapsack.specs.Doors.{AcceptedAny};
 
 // A number after a blank.
@@ -30,22 +33,30 @@ fn print_picks(picks: &[u32]) {
     io::write_all(STDOUT_FILENO, b"\n");
 }
 
-// A case of kinds 1 to 3: its lists as numbers, and slices that held something else.
-fn pack(kind: u32, budget: u32, weights: &[u32], values: &[u32], copies: &[u32])
-    requires { ⌜ AcceptedAny (jobOf kind (budget ∷ []) (now weights) (now values) (now copies)) (replicate 64 0) (replicate 4 0) ⌝ }
+// A case of kinds 1 to 3, each list as numbers or as bytes, with slices that held something else.
+fn pack(
+    kind: u32,
+    budget: u32,
+    weights: &[u32],
+    wbytes: &[u8],
+    values: &[u32],
+    vbytes: &[u8],
+    copies: &[u32],
+    cbytes: &[u8],
+)
+    requires { ⌜ AcceptedAny (jobOf kind (budget ∷ []) (handed (now weights) (now wbytes)) (handed (now values) (now vbytes)) (handed (now copies) (now cbytes))) (replicate 64 0) (replicate 4 0) ⌝ }
 {
     let mut cells = [7u32; 64];
     let mut picks = [9u32; 4];
-    let none: [u8; 0] = [];
     let answer = knapsack::solve(
         kind,
         budget,
         weights,
-        &none,
+        wbytes,
         values,
-        &none,
+        vbytes,
         copies,
-        &none,
+        cbytes,
         &mut cells,
         &mut picks,
     );
@@ -54,20 +65,97 @@ fn pack(kind: u32, budget: u32, weights: &[u32], values: &[u32], copies: &[u32])
         print_number(b"value", value);
         print_number(b"weight", weight);
     }
-    print_picks(&picks[..weights.len()]);
+    let n = numbers::list_length(weights, wbytes);
+    print_picks(&picks[..n]);
 }
+
+// Case A, its lists as parts of the job bytes.
+fn pack_parts(job: &[u8])
+    requires { ⌜ now job ≡ jobBytes (jobOf 1 (7 ∷ []) (3 ∷ 4 ∷ 5 ∷ []) (4 ∷ 5 ∷ 6 ∷ []) []) ⌝ }
+{
+    let none: [u32; 0] = [];
+    pack(
+        1,
+        7,
+        &none,
+        &job[20..32],
+        &none,
+        &job[36..48],
+        &none,
+        &job[52..],
+    );
+}
+
+// The job bytes of case A.
+const JOB_A: [u8; 52] = [
+    1,
+    0,
+    0,
+    0,
+    1,
+    0,
+    0,
+    0,
+    1,
+    0,
+    0,
+    0,
+    7,
+    0,
+    0,
+    0,
+    3,
+    0,
+    0,
+    0,
+    3,
+    0,
+    0,
+    0,
+    4,
+    0,
+    0,
+    0,
+    5,
+    0,
+    0,
+    0,
+    3,
+    0,
+    0,
+    0,
+    4,
+    0,
+    0,
+    0,
+    5,
+    0,
+    0,
+    0,
+    6,
+    0,
+    0,
+    0,
+    0,
+    0,
+    0,
+    0,
+];
 
 fn main() {
     let none: [u32; 0] = [];
-    // A
-    pack(1, 7, &[3, 4, 5], &[4, 5, 6], &none);
+    let empty: [u8; 0] = [];
+    // A, as numbers and as parts of the job bytes
+    pack(1, 7, &[3, 4, 5], &empty, &[4, 5, 6], &empty, &none, &empty);
+    let job = JOB_A;
+    pack_parts(&job);
     // B
-    pack(1, 3, &[1, 2, 3], &[1, 2, 3], &none);
+    pack(1, 3, &[1, 2, 3], &empty, &[1, 2, 3], &empty, &none, &empty);
     // C
-    pack(1, 10, &[6, 5, 5], &[7, 5, 5], &none);
+    pack(1, 10, &[6, 5, 5], &empty, &[7, 5, 5], &empty, &none, &empty);
     // D
-    pack(2, 7, &[2, 3], &[3, 5], &[2, 1]);
+    pack(2, 7, &[2, 3], &empty, &[3, 5], &empty, &[2, 1], &empty);
     // E
-    pack(3, 10, &[3, 4], &[4, 6], &none);
-    pack(3, 4, &[2, 4], &[1, 2], &none);
+    pack(3, 10, &[3, 4], &empty, &[4, 6], &empty, &none, &empty);
+    pack(3, 4, &[2, 4], &empty, &[1, 2], &empty, &none, &empty);
 }

@@ -6,86 +6,77 @@ use lib.ListN.{length, replicate}
 use lib.Seq.{length-take-le}
 use borrow.Author.Needs.{needs}
 use Rattle.meaning.specs.Job.{jobOf, labels}
-use Rattle.numbers.proofs.Handed.{handed-numbers}
+use Rattle.numbers.specs.Handed.{handed}
 use Rattle.knapsack.proofs.Doors.{accepted-long, ready}
 use borrow.Author.Needs.{needs}
 use Rattle.trials.proofs.pack.Statement.{statement}
 use Rattle.trials.proofs.pack.Tie as tie
 
--- src/main.rt:41:32
+-- src/main.rt:50:72
 -- no more labels than picks
-few : (s : tie.Start) → length (s .args .weights .now) ≤ 4
+few : (s : tie.Start) → length (handed (s .args .weights .now) (s .args .wbytes .now)) ≤ 4
 unfolding jobOf labels
 few s = ready (s .pre .accepted) .picks-room
 
 slice-aggregate-solve : tie.Need-slice-aggregate-solve
 slice-aggregate-solve c = search needs
 
--- src/main.rt:41:47
+-- src/main.rt:50:84
 slice-aggregate-solve-2 : tie.Need-slice-aggregate-solve-2
 slice-aggregate-solve-2 c = search needs
 
--- src/main.rt:41:62
-slice-aggregate-solve-3 : tie.Need-slice-aggregate-solve-3
-slice-aggregate-solve-3 c = search needs
-
--- src/main.rt:41:69
-slice-aggregate-solve-4 : tie.Need-slice-aggregate-solve-4
-slice-aggregate-solve-4 c = search needs
-
--- src/main.rt:41:81
-slice-aggregate-solve-5 : tie.Need-slice-aggregate-solve-5
-slice-aggregate-solve-5 c = search needs
-
--- src/main.rt:40:9
+-- src/main.rt:49:9
 solve-requires : tie.Need-solve-requires
 solve-requires c κs =
     let s = c .before .before .before .before .before .before .before .before in
     let a = s .args in
-    rw (handed-numbers (a .weights .now), handed-numbers (a .values .now), handed-numbers (a .copies .now))
-    (accepted-long (jobOf (a .kind) (a .budget ∷ []) (a .weights .now) (a .values .now) (a .copies .now)) (replicate 64 0) (replicate 4 0) _ _ refl refl (s .pre))
+    accepted-long (jobOf (a .kind) (a .budget ∷ []) (handed (a .weights .now) (a .wbytes .now)) (handed (a .values .now) (a .vbytes .now)) (handed (a .copies .now) (a .cbytes .now))) (replicate 64 0) (replicate 4 0) _ _ refl refl (s .pre)
 
--- src/main.rt:43:18
+-- src/main.rt:52:18
 slice-aggregate-print-number : tie.Need-slice-aggregate-print-number
 slice-aggregate-print-number c = search needs
 
--- src/main.rt:43:5
+-- src/main.rt:52:5
 print-number-requires : tie.Need-print-number-requires
 print-number-requires c κs = search needs
 
--- src/main.rt:44:31
+-- src/main.rt:53:31
 enum-known-answer : tie.Need-enum-known-answer
 enum-known-answer c = search needs
 
--- src/main.rt:45:22
+-- src/main.rt:54:22
 slice-aggregate-print-number-2 : tie.Need-slice-aggregate-print-number-2
 slice-aggregate-print-number-2 c = search needs
 
--- src/main.rt:45:9
+-- src/main.rt:54:9
 print-number-requires-2 : tie.Need-print-number-requires-2
 print-number-requires-2 c κs = search needs
 
--- src/main.rt:46:22
+-- src/main.rt:55:22
 slice-aggregate-print-number-3 : tie.Need-slice-aggregate-print-number-3
 slice-aggregate-print-number-3 c = search needs
 
--- src/main.rt:46:9
+-- src/main.rt:55:9
 print-number-requires-3 : tie.Need-print-number-requires-3
 print-number-requires-3 c κs = search needs
 
--- src/main.rt:48:17
+-- src/main.rt:57:9
+list-length-requires : tie.Need-list-length-requires
+list-length-requires c κs = search needs
+
+-- src/main.rt:58:17
 array-share-prefix-picks : tie.Need-array-share-prefix-picks
-array-share-prefix-picks c = omega (arith, few (c .before .before .before .before .before .before .before .before .before .before .before .before .before .before), c .before .before .before .before .before .solve .kept .1 .1 .1 .1 .1 .1 .1 .1 .1 .0)
+array-share-prefix-picks c = omega (arith, few (c .before .before .before .before .before .before .before .before .before .before .before .before .before .before .before), c .list-length .ensures, c .before .before .before .before .before .before .solve .kept .1 .1 .1 .1 .1 .1 .1 .1 .1 .0)
 
--- src/main.rt:48:17
+-- src/main.rt:58:17
 slice-aggregate-print-picks : tie.Need-slice-aggregate-print-picks
-slice-aggregate-print-picks c = sym (length-take-le (length (c .before .before .before .before .before .before .before .before .before .before .before .before .before .before .before .args .weights .now)) _ (omega (arith, few (c .before .before .before .before .before .before .before .before .before .before .before .before .before .before .before), c .before .before .before .before .before .before .solve .kept .1 .1 .1 .1 .1 .1 .1 .1 .1 .0)))
+slice-aggregate-print-picks c = sym (length-take-le (c .before .list-length .result) _ (omega (arith, few (c .before .before .before .before .before .before .before .before .before .before .before .before .before .before .before .before), c .before .list-length .ensures, c .before .before .before .before .before .before .before .solve .kept .1 .1 .1 .1 .1 .1 .1 .1 .1 .0)))
 
--- src/main.rt:48:5
+-- src/main.rt:58:5
 print-picks-requires : tie.Need-print-picks-requires
 print-picks-requires c κs = search needs
 
--- src/main.rt:34:1
+-- src/main.rt:35:1
 returns : tie.Need-returns
 returns c = search needs
 
@@ -95,9 +86,6 @@ pack-spec =
     (tie.spec
     slice-aggregate-solve
     slice-aggregate-solve-2
-    slice-aggregate-solve-3
-    slice-aggregate-solve-4
-    slice-aggregate-solve-5
     solve-requires
     slice-aggregate-print-number
     print-number-requires
@@ -106,6 +94,7 @@ pack-spec =
     print-number-requires-2
     slice-aggregate-print-number-3
     print-number-requires-3
+    list-length-requires
     array-share-prefix-picks
     slice-aggregate-print-picks
     print-picks-requires
