@@ -1,25 +1,23 @@
 -- From an accepted job to what the functions ask, and from what they leave to what `meaning` promises.
 -- Assumes nothing.
-use mathlib.Core.Path.{_≡_, refl, sym, ap, _∙_, subst}
-use mathlib.Core.Option.{some, none}
+use mathlib.Core.Path.{_≡_, refl, sym, _∙_, subst}
+use mathlib.Core.Option.{some}
 use Prim.Native.Nat.{ℕ, zero, suc, _+_, _-_, _*_, _≤_, _<_}
-use native.Mathlib.Nat.{le-refl}
 use native.Mathlib.Omega.{arith}
-use mathlib.Core.Bool.{Bool, true, false, _&&_}
+use mathlib.Core.Bool.{_&&_}
 use mathlib.Core.List.{List, [], _∷_, _++_}
-use lib.Dec.{T, leb, leb·zero}
+use lib.Dec.{leb, leb·zero}
 use lib.ListN.{length, drop, getElem?}
 use mir.Facts.{and-yes, leb-yes}
 use Rattle.meaning.specs.declared.Answer.the-variants as Says
 use Rattle.meaning.specs.Lists.{at, total, if}
 use Rattle.meaning.specs.Slices.{Holds}
-use Rattle.meaning.specs.Job.{Job, Sort, once, limited, free, Kind, packing, subset-sums, fewest-blocks, block-ways, sharing, labels, kindOf, allKinds, jobOf}
-use Rattle.meaning.specs.Lent.{Lent, lentOf, roomFor, roomOf, cellCount}
-use Rattle.meaning.specs.Refusals.{kindRefusal, jobRefusal, roomFits, hasCopies, mostBudget, mostValue}
+use Rattle.meaning.specs.Job.{Job, Sort, once, limited, free, packing, subset-sums, fewest-blocks, block-ways, sharing, labels, kindOf, allKinds, jobOf}
+use Rattle.meaning.specs.Lent.{lentOf, roomFor, roomOf, cellCount}
+use Rattle.meaning.specs.Refusals.{kindRefusal, roomFits, hasCopies}
 use Rattle.meaning.specs.Orders.{last-least}
 use Rattle.meaning.specs.Knapsacks.{MayPick, BestValue, BestPicks, orderOf, ValueTable, FullTable, OneRow, cellNumber}
-use Rattle.meaning.specs.Answers.{saidOf}
-use Rattle.meaning.specs.Solved.{Answered, Outcome, Packed, Gives, TableHolds, Solved}
+use Rattle.meaning.specs.Solved.{Outcome, Gives, TableHolds}
 use Rattle.meaning.proofs.Valid.{Valid, is-cleared, is-valid, weight-rule, value-rule}
 use Rattle.meaning.proofs.Laws.{solved-kind}
 use Rattle.meaning.proofs.Totals.{total-none, empty-of}

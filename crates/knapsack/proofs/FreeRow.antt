@@ -12,17 +12,17 @@ use Rattle.meaning.specs.Job.{Job, labels, free}
 use Rattle.meaning.specs.Orders.{first-most, Earlier}
 use Rattle.meaning.specs.Refusals.{mostValue}
 use Rattle.meaning.specs.Knapsacks.{MayPick, Fits, Best, BestValue, BestPicks, orderOf}
-use Rattle.meaning.proofs.Totals.{one-more, one-fewer, length-more, more-total, fewer-total, at-more, at-more-other, total-none, total-with}
+use Rattle.meaning.proofs.Totals.{one-more, one-fewer, more-total, fewer-total, at-more, at-more-other, total-none, total-with}
 use Rattle.meaning.proofs.Steps.{best-none, none-better}
 use Rattle.meaning.proofs.Free.{free-more, free-fewer}
 use Rattle.meaning.proofs.Greedy.{first-is, greedy-step}
 use Rattle.meaning.proofs.OneOfEach.{only-choice}
 use Rattle.rows.specs.Rows.{Low}
-use Rattle.knapsack.specs.Tables.{Bounded, Climbed, level, climb}
-use Rattle.knapsack.specs.Ways.{WayAlong, start, taken, passed}
 use Rattle.rows.proofs.Stores.{by, stored-first}
 use Rattle.rows.proofs.LeadsOn.{leads-true, leads-false}
 use Rattle.rows.proofs.Counts.{topped-any, topped-low, topped-best}
+use Rattle.knapsack.specs.Tables.{Bounded, Climbed, level, climb}
+use Rattle.knapsack.specs.Ways.{WayAlong, start, taken, passed}
 
 -- ---- the row as it is filled
 

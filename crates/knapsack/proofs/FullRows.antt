@@ -1,6 +1,6 @@
 -- Kinds 1 and 2: the table as it is filled holds the best values, and the way back through it finds the picks.
 -- Assumes nothing.
-use mathlib.Core.Path.{_≡_, refl, sym, ap, _∙_, subst}
+use mathlib.Core.Path.{_≡_, refl, sym, _∙_, subst}
 use Prim.Native.Nat.{ℕ, zero, suc, _+_, _-_, _*_, _≤_, _<_}
 use native.Mathlib.Nat.{suc-mul, mul-le-mul-right, zero-mul}
 use native.Mathlib.Numerals.{add-one}
@@ -17,11 +17,11 @@ use Rattle.meaning.proofs.Totals.{total-with}
 use Rattle.meaning.proofs.OneOfEach.{best-value-unique}
 use Rattle.meaning.proofs.Steps.{best-none}
 use Rattle.meaning.proofs.Trace.{trace-step, picks-worth}
-use Rattle.rows.specs.Rows.{Worth, SomeCount, Topped, ToppedRow, Least, Stored, NextRow, Low}
-use Rattle.knapsack.specs.Tables.{Bounded, rowOf, Filled}
-use Rattle.knapsack.specs.Ways.{WayBack, begin, back}
+use Rattle.rows.specs.Rows.{Worth, SomeCount, ToppedRow, Least, Stored, NextRow, Low}
 use Rattle.rows.proofs.Stores.{by, stored-first}
 use Rattle.rows.proofs.Counts.{topped-same, topped-may, topped-low, topped-best}
+use Rattle.knapsack.specs.Tables.{Bounded, rowOf, Filled}
+use Rattle.knapsack.specs.Ways.{WayBack, begin, back}
 
 -- ---- the table as it is filled
 

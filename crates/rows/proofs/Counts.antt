@@ -1,8 +1,8 @@
 -- One theory over the counts that may be picked: what one label makes of a row, for kinds 1, 2 and 3.
 -- Assumes nothing.
 use mathlib.Core.Path.{_≡_, refl, sym, ap, _∙_}
-use Prim.Native.Nat.{ℕ, zero, suc, _+_, _-_, _*_, _/_, _≤_, _<_, max, min}
-use native.Mathlib.Nat.{mul-add, mul-zero, mul-comm, mul-le-mul-left, mul-le-mul-right, mul-assoc, mul-left-comm, sub-add-cancel, le-div-iff-mul-le, one-mul}
+use Prim.Native.Nat.{ℕ, zero, suc, _+_, _-_, _*_, _/_, _≤_, _<_, min}
+use native.Mathlib.Nat.{mul-add, mul-zero, mul-comm, mul-le-mul-left, mul-le-mul-right, sub-add-cancel, le-div-iff-mul-le, one-mul}
 use native.Mathlib.Omega.{arith}
 use Rattle.meaning.specs.Lists.{at}
 use Rattle.meaning.specs.Job.{Job, Sort}

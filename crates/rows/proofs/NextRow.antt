@@ -11,7 +11,7 @@ use Rattle.meaning.specs.Refusals.{mostValue}
 use Rattle.rows.specs.Rows.{ToppedRow, Raised, Stored, Repeated, NextRow, Low}
 use Rattle.rows.proofs.Stores.{by}
 use Rattle.rows.proofs.Counts.{topped-none, topped-part, topped-limit, topped-low}
-use Rattle.rows.proofs.Parts.{partOf, part-long, part-at, put-at, put-before}
+use Rattle.rows.proofs.Parts.{partOf, part-at, put-at, put-before}
 
 -- a row that is raised once holds up to one of the label
 pub topped-one : (f h : ℕ → ℕ) (w v width : ℕ) → Raised f f h w v width → ToppedRow (λ x. x ≤ 1) f w v width h

@@ -1,12 +1,8 @@
 use borrow.Author.Tests.{eq-eqb, ne-eqb}
+use mathlib.Core.Path.{_∙_}
+use Prim.Native.Nat.{_-_}
 use Rattle.meaning.specs.Lists.{if}
 use Rattle.knapsack.specs.Tables.{limitOf}
-use mathlib.Core.Path.{_≡_, refl, sym, ap, _∙_}
-use Prim.Native.Nat.{ℕ, suc, _+_, _-_, _*_, _≤_, _<_, min}
-use native.Mathlib.Omega.{arith}
-use lib.ListN.{length}
-use borrow.Author.Needs.{needs}
-use Rattle.meaning.specs.Lists.{at}
 use Rattle.knapsack.proofs.allowed.Statement.{statement}
 use Rattle.knapsack.proofs.allowed.Tie as tie
 

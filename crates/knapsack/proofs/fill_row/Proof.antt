@@ -1,13 +1,12 @@
 use native.Mathlib.Nat.{zero-add}
 use native.Mathlib.Numerals.{add-one}
 use mathlib.Core.Path.{_≡_, refl, _∙_}
-use Prim.Native.Nat.{ℕ, suc, _+_, _-_, _≤_, _<_}
+use Prim.Native.Nat.{_-_, _≤_, _<_}
 use native.Mathlib.Omega.{arith}
 use lib.ListN.{length}
 use borrow.Author.Needs.{needs}
 use Rattle.meaning.specs.Lists.{at}
 use Rattle.numbers.specs.Handed.{handed}
-use Rattle.rows.specs.Rows.{Low}
 use Rattle.knapsack.specs.Tables.{Climbed, level, climb}
 use Rattle.knapsack.proofs.FreeRow.{climbed-low}
 use Rattle.knapsack.proofs.fill_row.Statement.{statement}

@@ -16,7 +16,6 @@ use Rattle.knapsack.specs.Tables.{Bounded, limitOf, rowOf, Filled}
 use Rattle.knapsack.specs.Ways.{WayBack}
 use Rattle.knapsack.proofs.FullRows.{one-row-more, some-back, way-within}
 use Rattle.knapsack.proofs.Doors.{numberOf, kind-number, ready, bounded, limit-few, limit-may, full-room, copies-long, packs-full}
-use borrow.Author.Needs.{needs}
 use Rattle.knapsack.proofs.full_table.Statement.{statement}
 use Rattle.knapsack.proofs.full_table.Tie as tie
 

@@ -1,5 +1,5 @@
-use mathlib.Core.Path.{_≡_, refl, sym, ap, _∙_}
-use Prim.Native.Nat.{ℕ, suc, _+_, _-_, _*_, _≤_, _<_}
+use mathlib.Core.Path.{_≡_, sym, ap, _∙_}
+use Prim.Native.Nat.{ℕ, _+_, _-_, _≤_}
 use native.Mathlib.Nat.{add-sub-cancel}
 use native.Mathlib.Omega.{arith}
 use mathlib.Core.List.{List, [], _∷_, _++_}
@@ -14,8 +14,7 @@ use Rattle.numbers.specs.Handed.{handed}
 use Rattle.knapsack.specs.Tables.{Bounded, Climbed}
 use Rattle.knapsack.specs.Ways.{WayAlong}
 use Rattle.knapsack.proofs.FreeRow.{climbed-low, along-within}
-use Rattle.knapsack.proofs.Doors.{Ready, ready, bounded, packs-free}
-use borrow.Author.Needs.{needs}
+use Rattle.knapsack.proofs.Doors.{ready, bounded, packs-free}
 use Rattle.knapsack.proofs.one_row.Statement.{statement}
 use Rattle.knapsack.proofs.one_row.Tie as tie
 

@@ -1,17 +1,16 @@
 use mathlib.Core.Bool.{true, false}
 use native.Mathlib.Numerals.{add-one}
 use lib.Seq.{take-suc-set, take-all}
-use Rattle.rows.specs.Rows.{leadsOn}
-use Rattle.rows.proofs.LeadsOn.{leads-true}
 use mathlib.Core.Path.{_≡_, refl, sym, _∙_}
-use Prim.Native.Nat.{ℕ, suc, _+_, _-_, _≤_, _<_}
+use Prim.Native.Nat.{_+_, _-_, _≤_, _<_}
 use native.Mathlib.Omega.{arith}
 use lib.ListN.{length, take, length-set}
 use borrow.Author.Needs.{needs}
 use Rattle.meaning.specs.Lists.{at}
 use Rattle.meaning.specs.Refusals.{mostBudget}
 use Rattle.numbers.specs.Handed.{handed}
-use Rattle.rows.specs.Rows.{Low}
+use Rattle.rows.specs.Rows.{leadsOn}
+use Rattle.rows.proofs.LeadsOn.{leads-true}
 use Rattle.knapsack.specs.Ways.{WayAlong, start, taken, passed}
 use Rattle.knapsack.proofs.way_along.Statement.{statement}
 use Rattle.knapsack.proofs.way_along.Tie as tie

@@ -1,18 +1,16 @@
 use native.Mathlib.Nat.{suc-mul}
 use lib.Seq.{drop-length}
-use Rattle.knapsack.proofs.FullRows.{rows-within, way-more}
-use mathlib.Core.Path.{_≡_, refl, sym, ap, _∙_}
-use Prim.Native.Nat.{ℕ, suc, _+_, _-_, _*_, _≤_, _<_}
+use mathlib.Core.Path.{_≡_, refl}
+use Prim.Native.Nat.{_+_, _-_, _*_, _≤_, _<_}
 use native.Mathlib.Omega.{arith}
-use lib.ListN.{length}
+use lib.ListN.{length, drop, length-set}
 use borrow.Author.Needs.{needs}
 use Rattle.meaning.specs.Lists.{at}
 use Rattle.meaning.specs.Refusals.{mostBudget}
 use Rattle.numbers.specs.Handed.{handed}
-use lib.ListN.{drop, length-set}
-use Rattle.rows.specs.Rows.{Least}
-use Rattle.knapsack.specs.Tables.{Bounded, rowOf}
-use Rattle.knapsack.specs.Ways.{WayBack, begin, back}
+use Rattle.knapsack.specs.Tables.{rowOf}
+use Rattle.knapsack.specs.Ways.{WayBack, begin}
+use Rattle.knapsack.proofs.FullRows.{rows-within, way-more}
 use Rattle.knapsack.proofs.way_back.Statement.{statement}
 use Rattle.knapsack.proofs.way_back.Tie as tie
 

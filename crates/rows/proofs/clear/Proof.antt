@@ -1,9 +1,8 @@
 use mathlib.Core.Path.{_≡_, refl}
-use Prim.Native.Nat.{ℕ, _+_, _-_, _≤_, _<_, max, min}
+use Prim.Native.Nat.{_-_, _≤_}
 use native.Mathlib.Omega.{arith}
 use lib.ListN.{length, length-set}
 use borrow.Author.Needs.{needs}
-use Rattle.meaning.specs.Lists.{at}
 use Rattle.rows.specs.Rows.{Stored}
 use Rattle.rows.proofs.Stores.{stored-none, stored-up}
 use Rattle.rows.proofs.clear.Statement.{statement}

@@ -1,12 +1,9 @@
-use mathlib.Core.Path.{_≡_}
-use mathlib.Core.Bool.{true, false}
-use Prim.Native.Nat.{_+_, _-_, _≤_, _<_}
+use Prim.Native.Nat.{_-_}
 use native.Mathlib.Omega.{arith}
 use borrow.Author.Tests.{lt-leb, le-leb}
-use Rattle.meaning.specs.Refusals.{mostValue, mostBudget}
-use Rattle.rows.specs.Rows.{Low}
-use Rattle.rows.specs.Rows.{leadsOn}
 use borrow.Author.Needs.{needs}
+use Rattle.meaning.specs.Refusals.{mostValue, mostBudget}
+use Rattle.rows.specs.Rows.{Low, leadsOn}
 use Rattle.rows.proofs.leads.Statement.{statement}
 use Rattle.rows.proofs.leads.Tie as tie
 

@@ -1,13 +1,12 @@
 use native.Mathlib.Nat.{mul-add, mul-zero}
-use Rattle.rows.specs.Rows.{Worth}
-use Rattle.rows.proofs.LeastCounts.{found, GoesOn, goes-on}
-use mathlib.Core.Path.{_≡_, refl, sym, ap, _∙_}
-use Prim.Native.Nat.{ℕ, suc, _+_, _-_, _*_, _≤_, _<_, min}
+use mathlib.Core.Path.{_≡_}
+use Prim.Native.Nat.{ℕ, _+_, _-_, _*_, _<_}
 use native.Mathlib.Omega.{arith}
-use lib.ListN.{length}
 use borrow.Author.Needs.{needs}
 use Rattle.meaning.specs.Lists.{at}
 use Rattle.meaning.specs.Refusals.{mostBudget}
+use Rattle.rows.specs.Rows.{Worth}
+use Rattle.rows.proofs.LeastCounts.{found, GoesOn, goes-on}
 use Rattle.rows.proofs.least_count.Statement.{statement}
 use Rattle.rows.proofs.least_count.Tie as tie
 

@@ -1,13 +1,12 @@
-use mathlib.Core.Path.{_≡_, refl, sym, ap, _∙_}
-use Prim.Native.Nat.{ℕ, suc, _+_, _-_, _*_, _≤_, _<_, min}
+use mathlib.Core.Path.{_∙_}
+use Prim.Native.Nat.{_+_, _-_, _*_, _≤_, _<_}
 use native.Mathlib.Omega.{arith}
 use lib.ListN.{length}
 use borrow.Author.Needs.{needs}
 use Rattle.meaning.specs.Lists.{at}
 use Rattle.meaning.specs.Refusals.{mostValue, mostBudget}
-use borrow.Author.Needs.{needs}
 use Rattle.rows.specs.Rows.{Low}
-use Rattle.rows.proofs.Parts.{partOf, part-long}
+use Rattle.rows.proofs.Parts.{part-long}
 use Rattle.rows.proofs.NextRow.{most-light, start-within, part-low, next-made}
 use Rattle.rows.proofs.next_row.Statement.{statement}
 use Rattle.rows.proofs.next_row.Tie as tie

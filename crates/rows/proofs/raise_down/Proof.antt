@@ -1,12 +1,12 @@
 use native.Mathlib.Nat.{zero-add}
-use mathlib.Core.Path.{_≡_, refl, _∙_}
-use Prim.Native.Nat.{ℕ, _+_, _-_, _≤_, _<_, max, min}
+use mathlib.Core.Path.{_≡_, _∙_}
+use Prim.Native.Nat.{_+_, _-_, _≤_, max, min}
 use native.Mathlib.Omega.{arith}
 use lib.ListN.{length, length-set}
 use borrow.Author.Needs.{needs}
 use Rattle.meaning.specs.Lists.{at}
 use Rattle.rows.specs.Rows.{Stored}
-use Rattle.rows.proofs.Stores.{stored-none, stored-down}
+use Rattle.rows.proofs.Stores.{stored-down}
 use Rattle.rows.proofs.raise_down.Statement.{statement}
 use Rattle.rows.proofs.raise_down.Tie as tie
 

@@ -1,11 +1,11 @@
-use mathlib.Core.Path.{_≡_, refl, _∙_}
-use Prim.Native.Nat.{ℕ, _+_, _-_, _≤_, _<_}
+use mathlib.Core.Path.{_≡_, _∙_}
+use Prim.Native.Nat.{_-_, _≤_}
 use native.Mathlib.Omega.{arith}
 use lib.ListN.{length}
 use borrow.Author.Needs.{needs}
 use Rattle.meaning.specs.Lists.{at}
 use Rattle.rows.specs.Rows.{RaisedBetween, Low}
-use Rattle.rows.proofs.Stores.{between-none, between-on}
+use Rattle.rows.proofs.Stores.{between-on}
 use Rattle.rows.proofs.raise_up.Statement.{statement}
 use Rattle.rows.proofs.raise_up.Tie as tie
 

@@ -1,9 +1,8 @@
 use mathlib.Core.Path.{refl}
+use borrow.Author.Needs.{needs}
 use Rattle.meaning.specs.Job.{once, limited, free}
 use Rattle.meaning.proofs.Opens.{opens}
 use Rattle.numbers.specs.Handed.{handed}
-use borrow.Author.Needs.{needs}
-use borrow.Author.Needs.{needs}
 use Rattle.trials.proofs.main.Statement.{statement}
 use Rattle.trials.proofs.main.Tie as tie
 

@@ -1,6 +1,6 @@
-use Prim.Native.Nat.{ℕ, _≤_}
+use Prim.Native.Nat.{_≤_}
 use mathlib.Core.List.{[], _∷_}
-use mathlib.Core.Path.{_≡_, refl, sym}
+use mathlib.Core.Path.{refl, sym}
 use native.Mathlib.Omega.{arith}
 use lib.ListN.{length, replicate}
 use lib.Seq.{length-take-le}
@@ -8,7 +8,6 @@ use borrow.Author.Needs.{needs}
 use Rattle.meaning.specs.Job.{jobOf, labels}
 use Rattle.numbers.specs.Handed.{handed}
 use Rattle.knapsack.proofs.Doors.{accepted-long, ready}
-use borrow.Author.Needs.{needs}
 use Rattle.trials.proofs.pack.Statement.{statement}
 use Rattle.trials.proofs.pack.Tie as tie
 

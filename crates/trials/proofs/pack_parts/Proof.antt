@@ -1,11 +1,10 @@
 use mathlib.Core.Path.{_≡_, refl, ap}
 use native.Mathlib.Omega.{arith}
 use lib.ListN.{length}
+use borrow.Author.Needs.{needs}
 use Rattle.meaning.specs.Job.{once}
 use Rattle.meaning.proofs.Opens.{opens}
 use Rattle.numbers.specs.Handed.{handed}
-use borrow.Author.Needs.{needs}
-use borrow.Author.Needs.{needs}
 use Rattle.trials.proofs.pack_parts.Statement.{statement}
 use Rattle.trials.proofs.pack_parts.Tie as tie
 
