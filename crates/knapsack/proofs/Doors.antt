@@ -1,6 +1,6 @@
 -- From an accepted job to what the functions ask, and from what they leave to what `meaning` promises.
 -- Assumes nothing.
-use mathlib.Core.Path.{_≡_, refl, sym, _∙_, subst}
+use mathlib.Core.Path.{_≡_, refl, sym, ap, _∙_, subst}
 use mathlib.Core.Option.{some}
 use Prim.Native.Nat.{ℕ, zero, suc, _+_, _-_, _*_, _≤_, _<_}
 use native.Mathlib.Omega.{arith}
@@ -9,22 +9,24 @@ use mathlib.Core.List.{List, [], _∷_, _++_}
 use lib.Dec.{leb, leb·zero}
 use lib.ListN.{length, drop, getElem?}
 use mir.Facts.{and-yes, leb-yes}
+use Rattle.meaning.specs.declared.Answer.{Answer}
 use Rattle.meaning.specs.declared.Answer.the-variants as Says
 use Rattle.meaning.specs.Lists.{at, total, if}
 use Rattle.meaning.specs.Slices.{Holds}
 use Rattle.meaning.specs.Job.{Job, Sort, once, limited, free, packing, subset-sums, fewest-blocks, block-ways, sharing, labels, kindOf, allKinds, jobOf}
-use Rattle.meaning.specs.Lent.{lentOf, roomFor, roomOf, cellCount}
+use Rattle.meaning.specs.Lent.{Lent, lentOf, roomFor, roomOf, cellCount}
 use Rattle.meaning.specs.Refusals.{kindRefusal, roomFits, hasCopies}
 use Rattle.meaning.specs.Orders.{last-least}
 use Rattle.meaning.specs.Knapsacks.{MayPick, BestValue, BestPicks, orderOf, ValueTable, FullTable, OneRow, cellNumber}
-use Rattle.meaning.specs.Solved.{Outcome, Gives, TableHolds}
+use Rattle.meaning.specs.Solved.{Outcome, Gives, TableHolds, Unrefused}
 use Rattle.meaning.proofs.Valid.{Valid, is-cleared, is-valid, weight-rule, value-rule}
-use Rattle.meaning.proofs.Laws.{solved-kind}
+use Rattle.meaning.proofs.Laws.{answered-solved}
+use Rattle.meaning.proofs.Unique.{no-second-choice}
 use Rattle.meaning.proofs.Totals.{total-none, empty-of}
 use Rattle.meaning.proofs.Trace.{picks-none, picks-worth}
 use Rattle.knapsack.specs.Tables.{Bounded, limitOf, rowOf, Filled, Climbed}
 use Rattle.knapsack.specs.Ways.{WayBack, WayAlong}
-use Rattle.knapsack.specs.Doors.{Accepted, AcceptedAny, Packs}
+use Rattle.knapsack.specs.Doors.{Accepted, Packs}
 use Rattle.knapsack.proofs.FullRows.{row-best, back-picks, back-weight}
 use Rattle.knapsack.proofs.FreeRow.{climbed-best, along-picks, along-weight}
 
@@ -67,11 +69,11 @@ picks-needed once j = refl
 picks-needed limited j = refl
 picks-needed free j = refl
 
-pub ready : {k : Sort} {j : Job} {cells picks : List ℕ} → Accepted k j cells picks → Ready k j cells picks
+pub ready : (k : Sort) (j : Job) (cells picks : List ℕ) → Unrefused (packing k) j (lentOf cells [] picks) → Ready k j cells picks
 unfolding roomFits lentOf
-ready {k} {j} {cells} {picks} a =
+ready k j cells picks a =
     let room = roomFor (packing k) j in
-    let c = is-cleared room (packing k) j (lentOf cells [] picks) (a .unrefused) in
+    let c = is-cleared room (packing k) j (lentOf cells [] picks) (a .no-refusal) in
     let (cells-words, p) = and-yes (leb (room .cells) (length cells) && leb (room .words) 0) (leb (room .picks) (length picks)) (c .roomy) in
     let (f, _) = and-yes (leb (room .cells) (length cells)) (leb (room .words) 0) cells-words in
     let needed : room .picks ≤ length picks = leb-yes p in
@@ -129,14 +131,14 @@ unfolding kindRefusal roomFits lentOf
 no-words k j cells words picks = rw (← words-needed k j, leb·zero (length words), leb·zero 0)
 
 -- the table and the picks that were written are those of the knapsack, and the numbers are those of the picks
-pub packs : {k : Sort} {j : Job} {cells picks : List ℕ} (a : Accepted k j cells picks) (cells-after picks-after table found : List ℕ) (value weight : ℕ)
+pub packs : (k : Sort) (j : Job) (cells picks : List ℕ) → Unrefused (packing k) j (lentOf cells [] picks) → (cells-after picks-after table found : List ℕ) (value weight : ℕ)
     → length table ≡ roomFor (packing k) j .cells → ValueTable k j table → BestPicks k j (labels j) (j .budget) found
     → value ≡ total (j .values) found → weight ≡ total (j .weights) found → Holds table cells cells-after → Holds found picks picks-after
     → Packs j cells picks (Says.Knapsack value weight) cells-after picks-after
 unfolding Packs Outcome Gives TableHolds Holds lentOf
-packs {k} {j} {cells} {picks} a cells-after picks-after table found value weight long right chosen v w in-cells in-picks words =
-    solved-kind j (lentOf cells words picks) (packing k) 0 (Says.Knapsack value weight) (lentOf cells-after words picks-after) (a .of-kind)
-    (no-words k j cells words picks ∙ a .unrefused)
+packs k j cells picks a cells-after picks-after table found value weight long right chosen v w in-cells in-picks words =
+    answered-solved (packing k) j (lentOf cells words picks) (lentOf cells-after words picks-after) (Says.Knapsack value weight)
+    (record { of-kind = a .of-kind; no-refusal = no-words k j cells words picks ∙ a .no-refusal })
     (record {
       content = lentOf table [] found;
       gives = record { picked = chosen; numbers = rw (v, w) };
@@ -154,7 +156,7 @@ unfolding Holds
 holds-front new old n long = rw long
 
 -- kinds 1 and 2, by the table that was filled and the way back through it
-module _ (k : Sort) (j : Job) (cells picks table found : List ℕ) (left : ℕ) (numbered : numberOf k < 3) (a : Accepted k j cells picks)
+module _ (k : Sort) (j : Job) (cells picks table found : List ℕ) (left : ℕ) (numbered : numberOf k < 3) (a : Unrefused (packing k) j (lentOf cells [] picks))
     (long : length table ≡ cellCount j) (filled : Filled (j .weights) (j .values) (limitOf (numberOf k) (j .copies)) (j .budget + 1) (labels j) table)
     (way : WayBack (rowOf table (j .budget + 1)) (j .weights) (j .values) (labels j) (j .budget) 0 left found) where
   abbrev few : (i x : ℕ) → i < labels j → MayPick k (at (j .copies) i) x → x ≤ limitOf (numberOf k) (j .copies) i
@@ -183,7 +185,7 @@ module _ (k : Sort) (j : Job) (cells picks table found : List ℕ) (left : ℕ) 
   unfolding FullTable cellNumber BestPicks
   packs-full needed n value e₁ e₂ e₃ =
       let best = row-best k j (limitOf (numberOf k) (j .copies)) (j .budget + 1) table few may filled in
-      packs a (table ++ drop needed cells) (found ++ drop n picks) table found value (j .budget - left)
+      packs k j cells picks a (table ++ drop needed cells) (found ++ drop n picks) table found value (j .budget - left)
       (long ∙ sym (full-room k j numbered)) (full-table k numbered (λ i c h l. best i c h (omega arith))) chosen
       (e₃ ∙ picks-worth k j (labels j) (j .budget) found chosen (best (labels j) (j .budget) (omega arith) (omega arith)))
       (omega (arith, back-weight k j (limitOf (numberOf k) (j .copies)) (j .budget + 1) table few may filled way [] refl, total-none (j .weights)))
@@ -191,18 +193,18 @@ module _ (k : Sort) (j : Job) (cells picks table found : List ℕ) (left : ℕ) 
       (holds-front found picks n (chosen .one-of .fits .selection .one-each ∙ sym e₂))
 
 -- kind 3, by the row that was filled and the way along the labels
-module _ (j : Job) (cells picks row found : List ℕ) (left : ℕ) (a : Accepted free j cells picks) (long : length row ≡ j .budget + 1)
+module _ (j : Job) (cells picks row found : List ℕ) (left : ℕ) (a : Unrefused (packing free) j (lentOf cells [] picks)) (long : length row ≡ j .budget + 1)
     (climbed : Climbed (j .weights) (j .values) (j .budget + 1) (labels j) row)
     (way : WayAlong (at row) (j .weights) (j .values) (j .budget) (labels j) left 0 found) where
   row-best-values : (c : ℕ) → c ≤ j .budget → BestValue free j (labels j) c (at row c)
-  row-best-values c h = climbed-best j (j .budget + 1) (labels j) row (weight-rule free j (ready a .valid)) climbed c (omega arith)
+  row-best-values c h = climbed-best j (j .budget + 1) (labels j) row (weight-rule free j (ready free j cells picks a .valid)) climbed c (omega arith)
 
   pub packs-free : (n value : ℕ) → n ≡ labels j → value ≡ at row (j .budget)
       → Packs j cells picks (Says.Knapsack value (j .budget - left)) (row ++ drop (j .budget + 1) cells) (found ++ drop n picks)
   unfolding ValueTable OneRow BestPicks roomFor roomOf
   packs-free n value e₁ e₂ =
       let chosen = along-picks j (at row) (j .budget) row-best-values left found way in
-      packs a (row ++ drop (j .budget + 1) cells) (found ++ drop n picks) row found value (j .budget - left)
+      packs free j cells picks a (row ++ drop (j .budget + 1) cells) (found ++ drop n picks) row found value (j .budget - left)
       long row-best-values chosen
       (e₂ ∙ picks-worth free j (labels j) (j .budget) found chosen (row-best-values (j .budget) (omega arith)))
       (omega (arith, along-weight j (at row) (j .budget) row-best-values left found way))
@@ -212,19 +214,19 @@ module _ (j : Job) (cells picks row found : List ℕ) (left : ℕ) (a : Accepted
 -- ---- the choice among the three
 
 -- kind 3 has no copies, and is the knapsack of any number
-pub any-free : (j : Job) (cells picks : List ℕ) → j .kind-number ≡ 3 → AcceptedAny j cells picks → Accepted free j cells picks × (j .copies ≡ [])
+pub any-free : (j : Job) (cells picks : List ℕ) → j .kind-number ≡ 3 → Accepted j cells picks → Unrefused (packing free) j (lentOf cells [] picks) × (j .copies ≡ [])
 unfolding numberOf hasCopies if
-any-free j cells picks e a = go (a .sort) (sym (kind-number (j .kind-number) (a .sort) (a .accepted .of-kind)) ∙ e) (a .accepted)
+any-free j cells picks e a = go (a .sort) (sym (kind-number (j .kind-number) (a .sort) (a .unrefused .of-kind)) ∙ e) (a .unrefused)
   where
-    go : (k : Sort) → numberOf k ≡ 3 → Accepted k j cells picks → Accepted free j cells picks × (j .copies ≡ [])
+    go : (k : Sort) → numberOf k ≡ 3 → Unrefused (packing k) j (lentOf cells [] picks) → Unrefused (packing free) j (lentOf cells [] picks) × (j .copies ≡ [])
     go once n r = absurd (omega arith)
     go limited n r = absurd (omega arith)
-    go free n r = (r, empty-of (j .copies) (ready r .valid .copied))
+    go free n r = (r, empty-of (j .copies) (ready free j cells picks r .valid .copied))
 
 -- another kind is 1 or 2
-pub any-below : (j : Job) (cells picks : List ℕ) → ¬ (j .kind-number ≡ 3) → AcceptedAny j cells picks → j .kind-number < 3
+pub any-below : (j : Job) (cells picks : List ℕ) → ¬ (j .kind-number ≡ 3) → Accepted j cells picks → j .kind-number < 3
 unfolding numberOf
-any-below j cells picks other a = go (a .sort) (kind-number (j .kind-number) (a .sort) (a .accepted .of-kind))
+any-below j cells picks other a = go (a .sort) (kind-number (j .kind-number) (a .sort) (a .unrefused .of-kind))
   where
     go : (k : Sort) → j .kind-number ≡ numberOf k → j .kind-number < 3
     go once e = omega arith
@@ -232,19 +234,27 @@ any-below j cells picks other a = go (a .sort) (kind-number (j .kind-number) (a 
     go free e = absurd (other e)
 
 -- so a job of kind 3 is one without copies
-pub job-free : (kind budget : ℕ) (ws vs cs cells picks : List ℕ) → kind ≡ 3 → AcceptedAny (jobOf kind (budget ∷ []) ws vs cs) cells picks
-    → (jobOf kind (budget ∷ []) ws vs cs ≡ jobOf 3 (budget ∷ []) ws vs []) × Accepted free (jobOf 3 (budget ∷ []) ws vs []) cells picks
+pub job-free : (kind budget : ℕ) (ws vs cs cells picks : List ℕ) → kind ≡ 3 → Accepted (jobOf kind (budget ∷ []) ws vs cs) cells picks
+    → (jobOf kind (budget ∷ []) ws vs cs ≡ jobOf 3 (budget ∷ []) ws vs []) × Unrefused (packing free) (jobOf 3 (budget ∷ []) ws vs []) (lentOf cells [] picks)
 unfolding jobOf
 job-free kind budget ws vs cs cells picks e a =
     let (r, none-of) = any-free (jobOf kind (budget ∷ []) ws vs cs) cells picks e a in
     let same : jobOf kind (budget ∷ []) ws vs cs ≡ jobOf 3 (budget ∷ []) ws vs [] = cc in
-    (same, subst (λ (j : Job). Accepted free j cells picks) same r)
+    (same, subst (λ (j : Job). Unrefused (packing free) j (lentOf cells [] picks)) same r)
 
 -- only the lengths of cells and picks count
 pub accepted-long : (j : Job) (cells picks cells-too picks-too : List ℕ) → length cells ≡ length cells-too → length picks ≡ length picks-too
-    → AcceptedAny j cells picks → AcceptedAny j cells-too picks-too
+    → Accepted j cells picks → Accepted j cells-too picks-too
 unfolding kindRefusal roomFits lentOf
 accepted-long j cells picks cells-too picks-too e f a = record {
   sort = a .sort;
-  accepted = record { of-kind = a .accepted .of-kind; unrefused = rw (← e, ← f) (a .accepted .unrefused) };
+  unrefused = record { of-kind = a .unrefused .of-kind; no-refusal = rw (← e, ← f) (a .unrefused .no-refusal) };
 }
+
+-- ---- no second choice is left: the answer, and what cells and picks hold
+pub packs-unique : (j : Job) (cells picks : List ℕ) (a a′ : Answer) (c c′ p p′ : List ℕ) → Packs j cells picks a c p → Packs j cells picks a′ c′ p′
+    → (a ≡ a′) × (c ≡ c′) × (p ≡ p′)
+unfolding Packs lentOf
+packs-unique j cells picks a a′ c c′ p p′ x y =
+    let one = no-second-choice j (lentOf cells [] picks) (lentOf c [] p) (lentOf c′ [] p′) a a′ (x []) (y []) in
+    (one .answer, ap (λ (l : Lent). l .cells) (one .left), ap (λ (l : Lent). l .picks) (one .left))

@@ -131,7 +131,6 @@ module _ (j : Job) (row : ℕ → ℕ) (budget : ℕ) (rows : (c : ℕ) → c �
 
   -- what is known where the way has come to label i with budget c left, x of it taken
   record Come (i c x : ℕ) (found : List ℕ) : Type 0 where
-    here : i ≤ labels j
     counts : length found ≡ i
     unused : Unused i c
     on : (q : List ℕ) → ChosenAt c q → ChosenAt budget (given found i x q)
@@ -140,7 +139,6 @@ module _ (j : Job) (row : ℕ → ℕ) (budget : ℕ) (rows : (c : ℕ) → c �
   come : {i c x : ℕ} {found : List ℕ} → WayAlong row (j .weights) (j .values) budget i c x found → Come i c x found
   unfolding given Unused one-more labels BestPicks
   come start = record {
-    here = omega arith;
     counts = refl;
     unused = λ q b m h. absurd (omega arith);
     on = λ q t. rw (add-zero, set-getD q 0 0) t;
@@ -150,7 +148,6 @@ module _ (j : Job) (row : ℕ → ℕ) (budget : ℕ) (rows : (c : ℕ) → c �
       let d = come way in
       let (light, on) = leads-true row (at (j .weights) i) (at (j .values) i) c lead in
       record {
-        here = d .here;
         counts = d .counts;
         unused = more-unused i c inside (along-within way) light on (d .unused);
         on = λ q t.
@@ -163,7 +160,6 @@ module _ (j : Job) (row : ℕ → ℕ) (budget : ℕ) (rows : (c : ℕ) → c �
       let d = come way in
       let unused = pass-unused i c inside (along-within way) (leads-false row (at (j .weights) i) (at (j .values) i) c lead) (d .unused) in
       record {
-        here = inside;
         counts = length-append found (x ∷ []) ∙ omega (arith, d .counts);
         unused = unused;
         on = λ q t.

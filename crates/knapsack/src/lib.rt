@@ -6,12 +6,14 @@ ghost use mathlib.Core.List.{[], _∷_};
 ghost use Prim.Native.Nat.{ℕ, suc, _+_, _-_, _*_, _<_};
 ghost use lib.ListN.{length};
 ghost use Rattle.meaning.specs.Lists.{at};
-ghost use Rattle.meaning.specs.Job.{jobOf, free};
-ghost use Rattle.numbers.specs.Handed.{handed};
+ghost use Rattle.meaning.specs.Job.{jobOf, packing, free};
+ghost use Rattle.meaning.specs.Lent.{lentOf};
+ghost use Rattle.meaning.specs.Solved.{Unrefused};
+ghost use Rattle.numbers.specs.Handed.{handed, jobHanded};
 ghost use Rattle.rows.specs.Rows.{SomeCount, Low};
 ghost use Rattle.knapsack.specs.Tables.{Bounded, limitOf, rowOf, Filled, Climbed};
 ghost use Rattle.knapsack.specs.Ways.{WayBack, WayAlong};
-ghost use Rattle.knapsack.specs.Doors.{Accepted, AcceptedAny, Packs};
+ghost use Rattle.knapsack.specs.Doors.{Accepted, Packs};
 
 // ---- kinds 1 and 2: a row for each label
 
@@ -152,9 +154,9 @@ fn full_table(
     cells: &mut [u32],
     picks: &mut [u32],
 ) -> Answer
-    requires { ⌜ AcceptedAny (jobOf kind (budget ∷ []) (handed (now weights) (now wbytes)) (handed (now values) (now vbytes)) (handed (now copies) (now cbytes))) (now cells) (now picks) ⌝ }
+    requires { ⌜ Accepted (jobHanded kind budget (now weights) (now wbytes) (now values) (now vbytes) (now copies) (now cbytes)) (now cells) (now picks) ⌝ }
     requires { ⌜ kind < 3 ⌝ }
-    ensures { λ r. ⌜ Packs (jobOf kind (budget ∷ []) (handed (now (weights .entry)) (now (wbytes .entry))) (handed (now (values .entry)) (now (vbytes .entry))) (handed (now (copies .entry)) (now (cbytes .entry)))) (now (cells .entry)) (now (picks .entry)) r (now (cells .exit)) (now (picks .exit)) ⌝ }
+    ensures { λ r. ⌜ Packs (jobHanded kind budget (now (weights .entry)) (now (wbytes .entry)) (now (values .entry)) (now (vbytes .entry)) (now (copies .entry)) (now (cbytes .entry))) (now (cells .entry)) (now (picks .entry)) r (now (cells .exit)) (now (picks .exit)) ⌝ }
 {
     let n = numbers::list_length(weights, wbytes);
     let width = budget as usize + 1;
@@ -195,7 +197,7 @@ fn one_row(
     cells: &mut [u32],
     picks: &mut [u32],
 ) -> Answer
-    requires { ⌜ Accepted free (jobOf 3 (budget ∷ []) (handed (now weights) (now wbytes)) (handed (now values) (now vbytes)) []) (now cells) (now picks) ⌝ }
+    requires { ⌜ Unrefused (packing free) (jobOf 3 (budget ∷ []) (handed (now weights) (now wbytes)) (handed (now values) (now vbytes)) []) (lentOf (now cells) [] (now picks)) ⌝ }
     ensures { λ r. ⌜ Packs (jobOf 3 (budget ∷ []) (handed (now (weights .entry)) (now (wbytes .entry))) (handed (now (values .entry)) (now (vbytes .entry))) []) (now (cells .entry)) (now (picks .entry)) r (now (cells .exit)) (now (picks .exit)) ⌝ }
 {
     let n = numbers::list_length(weights, wbytes);
@@ -228,8 +230,8 @@ pub fn solve(
     cells: &mut [u32],
     picks: &mut [u32],
 ) -> Answer
-    requires { ⌜ AcceptedAny (jobOf kind (budget ∷ []) (handed (now weights) (now wbytes)) (handed (now values) (now vbytes)) (handed (now copies) (now cbytes))) (now cells) (now picks) ⌝ }
-    ensures { λ r. ⌜ Packs (jobOf kind (budget ∷ []) (handed (now (weights .entry)) (now (wbytes .entry))) (handed (now (values .entry)) (now (vbytes .entry))) (handed (now (copies .entry)) (now (cbytes .entry)))) (now (cells .entry)) (now (picks .entry)) r (now (cells .exit)) (now (picks .exit)) ⌝ }
+    requires { ⌜ Accepted (jobHanded kind budget (now weights) (now wbytes) (now values) (now vbytes) (now copies) (now cbytes)) (now cells) (now picks) ⌝ }
+    ensures { λ r. ⌜ Packs (jobHanded kind budget (now (weights .entry)) (now (wbytes .entry)) (now (values .entry)) (now (vbytes .entry)) (now (copies .entry)) (now (cbytes .entry))) (now (cells .entry)) (now (picks .entry)) r (now (cells .exit)) (now (picks .exit)) ⌝ }
 {
     if kind == 3 {
         return one_row(budget, weights, wbytes, values, vbytes, cells, picks);

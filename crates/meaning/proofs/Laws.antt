@@ -17,7 +17,7 @@ use Rattle.meaning.specs.Lent.{Lent, roomFor}
 use Rattle.meaning.specs.Refusals.{kindRefusal}
 use Rattle.meaning.specs.Bytes.{readJob, readable, unreadable}
 use Rattle.meaning.specs.Answers.{saidOf}
-use Rattle.meaning.specs.Solved.{Answered, Gives, Outcome, Solved, SolvedAs, SolvedBytes, SolvedRead, TableHolds, TurnedDown, SolvedLists}
+use Rattle.meaning.specs.Solved.{Unrefused, Answered, Gives, Outcome, Solved, SolvedAs, SolvedBytes, SolvedRead, TableHolds, TurnedDown, SolvedLists}
 use Rattle.meaning.proofs.OneOfEach.{table-unique}
 use Rattle.meaning.proofs.Unique.{gives-unique, no-influence, said-unique}
 
@@ -82,15 +82,26 @@ pub solved-unreadable : (bytes : List ℕ) (place : ℕ) (before : Lent) → rea
 unfolding SolvedBytes SolvedRead
 solved-unreadable bytes place before e = rw e (turned-down 1 before)
 
--- ---- an accepted call
+-- ---- a call on a job that is not refused
+
+-- it is answered
+pub unrefused-answered : (k : Kind) (j : Job) (before after : Lent) (a : Answer) → Unrefused k j before → Solved j before a after
+    → Answered (roomFor k j) (TableHolds k j) k j before (saidOf a) after
+unfolding Outcome
+unrefused-answered k j before after a ok h = kind-solved j before k 0 a after (ok .of-kind) (ok .no-refusal) h
+
+-- and what answers it solves it
+pub answered-solved : (k : Kind) (j : Job) (before after : Lent) (a : Answer) → Unrefused k j before
+    → Answered (roomFor k j) (TableHolds k j) k j before (saidOf a) after → Solved j before a after
+unfolding Outcome
+answered-solved k j before after a ok h = solved-kind j before k 0 a after (ok .of-kind) (ok .no-refusal) h
 
 -- whoever solves a job that the meanings answer by b and p answers b and writes p
 pub solved-says : (k : Kind) (j : Job) (before after : Lent) (a b : Answer) (p : List ℕ)
-    → kindOf (j .kind-number) ≡ some k → kindRefusal (roomFor k j) k j before ≡ 0 → Gives k j (saidOf b) p → Solved j before a after
+    → Unrefused k j before → Gives k j (saidOf b) p → Solved j before a after
     → (a ≡ b) × Holds p (before .picks) (after .picks)
-unfolding Outcome
-solved-says k j before after a b p e f g h =
-    let answered : Answered (roomFor k j) (TableHolds k j) k j before (saidOf a) after = kind-solved j before k 0 a after e f h in
+solved-says k j before after a b p ok g h =
+    let answered = unrefused-answered k j before after a ok h in
     let (same, said) = gives-unique k j (saidOf a) (saidOf b) (answered .content .picks) p (answered .gives) g in
     (said-unique said, rw same at (answered .picks-hold))
 
@@ -108,13 +119,11 @@ pub record Uninfluenced (a a′ : Answer) (before after before′ after′ : Len
   pub in-second : ContentIn content before′ after′
 
 -- what stood in the table before has no influence
-pub uninfluenced : (k : Kind) (j : Job) (before after before′ after′ : Lent) (a a′ : Answer) → kindOf (j .kind-number) ≡ some k
-    → kindRefusal (roomFor k j) k j before ≡ 0 → kindRefusal (roomFor k j) k j before′ ≡ 0
+pub uninfluenced : (k : Kind) (j : Job) (before after before′ after′ : Lent) (a a′ : Answer) → Unrefused k j before → Unrefused k j before′
     → Solved j before a after → Solved j before′ a′ after′ → Uninfluenced a a′ before after before′ after′
-unfolding Outcome
-uninfluenced k j before after before′ after′ a a′ e f f′ h h′ =
-    let x : Answered (roomFor k j) (TableHolds k j) k j before (saidOf a) after = kind-solved j before k 0 a after e f h in
-    let y : Answered (roomFor k j) (TableHolds k j) k j before′ (saidOf a′) after′ = kind-solved j before′ k 0 a′ after′ e f′ h′ in
+uninfluenced k j before after before′ after′ a a′ ok ok′ h h′ =
+    let x = unrefused-answered k j before after a ok h in
+    let y = unrefused-answered k j before′ after′ a′ ok′ h′ in
     let (said, same) = no-influence k j before before′ after after′ (saidOf a) (saidOf a′) (table-unique k j) x y in
     record {
       answer = said-unique said;
@@ -124,8 +133,7 @@ uninfluenced k j before after before′ after′ a a′ e f f′ h h′ =
     }
 
 -- nor where the job comes as bytes
-pub uninfluenced-bytes : (bytes : List ℕ) (k : Kind) (j : Job) (before after before′ after′ : Lent) (a a′ : Answer) → readJob bytes ≡ readable j → kindOf (j .kind-number) ≡ some k
-    → kindRefusal (roomFor k j) k j before ≡ 0 → kindRefusal (roomFor k j) k j before′ ≡ 0
+pub uninfluenced-bytes : (bytes : List ℕ) (k : Kind) (j : Job) (before after before′ after′ : Lent) (a a′ : Answer) → readJob bytes ≡ readable j → Unrefused k j before → Unrefused k j before′
     → SolvedBytes bytes before a after → SolvedBytes bytes before′ a′ after′ → Uninfluenced a a′ before after before′ after′
-uninfluenced-bytes bytes k j before after before′ after′ a a′ reads e f f′ h h′ =
-    uninfluenced k j before after before′ after′ a a′ e f f′ (bytes-solved bytes j before after a reads h) (bytes-solved bytes j before′ after′ a′ reads h′)
+uninfluenced-bytes bytes k j before after before′ after′ a a′ reads ok ok′ h h′ =
+    uninfluenced k j before after before′ after′ a a′ ok ok′ (bytes-solved bytes j before after a reads h) (bytes-solved bytes j before′ after′ a′ reads h′)

@@ -28,7 +28,7 @@ F₂ = jobOf 4 (7 ∷ []) (3 ∷ 5 ∷ 9 ∷ []) [] []
 
 -- a trial of kind k whose answer is given
 goes : (k : Kind) {j : Job} {a : Answer} {p : List ℕ} → kindOf (j .kind-number) ≡ some k → kindRefusal (roomFor k j) k j (justEnough k j) ≡ 0 → Gives k j (saidOf a) p → (k′ : Kind) × Means k′ j a p
-goes k e f g = (k, record { of-kind = e; not-refused = f; answer = g })
+goes k e f g = (k, record { unrefused = record { of-kind = e; no-refusal = f }; answer = g })
 
 pub sixteen : AllGo trials
 unfolding trials Goes justEnough Gives YesOrNo TotalCount Built Checked jobJ certJ opens picked isSelection misses totalled isLaid isCounted

@@ -1,7 +1,7 @@
 -- Wrong versions that the promises rule out: those that document 01 names, each tried on one of its cases.
 -- Assumes nothing.
 use mathlib.Core.Path.{_∙_, _≡_, ap, refl, subst, sym}
-use mathlib.Core.Option.{Option·some-injective, some}
+use mathlib.Core.Option.{Option·some-injective}
 use Prim.Native.Nat.{ℕ}
 use native.Mathlib.Omega.{arith}
 use mathlib.Core.List.{List, [], _∷_}
@@ -16,19 +16,18 @@ use Rattle.meaning.specs.declared.Verdict.{Verdict}
 use Rattle.meaning.specs.declared.Verdict.the-variants.{Accepted}
 use Rattle.meaning.specs.Lists.{at}
 use Rattle.meaning.specs.Slices.{Holds}
-use Rattle.meaning.specs.Job.{Job, Kind, kindOf, packing, once}
-use Rattle.meaning.specs.Lent.{Lent, roomFor}
-use Rattle.meaning.specs.Refusals.{kindRefusal}
+use Rattle.meaning.specs.Job.{Job, Kind, packing, once}
+use Rattle.meaning.specs.Lent.{Lent}
 use Rattle.meaning.specs.Bytes.{readable, unreadable}
 use Rattle.meaning.specs.Knapsacks.{BestPicks, FullTable, ValueTable}
 use Rattle.meaning.specs.Answers.{saidOf}
-use Rattle.meaning.specs.Solved.{Answered, Gives, Outcome, Solved, TableHolds, SolvedBytes, SolvedRead}
+use Rattle.meaning.specs.Solved.{Unrefused, Gives, Outcome, Solved, TableHolds, SolvedBytes, SolvedRead}
 use Rattle.meaning.specs.Writer.{Writes, WritesBytes, WritesRead, bytesNeeded, certificate, newBytes, slicesFit, writerRefusal, writtenAs}
 use Rattle.meaning.specs.Demands.{Accepts, BestList, Demand3, Sound, ValidJob}
 use Rattle.meaning.specs.Trials.{Goes, jobJ, solve}
 use Rattle.meaning.proofs.OneOfEach.{best-value-unique}
 use Rattle.meaning.proofs.Unique.{said-unique, wrote-unique}
-use Rattle.meaning.proofs.Laws.{kind-solved, solved-says}
+use Rattle.meaning.proofs.Laws.{unrefused-answered, solved-says}
 use Rattle.meaning.proofs.Small.{picked, picked-out}
 use Rattle.meaning.proofs.Opens.{opens}
 use Rattle.meaning.proofs.Cases.{caseA, caseJ, noLabels}
@@ -39,13 +38,9 @@ answer-A : Gives (packing once) caseA (saidOf (Says.Knapsack 9 7)) (1 ∷ 1 ∷ 
 unfolding opens Gives picked
 answer-A = record { picked = picked-out once caseA (1 ∷ 1 ∷ 0 ∷ []) tt; numbers = refl }
 
-kind-A : kindOf (caseA .kind-number) ≡ some (packing once)
-unfolding opens
-kind-A = refl
-
-module _ (before after : Lent) (room : kindRefusal (roomFor (packing once) caseA) (packing once) caseA before ≡ 0) where
+module _ (before after : Lent) (ok : Unrefused (packing once) caseA before) where
   says-A : (a : Answer) → Solved caseA before a after → (a ≡ Says.Knapsack 9 7) × Holds (1 ∷ 1 ∷ 0 ∷ []) (before .picks) (after .picks)
-  says-A a h = solved-says (packing once) caseA before after a (Says.Knapsack 9 7) (1 ∷ 1 ∷ 0 ∷ []) kind-A room answer-A h
+  says-A a h = solved-says (packing once) caseA before after a (Says.Knapsack 9 7) (1 ∷ 1 ∷ 0 ∷ []) ok answer-A h
 
   no-refusal : (r : ℕ) → ¬ Solved caseA before (Says.Refused r) after
   no-refusal r h = let e : Says.Refused r ≡ Says.Knapsack 9 7 = says-A (Says.Refused r) h .0 in let z : _≡_ {A = ℕ} 0 1 = cc in omega arith
@@ -57,7 +52,7 @@ module _ (before after : Lent) (room : kindRefusal (roomFor (packing once) caseA
   last-cell : (a : Answer) → Solved caseA before a after → at (after .cells) 31 ≡ 9
   unfolding Outcome TableHolds ValueTable FullTable opens BestPicks Gives Holds
   last-cell a h =
-      let x : Answered (roomFor (packing once) caseA) (TableHolds (packing once) caseA) (packing once) caseA before (saidOf a) after = kind-solved caseA before (packing once) 0 a after kind-A room h in
+      let x = unrefused-answered (packing once) caseA before after a ok h in
       let long : length (x .content .cells) ≡ 32 = x .cells-needed in
       ap (λ (l : List ℕ). at l 31) (x .cells-hold)
       ∙ List·getD-append (x .content .cells) (drop (length (x .content .cells)) (before .cells)) 0 31 (omega (arith, long))
@@ -65,12 +60,12 @@ module _ (before after : Lent) (room : kindRefusal (roomFor (packing once) caseA
 
 -- ---- invented totals, ways or spare: whoever solves a proved trial answers what it says, and writes its picks
 
-trial-says : (j : Job) (a : Answer) (p : List ℕ) → Goes (solve j a p) → (k : Kind) → kindOf (j .kind-number) ≡ some k → (before after : Lent) (a′ : Answer)
-    → kindRefusal (roomFor k j) k j before ≡ 0 → Solved j before a′ after → (a′ ≡ a) × Holds p (before .picks) (after .picks)
+trial-says : (j : Job) (a : Answer) (p : List ℕ) → Goes (solve j a p) → (k : Kind) (before after : Lent) (a′ : Answer)
+    → Unrefused k j before → Solved j before a′ after → (a′ ≡ a) × Holds p (before .picks) (after .picks)
 unfolding Goes
-trial-says j a p (k′, m) k e before after a′ f h =
-    let same : k ≡ k′ = Option·some-injective k k′ (sym e ∙ m .of-kind) in
-    solved-says k j before after a′ a p e f (subst (λ (x : Kind). Gives x j (saidOf a) p) (sym same) (m .answer)) h
+trial-says j a p (k′, m) k before after a′ ok h =
+    let same : k ≡ k′ = Option·some-injective k k′ (sym (ok .of-kind) ∙ m .unrefused .of-kind) in
+    solved-says k j before after a′ a p ok (subst (λ (x : Kind). Gives x j (saidOf a) p) (sym same) (m .answer)) h
 
 -- ---- the planner on job bytes: one that gives another number for bytes that can't be read, and one that writes then
 

@@ -118,6 +118,11 @@ module _ (room : Kind → Job → Room) (table : Kind → Job → Lent → Type 
   SolvedRead (unreadable place) before a after = TurnedDown 1 before (saidOf a) after
   SolvedRead (readable j) before a after = SolvedLists j before a after
 
+-- a job of kind k that none of 2 to 6 and 9 refuses, with these slices lent
+pub record Unrefused (k : Kind) (j : Job) (lent : Lent) : Type 0 where
+  pub of-kind : kindOf (j .kind-number) ≡ some k
+  pub no-refusal : kindRefusal (roomFor k j) k j lent ≡ 0
+
 -- the planner's promise on a job of lists, called with the slices as `before`: the answer a, and the slices as `after`
 unfoldable pub Solved : Job → Lent → Answer → Lent → Type 0
 Solved j before a after = SolvedLists roomFor TableHolds j before a after

@@ -1,8 +1,6 @@
 -- The sixteen proved trials: one list, and one claim about the meanings.
 -- Assumes nothing.
 use Prim.Native.Nat.{ℕ}
-use mathlib.Core.Path.{_≡_}
-use mathlib.Core.Option.{some}
 use mathlib.Core.List.{List, [], _∷_, _++_}
 use lib.ListN.{replicate}
 use Rattle.meaning.specs.declared.Answer.{Answer}
@@ -10,12 +8,11 @@ use Rattle.meaning.specs.declared.Answer.the-variants.{Knapsack, Sums, B
 use Rattle.meaning.specs.declared.Verdict.{Verdict}
 use Rattle.meaning.specs.declared.Verdict.the-variants.{Accepted, Refused}
 use mathlib.Core.Bool.{true, false}
-use Rattle.meaning.specs.Job.{Job, jobOf, Kind, kindOf}
+use Rattle.meaning.specs.Job.{Job, jobOf, Kind}
 use Rattle.meaning.specs.Lent.{Lent, lentOf, roomFor}
-use Rattle.meaning.specs.Refusals.{kindRefusal}
 use Rattle.meaning.specs.Bytes.{jobBytes, sectionBytes}
 use Rattle.meaning.specs.Answers.{saidOf}
-use Rattle.meaning.specs.Solved.{Gives}
+use Rattle.meaning.specs.Solved.{Gives, Unrefused}
 use Rattle.meaning.specs.Certificates.{Checked}
 
 -- a job with its answer and picks; or job bytes and certificate bytes with the verdict
@@ -29,8 +26,7 @@ justEnough k j = lentOf (replicate (roomFor k j .cells) 0) (replicate (roomFor k
 
 -- the job is of kind k, isn't refused where there is room, and is answered by a and the picks p
 pub record Means (k : Kind) (j : Job) (a : Answer) (p : List ℕ) : Type 0 where
-  pub of-kind : kindOf (j .kind-number) ≡ some k
-  pub not-refused : kindRefusal (roomFor k j) k j (justEnough k j) ≡ 0
+  pub unrefused : Unrefused k j (justEnough k j)
   pub answer : Gives k j (saidOf a) p
 
 -- the trial goes as it says

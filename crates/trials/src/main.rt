@@ -6,8 +6,8 @@ ghost use mathlib.Core.List.{[], _∷_};
 ghost use lib.ListN.{replicate};
 ghost use Rattle.meaning.specs.Job.{jobOf};
 ghost use Rattle.meaning.specs.Bytes.{jobBytes};
-ghost use Rattle.numbers.specs.Handed.{handed};
-ghost use Rattle.knapsack.specs.Doors.{AcceptedAny};
+ghost use Rattle.numbers.specs.Handed.{jobHanded};
+ghost use Rattle.knapsack.specs.Doors.{Accepted};
 
 // A number after a blank.
 fn print_count(x: u32) {
@@ -44,7 +44,7 @@ fn pack(
     copies: &[u32],
     cbytes: &[u8],
 )
-    requires { ⌜ AcceptedAny (jobOf kind (budget ∷ []) (handed (now weights) (now wbytes)) (handed (now values) (now vbytes)) (handed (now copies) (now cbytes))) (replicate 64 0) (replicate 4 0) ⌝ }
+    requires { ⌜ Accepted (jobHanded kind budget (now weights) (now wbytes) (now values) (now vbytes) (now copies) (now cbytes)) (replicate 64 0) (replicate 4 0) ⌝ }
 {
     let mut cells = [7u32; 64];
     let mut picks = [9u32; 4];

@@ -38,26 +38,26 @@ module _ (s : tie.Start) where
 
   numbered : s .args .kind ≡ numberOf sort
   unfolding jobOf
-  numbered = kind-number (s .args .kind) sort (s .pre .0 .accepted .of-kind)
+  numbered = kind-number (s .args .kind) sort (s .pre .0 .unrefused .of-kind)
 
   below : numberOf sort < 3
   below = rw numbered at (s .pre .1)
 
   bounds : Bounded (s .args .budget + 1) weights values
   unfolding jobOf
-  bounds = bounded sort job (ready (s .pre .0 .accepted) .valid)
+  bounds = bounded sort job (ready sort job (s .args .cells .now) (s .args .picks .now) (s .pre .0 .unrefused) .valid)
 
   cells-room : (length weights + 1) * (s .args .budget + 1) ≤ length (s .args .cells .now)
   unfolding jobOf labels cellCount
-  cells-room = rw (full-room sort job below) at (ready (s .pre .0 .accepted) .cells-room)
+  cells-room = rw (full-room sort job below) at (ready sort job (s .args .cells .now) (s .args .picks .now) (s .pre .0 .unrefused) .cells-room)
 
   picks-room : length weights ≤ length (s .args .picks .now)
   unfolding jobOf labels
-  picks-room = ready (s .pre .0 .accepted) .picks-room
+  picks-room = ready sort job (s .args .cells .now) (s .args .picks .now) (s .pre .0 .unrefused) .picks-room
 
   copied : ¬ (s .args .kind ≡ 1) → length copies ≡ length weights
   unfolding jobOf labels
-  copied other = copies-long sort job (ready (s .pre .0 .accepted) .valid) below (rw numbered at other)
+  copied other = copies-long sort job (ready sort job (s .args .cells .now) (s .args .picks .now) (s .pre .0 .unrefused) .valid) below (rw numbered at other)
 
 -- how many cells and picks are needed
 module _ (l : tie.After-list-length) where
@@ -194,7 +194,7 @@ returns c =
     let last : at (table f ++ rest) (needed l - 1) ≡ at (table f) (length (weights s) * (a .budget + 1) + a .budget) =
     ap (at (table f ++ rest)) (omega (arith, needed-is l, more))
     ∙ List·getD-append (table f) rest 0 (length (weights s) * (a .budget + 1) + a .budget) (omega (arith, table-long f, needed-is l, more)) in
-    packs-full (sort s) (job s) (a .cells .now) (a .picks .now) (table f) (found w) (w .way-back .result) (below s) (s .pre .0 .accepted) (table-long f ∙ needed-is l) (filled f) (way w)
+    packs-full (sort s) (job s) (a .cells .now) (a .picks .now) (table f) (found w) (w .way-back .result) (below s) (s .pre .0 .unrefused) (table-long f ∙ needed-is l) (filled f) (way w)
     (needed l) (l .list-length .result) _ (needed-is l) (l .list-length .ensures) last
 
 pub full-table-spec : {M : Type 1} → statement M

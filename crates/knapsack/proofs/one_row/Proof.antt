@@ -30,7 +30,7 @@ module _ (s : tie.Start) where
 
   ok : Kept
   unfolding jobOf labels roomFor roomOf
-  ok = let r = ready (s .pre) in record { cells-room = r .cells-room; picks-room = r .picks-room; bounds = bounded free job (r .valid) }
+  ok = let r = ready free job (s .args .cells .now) (s .args .picks .now) (s .pre) in record { cells-room = r .cells-room; picks-room = r .picks-room; bounds = bounded free job (r .valid) }
 
 -- what the call of `fill_row` leaves
 module _ (f : tie.After-fill-row) where

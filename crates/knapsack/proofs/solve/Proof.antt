@@ -1,9 +1,10 @@
 use mathlib.Core.Path.{_≡_}
 use mathlib.Core.List.{[], _∷_}
 use borrow.Author.Needs.{needs}
-use Rattle.meaning.specs.Job.{Job, jobOf, free}
+use Rattle.meaning.specs.Job.{Job, jobOf, packing, free}
 use Rattle.numbers.specs.Handed.{handed}
-use Rattle.knapsack.specs.Doors.{Accepted}
+use Rattle.meaning.specs.Lent.{lentOf}
+use Rattle.meaning.specs.Solved.{Unrefused}
 use Rattle.knapsack.proofs.Doors.{any-below, job-free}
 use Rattle.knapsack.proofs.solve.Statement.{statement}
 use Rattle.knapsack.proofs.solve.Tie as tie
@@ -14,7 +15,7 @@ job s =
 
 -- where the kind is 3, the job is one without copies
 three : (c : tie.Then1) → let s = c .before .before .before .before .before .before .before .before .before in let bare = jobOf 3 (s .args .budget ∷ []) (handed (s .args .weights .now) (s .args .wbytes .now)) (handed (s .args .values .now) (s .args .vbytes .now)) [] in
-    (job s ≡ bare) × Accepted free bare (s .args .cells .now) (s .args .picks .now)
+    (job s ≡ bare) × Unrefused (packing free) bare (lentOf (s .args .cells .now) [] (s .args .picks .now))
 three c =
     let s = c .before .before .before .before .before .before .before .before .before in
     job-free (s .args .kind) (s .args .budget) (handed (s .args .weights .now) (s .args .wbytes .now)) (handed (s .args .values .now) (s .args .vbytes .now)) (handed (s .args .copies .now) (s .args .cbytes .now)) (s .args .cells .now) (s .args .picks .now) (c .if1 .taken) (s .pre)

@@ -33,7 +33,7 @@ slice-aggregate-pack-6 c = search needs
 -- src/main.rt:81:5
 pack-requires : tie.Need-pack-requires
 unfolding opens handed
-pack-requires c κs = record { sort = once; accepted = record { of-kind = refl; unrefused = refl } }
+pack-requires c κs = record { sort = once; unrefused = record { of-kind = refl; no-refusal = refl } }
 
 -- src/main.rt:83:16
 slice-aggregate-pack-parts : tie.Need-slice-aggregate-pack-parts
@@ -71,7 +71,7 @@ slice-aggregate-pack-12 c = search needs
 -- src/main.rt:85:5
 pack-requires-2 : tie.Need-pack-requires-2
 unfolding opens handed
-pack-requires-2 c κs = record { sort = once; accepted = record { of-kind = refl; unrefused = refl } }
+pack-requires-2 c κs = record { sort = once; unrefused = record { of-kind = refl; no-refusal = refl } }
 
 -- src/main.rt:87:17
 slice-aggregate-pack-13 : tie.Need-slice-aggregate-pack-13
@@ -100,7 +100,7 @@ slice-aggregate-pack-18 c = search needs
 -- src/main.rt:87:5
 pack-requires-3 : tie.Need-pack-requires-3
 unfolding opens handed
-pack-requires-3 c κs = record { sort = once; accepted = record { of-kind = refl; unrefused = refl } }
+pack-requires-3 c κs = record { sort = once; unrefused = record { of-kind = refl; no-refusal = refl } }
 
 -- src/main.rt:89:16
 slice-aggregate-pack-19 : tie.Need-slice-aggregate-pack-19
@@ -129,7 +129,7 @@ slice-aggregate-pack-24 c = search needs
 -- src/main.rt:89:5
 pack-requires-4 : tie.Need-pack-requires-4
 unfolding opens handed
-pack-requires-4 c κs = record { sort = limited; accepted = record { of-kind = refl; unrefused = refl } }
+pack-requires-4 c κs = record { sort = limited; unrefused = record { of-kind = refl; no-refusal = refl } }
 
 -- src/main.rt:91:17
 slice-aggregate-pack-25 : tie.Need-slice-aggregate-pack-25
@@ -158,7 +158,7 @@ slice-aggregate-pack-30 c = search needs
 -- src/main.rt:91:5
 pack-requires-5 : tie.Need-pack-requires-5
 unfolding opens handed
-pack-requires-5 c κs = record { sort = free; accepted = record { of-kind = refl; unrefused = refl } }
+pack-requires-5 c κs = record { sort = free; unrefused = record { of-kind = refl; no-refusal = refl } }
 
 -- src/main.rt:92:16
 slice-aggregate-pack-31 : tie.Need-slice-aggregate-pack-31
@@ -187,7 +187,7 @@ slice-aggregate-pack-36 c = search needs
 -- src/main.rt:92:5
 pack-requires-6 : tie.Need-pack-requires-6
 unfolding opens handed
-pack-requires-6 c κs = record { sort = free; accepted = record { of-kind = refl; unrefused = refl } }
+pack-requires-6 c κs = record { sort = free; unrefused = record { of-kind = refl; no-refusal = refl } }
 
 -- src/main.rt:77:1
 returns : tie.Need-returns

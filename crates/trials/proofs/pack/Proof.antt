@@ -1,12 +1,11 @@
 use Prim.Native.Nat.{_≤_}
-use mathlib.Core.List.{[], _∷_}
 use mathlib.Core.Path.{refl, sym}
 use native.Mathlib.Omega.{arith}
 use lib.ListN.{length, replicate}
 use lib.Seq.{length-take-le}
 use borrow.Author.Needs.{needs}
 use Rattle.meaning.specs.Job.{jobOf, labels}
-use Rattle.numbers.specs.Handed.{handed}
+use Rattle.numbers.specs.Handed.{handed, jobHanded}
 use Rattle.knapsack.proofs.Doors.{accepted-long, ready}
 use Rattle.trials.proofs.pack.Statement.{statement}
 use Rattle.trials.proofs.pack.Tie as tie
@@ -15,7 +14,7 @@ use Rattle.trials.proofs.pack.Tie as tie
 -- no more labels than picks
 few : (s : tie.Start) → length (handed (s .args .weights .now) (s .args .wbytes .now)) ≤ 4
 unfolding jobOf labels
-few s = ready (s .pre .accepted) .picks-room
+few s = ready (s .pre .sort) (jobHanded (s .args .kind) (s .args .budget) (s .args .weights .now) (s .args .wbytes .now) (s .args .values .now) (s .args .vbytes .now) (s .args .copies .now) (s .args .cbytes .now)) (replicate 64 0) (replicate 4 0) (s .pre .unrefused) .picks-room
 
 slice-aggregate-solve : tie.Need-slice-aggregate-solve
 slice-aggregate-solve c = search needs
@@ -29,7 +28,7 @@ solve-requires : tie.Need-solve-requires
 solve-requires c κs =
     let s = c .before .before .before .before .before .before .before .before in
     let a = s .args in
-    accepted-long (jobOf (a .kind) (a .budget ∷ []) (handed (a .weights .now) (a .wbytes .now)) (handed (a .values .now) (a .vbytes .now)) (handed (a .copies .now) (a .cbytes .now))) (replicate 64 0) (replicate 4 0) _ _ refl refl (s .pre)
+    accepted-long (jobHanded (a .kind) (a .budget) (a .weights .now) (a .wbytes .now) (a .values .now) (a .vbytes .now) (a .copies .now) (a .cbytes .now)) (replicate 64 0) (replicate 4 0) _ _ refl refl (s .pre)
 
 -- src/main.rt:52:18
 slice-aggregate-print-number : tie.Need-slice-aggregate-print-number

@@ -64,7 +64,7 @@ part-pack-end-3 c = search needs
 -- src/main.rt:68:5
 pack-requires : tie.Need-pack-requires
 unfolding opens handed
-pack-requires c κs = rw (c .before .before .before .before .before .before .before .pre) (record { sort = once; accepted = record { of-kind = refl; unrefused = refl } })
+pack-requires c κs = rw (c .before .before .before .before .before .before .before .pre) (record { sort = once; unrefused = record { of-kind = refl; no-refusal = refl } })
 
 -- src/main.rt:64:1
 returns : tie.Need-returns
