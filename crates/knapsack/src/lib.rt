@@ -121,19 +121,19 @@ fn way_along(
     requires { ⌜ Low (at (now row)) (length (now row)) × (length (handed (now weights) (now wbytes)) ≡ length (now picks)) ⌝ }
     ensures { λ r. ⌜ WayAlong (at (now (row .entry))) (handed (now (weights .entry)) (now (wbytes .entry))) (handed (now (values .entry)) (now (vbytes .entry))) (length (now (row .entry)) - 1) (length (now (picks .entry))) r 0 (now (picks .exit)) ⌝ }
 {
-    let mut i = 0;
+    let mut label = 0;
     let mut c = row.len() - 1;
     let mut x: u32 = 0;
-    while i < picks.len() {
-        let w = numbers::item(weights, wbytes, i);
-        let v = numbers::item(values, vbytes, i);
+    while label < picks.len() {
+        let w = numbers::item(weights, wbytes, label);
+        let v = numbers::item(values, vbytes, label);
         if rows::leads(row, w, v, c) {
             c -= w as usize;
             x += 1;
         } else {
-            picks[i] = x;
+            picks[label] = x;
             x = 0;
-            i += 1;
+            label += 1;
         }
     }
     c

@@ -31,25 +31,25 @@ abbrev entry : tie.At-loop Inv-loop μ-loop → tie.Start Inv-loop μ-loop
 entry c = c .before .before .before .before .before .before .before
 
 -- label i is one of the labels
-inside : (c : tie.In-loop Inv-loop μ-loop) → c .before .loop .i < length (handed (entry (c .before) .args .weights .now) (entry (c .before) .args .wbytes .now))
+inside : (c : tie.In-loop Inv-loop μ-loop) → c .before .loop .label < length (handed (entry (c .before) .args .weights .now) (entry (c .before) .args .wbytes .now))
 inside c = omega (arith, entry (c .before) .pre .1 .1)
 
-on : (c : tie.Then1 Inv-loop μ-loop) → let head = c .before .before .before .before .before in let a = entry head .args in leadsOn (at (a .row .now)) (at (handed (a .weights .now) (a .wbytes .now)) (head .loop .i)) (at (handed (a .values .now) (a .vbytes .now)) (head .loop .i)) (head .loop .c) ≡ true
+on : (c : tie.Then1 Inv-loop μ-loop) → let head = c .before .before .before .before .before in let a = entry head .args in leadsOn (at (a .row .now)) (at (handed (a .weights .now) (a .wbytes .now)) (head .loop .label)) (at (handed (a .values .now) (a .vbytes .now)) (head .loop .label)) (head .loop .c) ≡ true
 on c = rw (← c .before .before .before .item .ensures, ← c .before .before .item2 .ensures) (sym (c .before .leads .ensures) ∙ c .if1 .taken)
 
-off : (c : tie.Else1 Inv-loop μ-loop) → let head = c .before .before .before .before .before in let a = entry head .args in leadsOn (at (a .row .now)) (at (handed (a .weights .now) (a .wbytes .now)) (head .loop .i)) (at (handed (a .values .now) (a .vbytes .now)) (head .loop .i)) (head .loop .c) ≡ false
+off : (c : tie.Else1 Inv-loop μ-loop) → let head = c .before .before .before .before .before in let a = entry head .args in leadsOn (at (a .row .now)) (at (handed (a .weights .now) (a .wbytes .now)) (head .loop .label)) (at (handed (a .values .now) (a .vbytes .now)) (head .loop .label)) (head .loop .c) ≡ false
 off c = rw (← c .before .before .before .item .ensures, ← c .before .before .item2 .ensures) (sym (c .before .leads .ensures) ∙ c .if1 .left)
 
 light : (c : tie.Then1 Inv-loop μ-loop) → c .before .before .before .item .result ≤ c .before .before .before .before .before .loop .c
 light c =
     let head = c .before .before .before .before .before in
     let a = entry head .args in
-    rw (c .before .before .before .item .ensures) (leads-true (at (a .row .now)) (at (handed (a .weights .now) (a .wbytes .now)) (head .loop .i)) (at (handed (a .values .now) (a .vbytes .now)) (head .loop .i)) (head .loop .c) (on c) .0)
+    rw (c .before .before .before .item .ensures) (leads-true (at (a .row .now)) (at (handed (a .weights .now) (a .wbytes .now)) (head .loop .label)) (at (handed (a .values .now) (a .vbytes .now)) (head .loop .label)) (head .loop .c) (on c) .0)
 
 heavy : (c : tie.Then1 Inv-loop μ-loop) → 1 ≤ c .before .before .before .item .result
 heavy c =
     let turn = c .before .before .before .before in
-    rw (c .before .before .before .item .ensures) (entry (turn .before) .pre .0 .heavy (turn .before .loop .i) (inside turn))
+    rw (c .before .before .before .item .ensures) (entry (turn .before) .pre .0 .heavy (turn .before .loop .label) (inside turn))
 
 sub-c : tie.Need-sub-c Inv-loop μ-loop
 sub-c c = search needs
@@ -68,7 +68,7 @@ leads-requires c κs =
     let turn = c .before .before in
     let s = entry (turn .before) in
     let b = s .pre .0 in
-    ((rw (c .before .item .ensures) (b .heavy (turn .before .loop .i) (inside turn)), (rw (c .item2 .ensures) (b .cheap (turn .before .loop .i) (inside turn)), (omega arith, b .narrow))), s .pre .1 .0)
+    ((rw (c .before .item .ensures) (b .heavy (turn .before .loop .label) (inside turn)), (rw (c .item2 .ensures) (b .cheap (turn .before .loop .label) (inside turn)), (omega arith, b .narrow))), s .pre .1 .0)
 
 cast-c : tie.Need-cast-c Inv-loop μ-loop
 cast-c c = omega (arith, light c)
@@ -101,8 +101,8 @@ mul-picks c = search needs
 slice-write-picks : tie.Need-slice-write-picks Inv-loop μ-loop
 slice-write-picks c = search needs
 
-add-i : tie.Need-add-i Inv-loop μ-loop
-add-i c = search needs
+add-label : tie.Need-add-label Inv-loop μ-loop
+add-label c = search needs
 
 loop-less-2 : tie.Need-loop-less-2 Inv-loop μ-loop
 loop-less-2 c = omega arith
@@ -114,7 +114,7 @@ loop-again-2 c =
       omega arith,
       omega arith,
       simp length-set (l .inv .2),
-      rw (add-one, take-suc-set (l .picks) (l .i) (l .x) (omega arith)) (passed (l .inv .3) (inside turn) (off c)),
+      rw (add-one, take-suc-set (l .picks) (l .label) (l .x) (omega arith)) (passed (l .inv .3) (inside turn) (off c)),
       λ h. refl,
     )
 
@@ -124,8 +124,8 @@ same-length c = search needs
 returns : tie.Need-returns Inv-loop μ-loop
 returns c =
     let l = c .before .loop in
-    let all : l .i ≡ length (entry (c .before) .args .picks .now) = omega arith in
-    let whole : take (l .i) (l .picks) ≡ l .picks = take-all (l .i) (l .picks) (omega arith) in
+    let all : l .label ≡ length (entry (c .before) .args .picks .now) = omega arith in
+    let whole : take (l .label) (l .picks) ≡ l .picks = take-all (l .label) (l .picks) (omega arith) in
     rw (← all, ← whole) (rw (l .inv .4 (omega arith)) at (l .inv .3))
 
 pub way-along-spec : {M : Type 1} → statement M
@@ -146,7 +146,7 @@ way-along-spec =
     loop-again
     mul-picks
     slice-write-picks
-    add-i
+    add-label
     loop-less-2
     loop-again-2
     same-length
