@@ -17,31 +17,30 @@ use Rattle.meaning.proofs.Steps.{best-none, none-better}
 use Rattle.meaning.proofs.Free.{free-more, free-fewer}
 use Rattle.meaning.proofs.Greedy.{first-is, greedy-step}
 use Rattle.meaning.proofs.OneOfEach.{only-choice}
-use Rattle.rows.specs.Rows.{Low}
+use Rattle.rows.specs.Rows.{AnyCount, Low}
 use Rattle.rows.proofs.Stores.{by, stored-first}
 use Rattle.rows.proofs.LeadsOn.{leads-true, leads-false}
-use Rattle.rows.proofs.Counts.{topped-any, topped-low, topped-best}
+use Rattle.rows.proofs.Counts.{topped-low, topped-best}
 use Rattle.knapsack.specs.Tables.{Bounded, Climbed, level, climb}
 use Rattle.knapsack.specs.Ways.{WayAlong, start, taken, passed}
 
 -- ---- the row as it is filled
 
 -- its cells are the best values of the labels so far
-pub climbed-best : (j : Job) (width i : ℕ) (row : List ℕ) → ((m : ℕ) → m < i → 1 ≤ at (j .weights) m) → Climbed (j .weights) (j .values) width i row
+pub climbed-best : (j : Job) (width i : ℕ) (row : List ℕ) → Climbed (j .weights) (j .values) width i row
     → (c : ℕ) → c < width → BestValue free j i c (at row c)
 unfolding MayPick
-climbed-best j width zero row pos (level none) c h = rw (none c h) (best-none free j c)
-climbed-best j width (suc i) next pos (climb {row = row} d up) c h =
-    topped-best free j i width (at row) (at next) (climbed-best j width i row (λ m l. pos m (omega arith)) d)
-    (topped-any (at row) (at next) (at (j .weights) i) (at (j .values) i) width (pos i (omega arith)) up) c h
+climbed-best j width zero row (level none) c h = rw (none c h) (best-none free j c)
+climbed-best j width (suc i) next (climb {row = row} d up) c h =
+    topped-best free j i width (at row) (at next) (climbed-best j width i row d)
+    up c h
 
 -- and low
 pub climbed-low : (ws vs : List ℕ) (width i : ℕ) (row : List ℕ) → Bounded width ws vs → i ≤ length ws → Climbed ws vs width i row → Low (at row) width
 unfolding Low mostValue
 climbed-low ws vs width zero row b h (level none) c l = omega (arith, none c l)
 climbed-low ws vs width (suc i) next b h (climb {row = row} d up) c l =
-    topped-low (λ x. Unit {0}) (at row) (at next) (at ws i) (at vs i) width (b .heavy i h) (b .cheap i h) (climbed-low ws vs width i row b (omega arith) d)
-    (topped-any (at row) (at next) (at ws i) (at vs i) width (b .heavy i h) up) c l
+    topped-low AnyCount (at row) (at next) (at ws i) (at vs i) width (b .heavy i h) (b .cheap i h) (climbed-low ws vs width i row b (omega arith) d) up c l
 
 -- ---- the way along
 

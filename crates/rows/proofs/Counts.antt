@@ -1,15 +1,15 @@
 -- One theory over the counts that may be picked: what one label makes of a row, for kinds 1, 2 and 3.
 -- Assumes nothing.
 use mathlib.Core.Path.{_≡_, refl, sym, ap, _∙_}
-use Prim.Native.Nat.{ℕ, zero, suc, _+_, _-_, _*_, _/_, _≤_, _<_, min}
-use native.Mathlib.Nat.{mul-add, mul-zero, mul-comm, mul-le-mul-left, mul-le-mul-right, sub-add-cancel, le-div-iff-mul-le, one-mul}
+use Prim.Native.Nat.{ℕ, zero, suc, _+_, _-_, _*_, _/_, _%_, _≤_, _<_, min}
+use native.Mathlib.Nat.{mul-add, mul-zero, mul-comm, mul-le-mul-left, mul-le-mul-right, mul-assoc, div-add-mod, mod-lt, sub-add-cancel, le-div-iff-mul-le, one-mul}
 use native.Mathlib.Omega.{arith}
 use Rattle.meaning.specs.Lists.{at}
 use Rattle.meaning.specs.Job.{Job, Sort}
 use Rattle.meaning.specs.Refusals.{mostValue}
 use Rattle.meaning.specs.Knapsacks.{MayPick, BestValue}
 use Rattle.meaning.proofs.Steps.{best-step}
-use Rattle.rows.specs.Rows.{Worth, Topped, ToppedRow, Raised, Low}
+use Rattle.rows.specs.Rows.{Worth, Topped, ToppedRow, AnyCount, Raised, Low}
 use Rattle.rows.proofs.Stores.{by}
 
 -- x times w, with s of the x apart
@@ -132,12 +132,12 @@ module _ (f g : ℕ → ℕ) (w v width : ℕ) (pos : 1 ≤ w) (up : Raised f g 
     omega (arith, r .worth, apart v x 1 h),
   )
 
-  climbed-below : (n c : ℕ) → c < n → c < width → Topped (λ x. Unit {0}) f w v c (g c)
+  climbed-below : (n c : ℕ) → c < n → c < width → Topped AnyCount f w v c (g c)
   unfolding topped-none
   climbed-below zero c h l = absurd (omega arith)
   climbed-below (suc n) c h l = by c w short (λ light. long light (climbed-below n (c - w) (omega arith) (omega arith)))
     where
-      none-of : g c ≡ f c → ((x y : ℕ) → 0 < x → Worth f w v c x y → y ≤ f c) → Topped (λ x. Unit {0}) f w v c (g c)
+      none-of : g c ≡ f c → ((x y : ℕ) → 0 < x → Worth f w v c x y → y ≤ f c) → Topped AnyCount f w v c (g c)
       none-of e under =
           let d = topped-none f w v c in
           record {
@@ -147,10 +147,10 @@ module _ (f g : ℕ → ℕ) (w v width : ℕ) (pos : 1 ≤ w) (up : Raised f g 
             above = λ x y k r. by 0 x (λ some. omega (arith, under x y some r)) (λ none. omega (arith, alone c x y r none));
           }
 
-      short : c < w → Topped (λ x. Unit {0}) f w v c (g c)
+      short : c < w → Topped AnyCount f w v c (g c)
       short k = none-of (up .short c l k) (λ x y some r. absurd (omega (arith, others c x y some r .0)))
 
-      long : w ≤ c → Topped (λ x. Unit {0}) f w v (c - w) (g (c - w)) → Topped (λ x. Unit {0}) f w v c (g c)
+      long : w ≤ c → Topped AnyCount f w v (c - w) (g (c - w)) → Topped AnyCount f w v c (g c)
       long light d =
           let e = up .long c l light in
           let under : (x y : ℕ) → 0 < x → Worth f w v c x y → y ≤ g (c - w) + v = λ x y some r.
@@ -168,9 +168,35 @@ module _ (f g : ℕ → ℕ) (w v width : ℕ) (pos : 1 ≤ w) (up : Raised f g 
           })
           (λ less. none-of (omega arith) (λ x y some r. omega (arith, under x y some r)))
 
-  pub topped-any : ToppedRow (λ x. Unit {0}) f w v width g
+  pub topped-any : ToppedRow AnyCount f w v width g
   unfolding ToppedRow
   topped-any c h = climbed-below (suc c) c (omega arith) h
+
+-- counts up to m - 1, and then any number of m at once: any count is within reach
+module _ (f g h : ℕ → ℕ) (w v m width : ℕ) (pos : 1 ≤ m) (fewer : ToppedRow (λ x. x ≤ m - 1) f w v width g) (bundles : ToppedRow AnyCount g (w * m) (v * m) width h) where
+  pub topped-bundles : ToppedRow AnyCount f w v width h
+  unfolding ToppedRow
+  topped-bundles c inside =
+      let d = bundles c inside in
+      let e = fewer (d .made .left) (omega (arith, d .made .spent)) in
+      record {
+        count = e .count + m * d .count;
+        may = tt;
+        made = record {
+          left = e .made .left;
+          spent = omega (arith, e .made .spent, d .made .spent, mul-add w (e .count) (m * d .count), mul-assoc w m (d .count));
+          worth = omega (arith, e .made .worth, d .made .worth, mul-add v (e .count) (m * d .count), mul-assoc v m (d .count));
+        };
+        above = λ x y k r.
+            let q = x / m in
+            let s = x % m in
+            let parts : x ≡ s + m * q = omega (arith, div-add-mod x m) in
+            let weights : w * x ≡ w * s + w * m * q = ap (λ (n : ℕ). w * n) parts ∙ omega (arith, mul-add w s (m * q), mul-assoc w m q) in
+            let values : v * x ≡ v * s + v * m * q = ap (λ (n : ℕ). v * n) parts ∙ omega (arith, mul-add v s (m * q), mul-assoc v m q) in
+            let mid = r .left + w * s in
+            let under = fewer mid (omega (arith, r .spent)) .above s (f (r .left) + v * s) (omega (arith, mod-lt x pos)) (record { left = r .left; spent = refl; worth = refl }) in
+            omega (arith, r .worth, d .above q (g mid + v * m * q) tt (record { left = mid; spent = omega (arith, r .spent); worth = refl }));
+      }
 
 -- ---- what a row comes to
 

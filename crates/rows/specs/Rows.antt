@@ -26,6 +26,10 @@ pub record Topped (May : ℕ → Type 0) (f : ℕ → ℕ) (w v c b : ℕ) : Typ
   pub made : Worth f w v c count b
   pub above : (x y : ℕ) → May x → Worth f w v c x y → y ≤ b
 
+-- any number may be picked
+abbrev pub AnyCount : ℕ → Type 0
+AnyCount x = Unit
+
 -- g is such a row: each of its cells is topped over f, for budgets below `width`
 unfoldable pub ToppedRow : (ℕ → Type 0) → (ℕ → ℕ) → ℕ → ℕ → ℕ → (ℕ → ℕ) → Type 0
 ToppedRow May f w v width g = (c : ℕ) → c < width → Topped May f w v c (g c)
@@ -52,19 +56,27 @@ pub record Stored (s t : List ℕ) (to lo hi : ℕ) (rule : ℕ → ℕ) : Type 
   pub cells : (c : ℕ) → lo ≤ c → c < hi → at t (to + c) ≡ rule c
   pub before : (k : ℕ) → k < to + lo → at t k ≡ at s k
 
+-- no cell is more than the greatest value for each unit of its budget, so that a label more still fits 32 bits
+unfoldable pub Low : (ℕ → ℕ) → ℕ → Type 0
+Low f width = (c : ℕ) → c < width → f c ≤ mostValue * c
+
 -- over whatever row s holds up to one of the label (or none, where none may be picked), t holds up to `most`
 unfoldable pub Repeated : List ℕ → List ℕ → ℕ → ℕ → ℕ → ℕ → Type 0
 Repeated s t w v width most =
     (f : ℕ → ℕ) → ToppedRow (λ x. x ≤ min 1 most) f w v width (at s) → ToppedRow (λ x. x ≤ most) f w v width (at t)
 
+-- t holds, over s, fewer than m of the label: the next pass may take m at once, which no sum keeps from fitting 32 bits
+pub record Bundled (s t : List ℕ) (w v width m : ℕ) : Type 0 where
+  pub some-of : 1 ≤ m
+  pub few : m < 32
+  pub fits : w * m < 4_294_967_296
+  pub fewer : ToppedRow (λ x. x ≤ m - 1) (at s) w v width (at t)
+  pub low : Low (at t) width
+
 -- t is s with the row after the one at `from` made of it and up to `limit` of the label; what stands before is kept
 pub record NextRow (s t : List ℕ) (from width w v limit : ℕ) : Type 0 where
   pub made : ToppedRow (λ x. x ≤ limit) (λ c. at s (from + c)) w v width (λ c. at t (from + width + c))
   pub before : (k : ℕ) → k < from + width → at t k ≡ at s k
-
--- no cell is more than the greatest value for each unit of its budget, so that a label more still fits 32 bits
-unfoldable pub Low : (ℕ → ℕ) → ℕ → Type 0
-Low f width = (c : ℕ) → c < width → f c ≤ mostValue * c
 
 -- one of the label leads on from budget c, where the row is right with it
 unfoldable pub leadsOn : (ℕ → ℕ) → ℕ → ℕ → ℕ → Bool

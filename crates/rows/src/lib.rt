@@ -4,7 +4,7 @@ ghost use Prim.Native.Nat.{ℕ, _+_, _-_, _*_, _≤_, _<_, max, min};
 ghost use lib.ListN.{length};
 ghost use Rattle.meaning.specs.Lists.{at};
 ghost use Rattle.meaning.specs.Refusals.{mostBudget, mostValue};
-ghost use Rattle.rows.specs.Rows.{SomeCount, Least, Raised, RaisedBetween, Stored, Low, Repeated, NextRow, leadsOn};
+ghost use Rattle.rows.specs.Rows.{ToppedRow, AnyCount, SomeCount, Least, Raised, RaisedBetween, Stored, Low, Repeated, Bundled, NextRow, leadsOn};
 
 // The lesser of two numbers.
 fn lesser(a: u32, b: u32) -> u32
@@ -98,7 +98,7 @@ fn add_parts(row: &mut [u32], w: u32, v: u32, most: u32)
 // A stretch of a row from small budgets up: a label of weight w and value v is added as often as it may be.
 fn raise_stretch(row: &mut [u32], from: usize, to: usize, w: usize, v: u32)
     requires { ⌜ (1 ≤ w) × ((w ≤ from) × ((from ≤ to) × (to ≤ length (now row)))) ⌝ }
-    requires { ⌜ (v ≤ mostValue) × ((length (now row) ≤ mostBudget + 1) × Low (at (now row)) (length (now row))) ⌝ }
+    requires { ⌜ (v ≤ mostValue * w) × ((length (now row) ≤ mostBudget + 1) × Low (at (now row)) (length (now row))) ⌝ }
     ensures { λ _. ⌜ RaisedBetween (now (row .entry)) (now (row .exit)) w v from to × Low (at (now (row .exit))) (length (now (row .entry))) ⌝ }
 {
     let mut c = from;
@@ -110,24 +110,20 @@ fn raise_stretch(row: &mut [u32], from: usize, to: usize, w: usize, v: u32)
     }
 }
 
-// Where a stretch that starts at budget c ends. Within w cells no cell depends on another, so that such a stretch runs in vectors; for a
-// small weight there is nothing to win.
+// Where a stretch that starts at budget c ends: within w cells no cell depends on another, so that such a stretch runs in vectors.
 fn stretch_end(width: usize, c: usize, w: usize) -> usize
     requires { ⌜ (c < width) × (1 ≤ w) ⌝ }
     ensures { λ r. ⌜ (c < r) × (r ≤ width) ⌝ }
 {
-    if w < 8 {
-        return width;
-    }
     if width - c < w {
         return width;
     }
     c + w
 }
 
-// Any number of a label of weight w and value v in a row, in place: from the least budget up, so that it is added again and again.
-pub fn raise_up(row: &mut [u32], w: u32, v: u32)
-    requires { ⌜ (1 ≤ w) × ((v ≤ mostValue) × (length (now row) ≤ mostBudget + 1)) ⌝ }
+// A row in place from the least budget up, so that a label of weight w and value v is added again and again.
+fn climb(row: &mut [u32], w: u32, v: u32)
+    requires { ⌜ (1 ≤ w) × ((v ≤ mostValue * w) × (length (now row) ≤ mostBudget + 1)) ⌝ }
     requires { ⌜ Low (at (now row)) (length (now row)) ⌝ }
     ensures { λ _. ⌜ Raised (at (now (row .entry))) (at (now (row .exit))) (at (now (row .exit))) w v (length (now (row .entry))) ⌝ }
 {
@@ -138,6 +134,31 @@ pub fn raise_up(row: &mut [u32], w: u32, v: u32)
         raise_stretch(row, c, end, w, v);
         c = end;
     }
+}
+
+// Light labels are bundled: the row is made to hold fewer than a bundle of the label, and the size of a bundle is given. A bundle is
+// heavy enough for stretches that run in vectors, or is the label alone.
+fn bundle(row: &mut [u32], w: u32, v: u32) -> u32
+    requires { ⌜ (1 ≤ w) × ((v ≤ mostValue) × (length (now row) ≤ mostBudget + 1)) ⌝ }
+    requires { ⌜ Low (at (now row)) (length (now row)) ⌝ }
+    ensures { λ r. ⌜ Bundled (now (row .entry)) (now (row .exit)) w v (length (now (row .entry))) r ⌝ }
+{
+    let mut m: u32 = 1;
+    while w * m < 16 {
+        raise_down(row, w * m % 16, v * m);
+        m *= 2;
+    }
+    m
+}
+
+// Any number of a label of weight w and value v in a row, in place.
+pub fn raise_up(row: &mut [u32], w: u32, v: u32)
+    requires { ⌜ (1 ≤ w) × ((v ≤ mostValue) × (length (now row) ≤ mostBudget + 1)) ⌝ }
+    requires { ⌜ Low (at (now row)) (length (now row)) ⌝ }
+    ensures { λ _. ⌜ ToppedRow AnyCount (at (now (row .entry))) w v (length (now (row .entry))) (at (now (row .exit))) ⌝ }
+{
+    let m = bundle(row, w, v);
+    climb(row, w * m, v * m);
 }
 
 // ---- the next row of a table

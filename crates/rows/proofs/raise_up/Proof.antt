@@ -1,66 +1,51 @@
-use mathlib.Core.Path.{_≡_, _∙_}
-use Prim.Native.Nat.{_-_, _≤_}
+use Prim.Native.Nat.{_+_, _*_, _≤_}
+use native.Mathlib.Nat.{one-mul, mul-le-mul-right}
 use native.Mathlib.Omega.{arith}
 use lib.ListN.{length}
-use borrow.Author.Needs.{needs}
 use Rattle.meaning.specs.Lists.{at}
-use Rattle.rows.specs.Rows.{RaisedBetween, Low}
-use Rattle.rows.proofs.Stores.{between-on}
+use Rattle.meaning.specs.Refusals.{mostValue}
+use Rattle.rows.proofs.Counts.{topped-any, topped-bundles, part-fits}
+use borrow.Author.Needs.{needs}
 use Rattle.rows.proofs.raise_up.Statement.{statement}
 use Rattle.rows.proofs.raise_up.Tie as tie
 
-abbrev Inv-loop : tie.InvT-loop
-Inv-loop row₀ w v w' c₀ row c = (w' ≤ c) × (length row ≡ length row₀) × RaisedBetween row₀ row w' v w' c × Low (at row) (length row₀)
+-- a bundle weighs something
+heavy : (c : tie.After-bundle) → 1 ≤ c .before .before .before .args .w * c .bundle .result
+heavy c =
+    let m = c .bundle .result in
+    omega (arith, mul-le-mul-right m (c .before .before .before .pre .0 .0), one-mul m, c .bundle .ensures .some-of)
 
-abbrev μ-loop : tie.MeasureT-loop
-μ-loop row₀ w v w' c₀ row c = length row₀ - c
+bundle-requires : tie.Need-bundle-requires
+bundle-requires c κs = search needs
 
-loop-holds : tie.Need-loop-holds Inv-loop μ-loop
-loop-holds c = search needs
+mul-climb : tie.Need-mul-climb
+mul-climb c = search needs
 
-stretch-end-requires : tie.Need-stretch-end-requires Inv-loop μ-loop
-stretch-end-requires c κs = search needs
+mul-climb-2 : tie.Need-mul-climb-2
+unfolding mostValue
+mul-climb-2 c =
+    let s = c .before .before .before .before .before .before in
+    let b = c .before .before .before .bundle in
+    omega (arith, mul-le-mul-right (b .result) (s .pre .0 .1 .0), b .ensures .few)
 
-raise-stretch-requires : tie.Need-raise-stretch-requires Inv-loop μ-loop
-raise-stretch-requires c κs =
-    let l = c .before .before .before .loop in
-    let s = c .before .before .before .before .before in
-    let end = c .before .stretch-end .ensures in
-    rw (l .inv .1) ((s .pre .0 .0, (l .inv .0, (omega arith, omega arith))), (s .pre .0 .1 .0, (s .pre .0 .1 .1, l .inv .3)))
+climb-requires : tie.Need-climb-requires
+climb-requires c κs =
+    let s = c .before .before .before .before .before .before in
+    let b = c .before .before .before .bundle in
+    rw (b .kept .0) ((heavy (c .before .before .before), (part-fits (s .args .w) (s .args .v) (b .result) (b .result) (s .args .w * b .result + 1) (s .pre .0 .0) (s .pre .0 .1 .0) (omega arith) (omega arith) .cheap, s .pre .0 .1 .1)), b .ensures .low)
 
-loop-less : tie.Need-loop-less Inv-loop μ-loop
-loop-less c = search needs
-
-loop-again : tie.Need-loop-again Inv-loop μ-loop
-loop-again c =
-    let l = c .before .before .before .before .before .before .loop in
-    let a = c .before .before .before .before .before .before .before .before .args in
-    let end = c .before .before .before .before .stretch-end in
-    let up = c .before .before .raise-stretch in (
-      omega (arith, end .ensures),
-      up .kept .0 ∙ l .inv .1,
-      between-on (a .row .now) (a .w) (a .v) (l .row) (up .last .0) (a .w) (l .c) (end .result) (omega arith) (l .inv .0) (omega (arith, end .ensures)) (l .inv .2) (up .ensures .0),
-      rw (l .inv .1) at (up .ensures .1),
-    )
-
-same-length : tie.Need-same-length Inv-loop μ-loop
+same-length : tie.Need-same-length
 same-length c = search needs
 
-returns : tie.Need-returns Inv-loop μ-loop
+returns : tie.Need-returns
 returns c =
-    let d = c .before .loop .inv .2 in
-    record { short = λ k h m. d .before k m; long = λ k h m. d .long k m (omega arith) }
+    let up = c .before .before .climb in
+    let at-bundle = c .before .before .before .before .before .before in
+    let b = at-bundle .bundle in
+    let a = at-bundle .before .before .before .args in
+    topped-bundles (at (a .row .now)) (at (b .last .0)) (at (up .last .0)) (a .w) (a .v) (b .result) (length (a .row .now)) (b .ensures .some-of) (b .ensures .fewer)
+    (topped-any (at (b .last .0)) (at (up .last .0)) (a .w * b .result) (a .v * b .result) (length (a .row .now)) (heavy at-bundle) (rw (b .kept .0) at (up .ensures)))
 
 pub raise-up-spec : {M : Type 1} → statement M
 raise-up-spec =
-    tie.close
-    (tie.spec
-    Inv-loop
-    μ-loop
-    loop-holds
-    stretch-end-requires
-    raise-stretch-requires
-    loop-less
-    loop-again
-    same-length
-    returns)
+    tie.close (tie.spec bundle-requires mul-climb mul-climb-2 climb-requires same-length returns)
