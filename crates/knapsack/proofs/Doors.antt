@@ -1,26 +1,25 @@
 -- From an accepted job to what the functions ask, and from what they leave to what `meaning` promises.
 -- Assumes nothing.
 use mathlib.Core.Path.{_≡_, refl, sym, ap, _∙_, subst}
-use mathlib.Core.Option.{some}
-use Prim.Native.Nat.{ℕ, zero, suc, _+_, _-_, _*_, _≤_, _<_}
+use Prim.Native.Nat.{ℕ, _+_, _-_, _*_, _≤_, _<_}
 use native.Mathlib.Omega.{arith}
 use mathlib.Core.Bool.{_&&_}
 use mathlib.Core.List.{List, [], _∷_, _++_}
 use lib.Dec.{leb, leb·zero}
-use lib.ListN.{length, drop, getElem?}
+use lib.ListN.{length, drop}
 use mir.Facts.{and-yes, leb-yes}
 use Rattle.meaning.specs.declared.Answer.{Answer}
 use Rattle.meaning.specs.declared.Answer.the-variants as Says
 use Rattle.meaning.specs.Lists.{at, total, if}
 use Rattle.meaning.specs.Slices.{Holds}
-use Rattle.meaning.specs.Job.{Job, Sort, once, limited, free, packing, subset-sums, fewest-blocks, block-ways, sharing, labels, kindOf, allKinds, jobOf}
+use Rattle.meaning.specs.Job.{Job, Sort, once, limited, free, packing, labels, jobOf}
 use Rattle.meaning.specs.Lent.{Lent, lentOf, roomFor, roomOf, cellCount}
 use Rattle.meaning.specs.Refusals.{kindRefusal, roomFits, hasCopies}
 use Rattle.meaning.specs.Orders.{last-least}
 use Rattle.meaning.specs.Knapsacks.{MayPick, BestValue, BestPicks, orderOf, ValueTable, FullTable, OneRow, cellNumber}
 use Rattle.meaning.specs.Solved.{Outcome, Gives, TableHolds, Unrefused}
 use Rattle.meaning.proofs.Valid.{Valid, is-cleared, is-valid, weight-rule, value-rule}
-use Rattle.meaning.proofs.Laws.{answered-solved}
+use Rattle.meaning.proofs.Laws.{numberOf, kind-number, answered-solved}
 use Rattle.meaning.proofs.Unique.{no-second-choice}
 use Rattle.meaning.proofs.Totals.{total-none, empty-of}
 use Rattle.meaning.proofs.Trace.{picks-none, picks-worth}
@@ -29,30 +28,6 @@ use Rattle.knapsack.specs.Ways.{WayBack, WayAlong}
 use Rattle.knapsack.specs.Doors.{Accepted, Packs}
 use Rattle.knapsack.proofs.FullRows.{row-best, back-picks, back-weight}
 use Rattle.knapsack.proofs.FreeRow.{climbed-best, along-picks, along-weight}
-
--- ---- the kind number
-
--- of the three knapsacks
-pub numberOf : Sort → ℕ
-numberOf once = 1
-numberOf limited = 2
-numberOf free = 3
-
-rest-of-kinds : (m : ℕ) (k : Sort) → ¬ (getElem? (subset-sums ∷ fewest-blocks ∷ block-ways ∷ sharing ∷ []) m ≡ some (packing k))
-rest-of-kinds zero k e = let z : _≡_ {A = ℕ} 0 1 = cc in omega arith
-rest-of-kinds (suc zero) k e = let z : _≡_ {A = ℕ} 0 1 = cc in omega arith
-rest-of-kinds (suc (suc zero)) k e = let z : _≡_ {A = ℕ} 0 1 = cc in omega arith
-rest-of-kinds (suc (suc (suc zero))) k e = let z : _≡_ {A = ℕ} 0 1 = cc in omega arith
-rest-of-kinds (suc (suc (suc (suc m)))) k e = let z : _≡_ {A = ℕ} 0 1 = cc in omega arith
-
--- a knapsack's kind number is its own
-pub kind-number : (m : ℕ) (k : Sort) → kindOf m ≡ some (packing k) → m ≡ numberOf k
-unfolding kindOf allKinds numberOf
-kind-number zero k e = let z : _≡_ {A = ℕ} 0 1 = cc in absurd (omega arith)
-kind-number (suc zero) k e = let same : once ≡ k = cc in subst (λ (x : Sort). 1 ≡ numberOf x) same refl
-kind-number (suc (suc zero)) k e = let same : limited ≡ k = cc in subst (λ (x : Sort). 2 ≡ numberOf x) same refl
-kind-number (suc (suc (suc zero))) k e = let same : free ≡ k = cc in subst (λ (x : Sort). 3 ≡ numberOf x) same refl
-kind-number (suc (suc (suc (suc m)))) k e = absurd (rest-of-kinds m k e)
 
 -- ---- what an accepted job keeps
 
@@ -89,32 +64,52 @@ bounded k j ok = record {
   cheap = value-rule k j ok;
 }
 
--- kinds 1 and 2: the limits are those of the knapsack
-pub limit-few : (k : Sort) (j : Job) (i x : ℕ) → numberOf k < 3 → MayPick k (at (j .copies) i) x → x ≤ limitOf (numberOf k) (j .copies) i
-unfolding numberOf limitOf MayPick if
-limit-few once j i x h m = m
-limit-few limited j i x h m = m
-limit-few free j i x h m = absurd (omega arith)
+-- ---- kinds 1 and 2
 
-pub limit-may : (k : Sort) (j : Job) (i x : ℕ) → numberOf k < 3 → x ≤ limitOf (numberOf k) (j .copies) i → MayPick k (at (j .copies) i) x
+-- the knapsacks whose table has a row for each label
+pub data Rowed : Sort → Type 0 where
+  once-is : Rowed once
+  limited-is : Rowed limited
+
+-- a kind number below 3 is that of one of them
+pub rowed : (k : Sort) → numberOf (packing k) < 3 → Rowed k
+unfolding numberOf
+rowed once h = once-is
+rowed limited h = limited-is
+rowed free h = absurd (omega arith)
+
+-- the limits are those of the knapsack
+pub limit-few : {k : Sort} → Rowed k → (j : Job) (i x : ℕ) → MayPick k (at (j .copies) i) x → x ≤ limitOf (numberOf (packing k)) (j .copies) i
 unfolding numberOf limitOf MayPick if
-limit-may once j i x h m = m
-limit-may limited j i x h m = m
-limit-may free j i x h m = absurd (omega arith)
+limit-few once-is j i x m = m
+limit-few limited-is j i x m = m
+
+pub limit-may : {k : Sort} → Rowed k → (j : Job) (i x : ℕ) → x ≤ limitOf (numberOf (packing k)) (j .copies) i → MayPick k (at (j .copies) i) x
+unfolding numberOf limitOf MayPick if
+limit-may once-is j i x m = m
+limit-may limited-is j i x m = m
 
 -- as many cells as the full table has
-pub full-room : (k : Sort) (j : Job) → numberOf k < 3 → roomFor (packing k) j .cells ≡ cellCount j
-unfolding roomFor roomOf numberOf
-full-room once j h = refl
-full-room limited j h = refl
-full-room free j h = absurd (omega arith)
+pub full-room : {k : Sort} → Rowed k → (j : Job) → roomFor (packing k) j .cells ≡ cellCount j
+unfolding roomFor roomOf
+full-room once-is j = refl
+full-room limited-is j = refl
 
 -- kind 2 has a number of copies for each label
-pub copies-long : (k : Sort) (j : Job) → Valid k j → numberOf k < 3 → ¬ (numberOf k ≡ 1) → length (j .copies) ≡ labels j
+pub copies-long : {k : Sort} → Rowed k → (j : Job) → Valid k j → ¬ (numberOf (packing k) ≡ 1) → length (j .copies) ≡ labels j
 unfolding numberOf hasCopies if
-copies-long once j ok h other = absurd (other refl)
-copies-long limited j ok h other = ok .copied
-copies-long free j ok h other = absurd (omega arith)
+copies-long once-is j ok other = absurd (other refl)
+copies-long limited-is j ok other = ok .copied
+
+order-back : {k : Sort} → Rowed k → orderOf k ≡ last-least
+unfolding orderOf
+order-back once-is = refl
+order-back limited-is = refl
+
+full-value : {k : Sort} → Rowed k → (j : Job) (table : List ℕ) → FullTable k j table → ValueTable k j table
+unfolding ValueTable
+full-value once-is j table t = t
+full-value limited-is j table t = t
 
 -- ---- what an answer comes to
 
@@ -156,39 +151,27 @@ unfolding Holds
 holds-front new old n long = rw long
 
 -- kinds 1 and 2, by the table that was filled and the way back through it
-module _ (k : Sort) (j : Job) (cells picks table found : List ℕ) (left : ℕ) (numbered : numberOf k < 3) (a : Unrefused (packing k) j (lentOf cells [] picks))
-    (long : length table ≡ cellCount j) (filled : Filled (j .weights) (j .values) (limitOf (numberOf k) (j .copies)) (j .budget + 1) (labels j) table)
+module _ (k : Sort) (j : Job) (cells picks table found : List ℕ) (left : ℕ) (is : Rowed k) (a : Unrefused (packing k) j (lentOf cells [] picks))
+    (long : length table ≡ cellCount j) (filled : Filled (j .weights) (j .values) (limitOf (numberOf (packing k)) (j .copies)) (j .budget + 1) (labels j) table)
     (way : WayBack (rowOf table (j .budget + 1)) (j .weights) (j .values) (labels j) (j .budget) 0 left found) where
-  abbrev few : (i x : ℕ) → i < labels j → MayPick k (at (j .copies) i) x → x ≤ limitOf (numberOf k) (j .copies) i
-  few i x h = limit-few k j i x numbered
+  abbrev few : (i x : ℕ) → i < labels j → MayPick k (at (j .copies) i) x → x ≤ limitOf (numberOf (packing k)) (j .copies) i
+  few i x h = limit-few is j i x
 
-  abbrev may : (i x : ℕ) → i < labels j → x ≤ limitOf (numberOf k) (j .copies) i → MayPick k (at (j .copies) i) x
-  may i x h = limit-may k j i x numbered
-
-  order-back : (k : Sort) → numberOf k < 3 → orderOf k ≡ last-least
-  unfolding orderOf numberOf
-  order-back once h = refl
-  order-back limited h = refl
-  order-back free h = absurd (omega arith)
-
-  full-table : (k : Sort) → numberOf k < 3 → FullTable k j table → ValueTable k j table
-  unfolding ValueTable numberOf
-  full-table once h t = t
-  full-table limited h t = t
-  full-table free h t = absurd (omega arith)
+  abbrev may : (i x : ℕ) → i < labels j → x ≤ limitOf (numberOf (packing k)) (j .copies) i → MayPick k (at (j .copies) i) x
+  may i x h = limit-may is j i x
 
   chosen : BestPicks k j (labels j) (j .budget) found
-  chosen = back-picks k j (limitOf (numberOf k) (j .copies)) (j .budget + 1) table few may filled (order-back k numbered) (j .budget) (omega arith) way [] (picks-none k j left)
+  chosen = back-picks k j (limitOf (numberOf (packing k)) (j .copies)) (j .budget + 1) table few may filled (order-back is) (j .budget) (omega arith) way [] (picks-none k j left)
 
   pub packs-full : (needed n value : ℕ) → needed ≡ cellCount j → n ≡ labels j → value ≡ at table (labels j * (j .budget + 1) + j .budget)
       → Packs j cells picks (Says.Knapsack value (j .budget - left)) (table ++ drop needed cells) (found ++ drop n picks)
   unfolding FullTable cellNumber BestPicks
   packs-full needed n value e₁ e₂ e₃ =
-      let best = row-best k j (limitOf (numberOf k) (j .copies)) (j .budget + 1) table few may filled in
+      let best = row-best k j (limitOf (numberOf (packing k)) (j .copies)) (j .budget + 1) table few may filled in
       packs k j cells picks a (table ++ drop needed cells) (found ++ drop n picks) table found value (j .budget - left)
-      (long ∙ sym (full-room k j numbered)) (full-table k numbered (λ i c h l. best i c h (omega arith))) chosen
+      (long ∙ sym (full-room is j)) (full-value is j table (λ i c h l. best i c h (omega arith))) chosen
       (e₃ ∙ picks-worth k j (labels j) (j .budget) found chosen (best (labels j) (j .budget) (omega arith) (omega arith)))
-      (omega (arith, back-weight k j (limitOf (numberOf k) (j .copies)) (j .budget + 1) table few may filled way [] refl, total-none (j .weights)))
+      (omega (arith, back-weight k j (limitOf (numberOf (packing k)) (j .copies)) (j .budget + 1) table few may filled way [] refl, total-none (j .weights)))
       (holds-front table cells needed (long ∙ sym e₁))
       (holds-front found picks n (chosen .one-of .fits .selection .one-each ∙ sym e₂))
 
@@ -216,9 +199,9 @@ module _ (j : Job) (cells picks row found : List ℕ) (left : ℕ) (a : Unrefuse
 -- kind 3 has no copies, and is the knapsack of any number
 pub any-free : (j : Job) (cells picks : List ℕ) → j .kind-number ≡ 3 → Accepted j cells picks → Unrefused (packing free) j (lentOf cells [] picks) × (j .copies ≡ [])
 unfolding numberOf hasCopies if
-any-free j cells picks e a = go (a .sort) (sym (kind-number (j .kind-number) (a .sort) (a .unrefused .of-kind)) ∙ e) (a .unrefused)
+any-free j cells picks e a = go (a .sort) (sym (kind-number (j .kind-number) (packing (a .sort)) (a .unrefused .of-kind)) ∙ e) (a .unrefused)
   where
-    go : (k : Sort) → numberOf k ≡ 3 → Unrefused (packing k) j (lentOf cells [] picks) → Unrefused (packing free) j (lentOf cells [] picks) × (j .copies ≡ [])
+    go : (k : Sort) → numberOf (packing k) ≡ 3 → Unrefused (packing k) j (lentOf cells [] picks) → Unrefused (packing free) j (lentOf cells [] picks) × (j .copies ≡ [])
     go once n r = absurd (omega arith)
     go limited n r = absurd (omega arith)
     go free n r = (r, empty-of (j .copies) (ready free j cells picks r .valid .copied))
@@ -226,9 +209,9 @@ any-free j cells picks e a = go (a .sort) (sym (kind-number (j .kind-number) (a 
 -- another kind is 1 or 2
 pub any-below : (j : Job) (cells picks : List ℕ) → ¬ (j .kind-number ≡ 3) → Accepted j cells picks → j .kind-number < 3
 unfolding numberOf
-any-below j cells picks other a = go (a .sort) (kind-number (j .kind-number) (a .sort) (a .unrefused .of-kind))
+any-below j cells picks other a = go (a .sort) (kind-number (j .kind-number) (packing (a .sort)) (a .unrefused .of-kind))
   where
-    go : (k : Sort) → j .kind-number ≡ numberOf k → j .kind-number < 3
+    go : (k : Sort) → j .kind-number ≡ numberOf (packing k) → j .kind-number < 3
     go once e = omega arith
     go limited e = omega arith
     go free e = absurd (other e)

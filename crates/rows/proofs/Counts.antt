@@ -1,8 +1,9 @@
 -- One theory over the counts that may be picked: what one label makes of a row, for kinds 1, 2 and 3.
 -- Assumes nothing.
 use mathlib.Core.Path.{_≡_, refl, sym, ap, _∙_}
+use mathlib.Core.Logic.{_⊎_, inl, inr}
 use Prim.Native.Nat.{ℕ, zero, suc, _+_, _-_, _*_, _/_, _%_, _≤_, _<_, min}
-use native.Mathlib.Nat.{mul-add, mul-zero, mul-comm, mul-le-mul-left, mul-le-mul-right, mul-assoc, div-add-mod, mod-lt, sub-add-cancel, le-div-iff-mul-le, one-mul}
+use native.Mathlib.Nat.{mul-add, mul-zero, mul-one, mul-comm, mul-le-mul-left, mul-le-mul-right, mul-assoc, div-add-mod, mod-lt, sub-add-cancel, le-div-iff-mul-le, one-mul}
 use native.Mathlib.Omega.{arith}
 use Rattle.meaning.specs.Lists.{at}
 use Rattle.meaning.specs.Job.{Job, Sort}
@@ -13,7 +14,7 @@ use Rattle.rows.specs.Rows.{Worth, Topped, ToppedRow, AnyCount, Raised, 
 use Rattle.rows.proofs.Stores.{by}
 
 -- x times w, with s of the x apart
-pub apart : (w x s : ℕ) → s ≤ x → w * x ≡ w * (x - s) + w * s
+apart : (w x s : ℕ) → s ≤ x → w * x ≡ w * (x - s) + w * s
 apart w x s h = ap (λ (n : ℕ). w * n) (sym (sub-add-cancel h)) ∙ mul-add w (x - s) s
 
 -- ---- other counts, other rows
@@ -56,121 +57,77 @@ topped-none f w v c = record {
       omega (arith, r .worth, ap f here, ap (λ (n : ℕ). v * n) e, mul-zero v);
 }
 
--- g holds up to m of the label over f. With s of them more at once, which are no more than m + 1, every count up to m + s is within reach
-module _ (f g h : ℕ → ℕ) (w v m s width : ℕ) (small : s ≤ suc m) (tops : ToppedRow (λ x. x ≤ m) f w v width g) (up : Raised g g h (w * s) (v * s) width) (c : ℕ) (inside : c < width) where
-  -- counts up to m
-  few : (x y : ℕ) → x ≤ m → Worth f w v c x y → y ≤ g c
-  unfolding ToppedRow
-  few x y k r = tops c inside .above x y k r
+-- h is `base` raised by s of the label at once over `less`. Where `base` holds the counts of one sort over f, and `less` those of another, h holds
+-- those of the first, and those of the second with s more
+module _ (First Second Both : ℕ → Type 0) (s : ℕ)
+    (either : (x : ℕ) → Both x → First x ⊎ ((s ≤ x) × Second (x - s))) (as-first : (x : ℕ) → First x → Both x) (with-more : (x : ℕ) → Second x → Both (x + s))
+    (f base less h : ℕ → ℕ) (w v width : ℕ) (up : Raised base less h (w * s) (v * s) width) (c : ℕ) (inside : c < width)
+    (bases : Topped First f w v c (base c)) (lesses : w * s ≤ c → Topped Second f w v (c - w * s) (less (c - w * s))) where
+  -- no count is worth more than one of the two
+  under : (x y : ℕ) → Both x → Worth f w v c x y → (y ≤ base c) ⊎ ((w * s ≤ c) × (y ≤ less (c - w * s) + v * s))
+  under x y k r =
+      elim (either x k) [
+        | inl m ↦ inl (bases .above x y m r)
+        | inr (large, m) ↦
+            let light : w * s ≤ c = omega (arith, r .spent, apart w x s large) in
+            let others = lesses light .above (x - s) (f (r .left) + v * (x - s)) m (record { left = r .left; spent = omega (arith, r .spent, apart w x s large); worth = refl }) in
+            inr (light, omega (arith, r .worth, apart v x s large))
+      ]
 
-  -- counts past m are s and a count up to m
-  rest : (x y : ℕ) → m < x → x ≤ m + s → Worth f w v c x y → (w * s ≤ c) × (y ≤ g (c - w * s) + v * s)
-  unfolding ToppedRow
-  rest x y k l r =
-      let weight = apart w x s (omega arith) in
-      let light : w * s ≤ c = omega (arith, r .spent) in (
-        light,
-        omega (
-          arith,
-          r .worth,
-          apart v x s (omega arith),
-          tops (c - w * s) (omega arith) .above (x - s) (f (r .left) + v * (x - s)) (omega arith) (record { left = r .left; spent = omega (arith, r .spent); worth = refl }),
-        ),
-      )
+  keep : h c ≡ base c → (w * s ≤ c → less (c - w * s) + v * s ≤ base c) → Topped Both f w v c (h c)
+  keep e no-more = record {
+    count = bases .count;
+    may = as-first (bases .count) (bases .may);
+    made = record { left = bases .made .left; spent = bases .made .spent; worth = e ∙ bases .made .worth };
+    above = λ x y k r. elim (under x y k r) [ inl a ↦ omega arith | inr (light, a) ↦ omega (arith, no-more light) ];
+  }
 
-  keep : h c ≡ g c → (w * s ≤ c → g (c - w * s) + v * s ≤ g c) → Topped (λ x. x ≤ m + s) f w v c (h c)
-  unfolding ToppedRow
-  keep e under =
-      let d = tops c inside in
-      record {
-        count = d .count;
-        may = omega (arith, d .may);
-        made = record { left = d .made .left; spent = d .made .spent; worth = e ∙ d .made .worth };
-        above = λ x y k r. by m x
-            (λ l. let (light, most) = rest x y l k r in omega (arith, under light))
-            (λ l. omega (arith, few x y l r));
-      }
-
-  add : w * s ≤ c → h c ≡ g (c - w * s) + v * s → g c ≤ h c → Topped (λ x. x ≤ m + s) f w v c (h c)
-  unfolding ToppedRow
+  add : w * s ≤ c → h c ≡ less (c - w * s) + v * s → base c ≤ h c → Topped Both f w v c (h c)
   add light e over =
-      let d = tops (c - w * s) (omega arith) in
+      let d = lesses light in
       record {
         count = d .count + s;
-        may = omega (arith, d .may);
+        may = with-more (d .count) (d .may);
         made = record {
           left = d .made .left;
           spent = omega (arith, d .made .spent, mul-add w (d .count) s);
           worth = omega (arith, d .made .worth, mul-add v (d .count) s);
         };
-        above = λ x y k r. by m x
-            (λ l. omega (arith, rest x y l k r .1))
-            (λ l. omega (arith, few x y l r));
+        above = λ x y k r. elim (under x y k r) [ inl a ↦ omega arith | inr (l, a) ↦ omega arith ];
       }
 
-  pub topped-part : Topped (λ x. x ≤ m + s) f w v c (h c)
-  topped-part =
+  topped-raised : Topped Both f w v c (h c)
+  topped-raised =
       by c (w * s)
       (λ short. keep (up .short c inside short) (λ light. absurd (omega arith)))
       (λ light.
       let e = up .long c inside light in
-      by (g c) (g (c - w * s) + v * s)
+      by (base c) (less (c - w * s) + v * s)
       (λ more. add light (omega arith) (omega arith))
-      (λ less. keep (omega arith) (λ l. less)))
+      (λ less-of. keep (omega arith) (λ l. less-of)))
+
+-- g holds up to m of the label over f. With s of them more at once, which are no more than m + 1, every count up to m + s is within reach
+pub topped-part : (f g h : ℕ → ℕ) (w v m s width : ℕ) → s ≤ suc m → ToppedRow (λ x. x ≤ m) f w v width g → Raised g g h (w * s) (v * s) width
+    → ToppedRow (λ x. x ≤ m + s) f w v width h
+unfolding ToppedRow
+topped-part f g h w v m s width small tops up c inside =
+    topped-raised (λ x. x ≤ m) (λ x. x ≤ m) (λ x. x ≤ m + s) s
+    (λ x k. by m x (λ l. inr (omega arith, omega arith)) (λ l. inl l)) (λ x k. omega arith) (λ x k. omega arith)
+    f g g h w v width up c inside (tops c inside) (λ light. tops (c - w * s) (omega arith))
 
 -- g holds, over f, the label added again and again to g itself: any count is within reach
 module _ (f g : ℕ → ℕ) (w v width : ℕ) (pos : 1 ≤ w) (up : Raised f g g w v width) where
-  alone : (c x y : ℕ) → Worth f w v c x y → x ≤ 0 → y ≤ f c
-  alone c x y r h = topped-none f w v c .above x y h r
-
-  -- one and more of the label are one, and the others at what it leaves
-  others : (c x y : ℕ) → 0 < x → Worth f w v c x y → (w ≤ c) × (z : ℕ) × Worth f w v (c - w) (x - 1) z × (y ≡ z + v)
-  others c x y h r = (
-    omega (arith, r .spent, apart w x 1 h),
-    f (r .left) + v * (x - 1),
-    record { left = r .left; spent = omega (arith, r .spent, apart w x 1 h); worth = refl },
-    omega (arith, r .worth, apart v x 1 h),
-  )
-
-  climbed-below : (n c : ℕ) → c < n → c < width → Topped AnyCount f w v c (g c)
-  unfolding topped-none
-  climbed-below zero c h l = absurd (omega arith)
-  climbed-below (suc n) c h l = by c w short (λ light. long light (climbed-below n (c - w) (omega arith) (omega arith)))
-    where
-      none-of : g c ≡ f c → ((x y : ℕ) → 0 < x → Worth f w v c x y → y ≤ f c) → Topped AnyCount f w v c (g c)
-      none-of e under =
-          let d = topped-none f w v c in
-          record {
-            count = 0;
-            may = tt;
-            made = record { left = d .made .left; spent = d .made .spent; worth = e ∙ d .made .worth };
-            above = λ x y k r. by 0 x (λ some. omega (arith, under x y some r)) (λ none. omega (arith, alone c x y r none));
-          }
-
-      short : c < w → Topped AnyCount f w v c (g c)
-      short k = none-of (up .short c l k) (λ x y some r. absurd (omega (arith, others c x y some r .0)))
-
-      long : w ≤ c → Topped AnyCount f w v (c - w) (g (c - w)) → Topped AnyCount f w v c (g c)
-      long light d =
-          let e = up .long c l light in
-          let under : (x y : ℕ) → 0 < x → Worth f w v c x y → y ≤ g (c - w) + v = λ x y some r.
-          let (k, z, r′, e′) = others c x y some r in omega (arith, d .above (x - 1) z tt r′) in
-          by (f c) (g (c - w) + v)
-          (λ more. record {
-            count = d .count + 1;
-            may = tt;
-            made = record {
-              left = d .made .left;
-              spent = omega (arith, d .made .spent, mul-add w (d .count) 1);
-              worth = omega (arith, d .made .worth, mul-add v (d .count) 1);
-            };
-            above = λ x y k r. by 0 x (λ some. omega (arith, under x y some r)) (λ none. omega (arith, alone c x y r none));
-          })
-          (λ less. none-of (omega arith) (λ x y some r. omega (arith, under x y some r)))
+  any-below : (n c : ℕ) → c < n → c < width → Topped AnyCount f w v c (g c)
+  any-below zero c h l = absurd (omega arith)
+  any-below (suc n) c h l =
+      topped-raised (λ x. x ≤ 0) AnyCount AnyCount 1
+      (λ x k. by 0 x (λ some. inr (some, tt)) (λ none. inl none)) (λ x k. tt) (λ x k. tt)
+      f f g g w v width (rw (mul-one w, mul-one v) up) c l (topped-none f w v c)
+      (rw (mul-one w) (λ light. any-below n (c - w) (omega arith) (omega arith)))
 
   pub topped-any : ToppedRow AnyCount f w v width g
   unfolding ToppedRow
-  topped-any c h = climbed-below (suc c) c (omega arith) h
+  topped-any c h = any-below (suc c) c (omega arith) h
 
 -- counts up to m - 1, and then any number of m at once: any count is within reach
 module _ (f g h : ℕ → ℕ) (w v m width : ℕ) (pos : 1 ≤ m) (fewer : ToppedRow (λ x. x ≤ m - 1) f w v width g) (bundles : ToppedRow AnyCount g (w * m) (v * m) width h) where

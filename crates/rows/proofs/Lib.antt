@@ -1,7 +1,11 @@
 -- Laws of the definitions in specs/, for those who call this crate.
+
+-- cells that a loop stores, and a part of a slice that is lent
 pub mod Stores
-pub mod Counts
 pub mod Parts
+-- what one label makes of a row: one theory over the counts that may be picked, and the next row of a table
+pub mod Counts
 pub mod NextRow
+-- what a row says of a count
 pub mod LeastCounts
 pub mod LeadsOn

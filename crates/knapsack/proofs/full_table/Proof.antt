@@ -7,15 +7,16 @@ use lib.ListN.{length, drop, take, length-append, List·getD-append}
 use lib.Seq.{length-take-le, take-at}
 use borrow.Author.Needs.{needs}
 use Rattle.meaning.specs.Lists.{at}
-use Rattle.meaning.specs.Job.{Job, Sort, jobOf, labels}
+use Rattle.meaning.specs.Job.{Job, Sort, packing, jobOf, labels}
 use Rattle.meaning.specs.Lent.{cellCount}
 use Rattle.meaning.specs.Refusals.{mostBudget}
+use Rattle.meaning.proofs.Laws.{numberOf, kind-number}
 use Rattle.numbers.specs.Handed.{handed}
 use Rattle.rows.specs.Rows.{SomeCount}
 use Rattle.knapsack.specs.Tables.{Bounded, limitOf, rowOf, Filled}
 use Rattle.knapsack.specs.Ways.{WayBack}
 use Rattle.knapsack.proofs.FullRows.{one-row-more, some-back, way-within}
-use Rattle.knapsack.proofs.Doors.{numberOf, kind-number, ready, bounded, limit-few, limit-may, full-room, copies-long, packs-full}
+use Rattle.knapsack.proofs.Doors.{Rowed, rowed, ready, bounded, limit-few, limit-may, full-room, copies-long, packs-full}
 use Rattle.knapsack.proofs.full_table.Statement.{statement}
 use Rattle.knapsack.proofs.full_table.Tie as tie
 
@@ -36,12 +37,12 @@ module _ (s : tie.Start) where
   abbrev sort : Sort
   sort = s .pre .0 .sort
 
-  numbered : s .args .kind ≡ numberOf sort
+  numbered : s .args .kind ≡ numberOf (packing sort)
   unfolding jobOf
-  numbered = kind-number (s .args .kind) sort (s .pre .0 .unrefused .of-kind)
+  numbered = kind-number (s .args .kind) (packing sort) (s .pre .0 .unrefused .of-kind)
 
-  below : numberOf sort < 3
-  below = rw numbered at (s .pre .1)
+  is : Rowed sort
+  is = rowed sort (rw numbered at (s .pre .1))
 
   bounds : Bounded (s .args .budget + 1) weights values
   unfolding jobOf
@@ -49,7 +50,7 @@ module _ (s : tie.Start) where
 
   cells-room : (length weights + 1) * (s .args .budget + 1) ≤ length (s .args .cells .now)
   unfolding jobOf labels cellCount
-  cells-room = rw (full-room sort job below) at (ready sort job (s .args .cells .now) (s .args .picks .now) (s .pre .0 .unrefused) .cells-room)
+  cells-room = rw (full-room is job) at (ready sort job (s .args .cells .now) (s .args .picks .now) (s .pre .0 .unrefused) .cells-room)
 
   picks-room : length weights ≤ length (s .args .picks .now)
   unfolding jobOf labels
@@ -57,7 +58,7 @@ module _ (s : tie.Start) where
 
   copied : ¬ (s .args .kind ≡ 1) → length copies ≡ length weights
   unfolding jobOf labels
-  copied other = copies-long sort job (ready sort job (s .args .cells .now) (s .args .picks .now) (s .pre .0 .unrefused) .valid) below (rw numbered at other)
+  copied other = copies-long is job (ready sort job (s .args .cells .now) (s .args .picks .now) (s .pre .0 .unrefused) .valid) (rw numbered at other)
 
 -- how many cells and picks are needed
 module _ (l : tie.After-list-length) where
@@ -100,15 +101,15 @@ module _ (f : tie.After-fill) where
   table-front : take (needed listed) (table ++ drop (needed listed) (start .args .cells .now)) ≡ table
   table-front = take-at table (drop (needed listed) (start .args .cells .now)) (needed listed) table-long
 
-  filled : Filled (weights start) (values start) (limitOf (numberOf (sort start)) (copies start)) (start .args .budget + 1) (length (weights start)) table
+  filled : Filled (weights start) (values start) (limitOf (numberOf (packing (sort start))) (copies start)) (start .args .budget + 1) (length (weights start)) table
   filled = rw (numbered start) at (f .fill .ensures)
 
   some-count : (i c : ℕ) → i < length (weights start) → c < start .args .budget + 1
       → SomeCount (rowOf table (start .args .budget + 1) i) (at (weights start) i) (at (values start) i) c (rowOf table (start .args .budget + 1) (suc i) c)
   unfolding jobOf labels
   some-count =
-      some-back (sort start) (job start) (limitOf (numberOf (sort start)) (copies start)) (start .args .budget + 1) table
-      (λ i x h. limit-few (sort start) (job start) i x (below start)) (λ i x h. limit-may (sort start) (job start) i x (below start)) filled
+      some-back (sort start) (job start) (limitOf (numberOf (packing (sort start))) (copies start)) (start .args .budget + 1) table
+      (λ i x h. limit-few (is start) (job start) i x) (λ i x h. limit-may (is start) (job start) i x) filled
 
 -- what the call of `way_back` leaves
 module _ (w : tie.After-way-back) where
@@ -194,7 +195,7 @@ returns c =
     let last : at (table f ++ rest) (needed l - 1) ≡ at (table f) (length (weights s) * (a .budget + 1) + a .budget) =
     ap (at (table f ++ rest)) (omega (arith, needed-is l, more))
     ∙ List·getD-append (table f) rest 0 (length (weights s) * (a .budget + 1) + a .budget) (omega (arith, table-long f, needed-is l, more)) in
-    packs-full (sort s) (job s) (a .cells .now) (a .picks .now) (table f) (found w) (w .way-back .result) (below s) (s .pre .0 .unrefused) (table-long f ∙ needed-is l) (filled f) (way w)
+    packs-full (sort s) (job s) (a .cells .now) (a .picks .now) (table f) (found w) (w .way-back .result) (is s) (s .pre .0 .unrefused) (table-long f ∙ needed-is l) (filled f) (way w)
     (needed l) (l .list-length .result) _ (needed-is l) (l .list-length .ensures) last
 
 pub full-table-spec : {M : Type 1} → statement M
