@@ -1,7 +1,8 @@
 use mathlib.Core.Path.{_≡_, refl, _∙_}
-use Prim.Native.Nat.{_+_, _-_, _*_, _≤_, _<_}
+use Prim.Native.Nat.{ℕ, _+_, _-_, _*_, _≤_, _<_}
 use native.Mathlib.Nat.{zero-mul}
 use native.Mathlib.Omega.{arith}
+use mathlib.Core.List.{List}
 use lib.ListN.{length}
 use borrow.Author.Needs.{needs}
 use Rattle.numbers.specs.Handed.{handed}
@@ -21,36 +22,48 @@ abbrev μ-loop : tie.MeasureT-loop
 μ-loop kind weights wbytes values vbytes copies cbytes width cells₀ n i₀ from₀ cells i from = n - i
 
 -- the function's entry, from the loop's head
-abbrev start : tie.At-loop Inv-loop μ-loop → tie.Start Inv-loop μ-loop
-start c = c .before .before .before .before .before .before .before .before .before .before .before .before .before
+abbrev entry : tie.At-loop Inv-loop μ-loop → tie.Start Inv-loop μ-loop
+entry c = c .before .before .before .before .before .before .before .before .before .before .before .before .before
 
-long : (c : tie.At-loop Inv-loop μ-loop) → length (c .loop .cells) ≡ length (start c .args .cells .now)
+-- the lists that the function is handed
+module _ (s : tie.Start Inv-loop μ-loop) where
+  abbrev weights : List ℕ
+  weights = handed (s .args .weights .now) (s .args .wbytes .now)
+
+  abbrev values : List ℕ
+  values = handed (s .args .values .now) (s .args .vbytes .now)
+
+  abbrev limits : ℕ → ℕ
+  limits = limitOf (s .args .kind) (handed (s .args .copies .now) (s .args .cbytes .now))
+
+long : (c : tie.At-loop Inv-loop μ-loop) → length (c .loop .cells) ≡ length (entry c .args .cells .now)
 long c = c .loop .inv .2 ∙ c .before .before .before .before .clear .kept .0
 
 -- label i is one of the labels
-inside : (c : tie.In-loop Inv-loop μ-loop) → c .before .loop .i < length (handed (start (c .before) .args .weights .now) (start (c .before) .args .wbytes .now))
+inside : (c : tie.In-loop Inv-loop μ-loop) → c .before .loop .i < length (weights (entry (c .before)))
 inside c = omega (arith, c .before .before .list-length .ensures)
 
 -- and its row is within the table
-room : (c : tie.In-loop Inv-loop μ-loop) → c .before .loop .from + start (c .before) .args .width + start (c .before) .args .width ≤ length (start (c .before) .args .cells .now)
+room : (c : tie.In-loop Inv-loop μ-loop) → c .before .loop .from + entry (c .before) .args .width + entry (c .before) .args .width ≤ length (entry (c .before) .args .cells .now)
 room c =
-    let s = start (c .before) in
-    let n = length (handed (s .args .weights .now) (s .args .wbytes .now)) in
+    let s = entry (c .before) in
+    let n = length (weights s) in
     omega (arith, rows-within (c .before .loop .i) n (s .args .width) (inside c), s .pre .1 .1, c .before .loop .inv .1)
 
 clear-requires : tie.Need-clear-requires Inv-loop μ-loop
 clear-requires c κs =
     let s = c .before .before .before .before .before .before .before .before in
-    omega (arith, one-row-more (length (handed (s .args .weights .now) (s .args .wbytes .now))) (s .args .width), s .pre .1 .1)
+    omega (arith, one-row-more (length (weights s)) (s .args .width), s .pre .1 .1)
 
 list-length-requires : tie.Need-list-length-requires Inv-loop μ-loop
 list-length-requires c κs = search needs
 
 loop-holds : tie.Need-loop-holds Inv-loop μ-loop
 loop-holds c =
-    let a = c .before .before .before .before .before .before .before .before .before .before .before .before .args in
+    let s = c .before .before .before .before .before .before .before .before .before .before .before .before in
+    let a = s .args in
     let clear = c .before .before .before .clear in
-    (omega arith, omega (arith, zero-mul (a .width)), refl, filled-none (handed (a .weights .now) (a .wbytes .now)) (handed (a .values .now) (a .vbytes .now)) (limitOf (a .kind) (handed (a .copies .now) (a .cbytes .now))) (a .width) (a .cells .now) (clear .last .0) (clear .ensures))
+    (omega arith, omega (arith, zero-mul (a .width)), refl, filled-none (weights s) (values s) (limits s) (a .width) (a .cells .now) (clear .last .0) (clear .ensures))
 
 item-requires : tie.Need-item-requires Inv-loop μ-loop
 item-requires c κs = inside c
@@ -58,33 +71,33 @@ item-requires c κs = inside c
 item-requires-2 : tie.Need-item-requires-2 Inv-loop μ-loop
 item-requires-2 c κs =
     let turn = c .before in
-    rw (start (turn .before) .pre .0 .valued) (inside turn)
+    rw (entry (turn .before) .pre .0 .valued) (inside turn)
 
 allowed-requires : tie.Need-allowed-requires Inv-loop μ-loop
 allowed-requires c κs =
     λ other.
     let turn = c .before .before in
-    rw (start (turn .before) .pre .1 .0 other) (inside turn)
+    rw (entry (turn .before) .pre .1 .0 other) (inside turn)
 
 next-row-requires : tie.Need-next-row-requires Inv-loop μ-loop
 next-row-requires c κs =
     let turn = c .before .before .before .before in
     let head = turn .before in
     let l = head .loop in
-    let s = start head in
+    let s = entry head in
     let a = s .args in
     let b = s .pre .0 in (
       (b .wide, (b .narrow, omega (arith, room turn, long head))),
       (
         (rw (c .before .before .before .item .ensures) (b .heavy (l .i) (inside turn)), rw (c .before .before .item2 .ensures) (b .cheap (l .i) (inside turn))),
-        rw (l .inv .1) (filled-low (handed (a .weights .now) (a .wbytes .now)) (handed (a .values .now) (a .vbytes .now)) (limitOf (a .kind) (handed (a .copies .now) (a .cbytes .now))) (a .width) b (l .i) (l .cells) (omega (arith, inside turn)) (l .inv .3) (l .i) (omega arith)),
+        rw (l .inv .1) (filled-low (weights s) (values s) (limits s) (a .width) b (l .i) (l .cells) (omega (arith, inside turn)) (l .inv .3) (l .i) (omega arith)),
       ),
     )
 
 add-from : tie.Need-add-from Inv-loop μ-loop
 add-from c =
     let turn = c .before .before .before .before .before .before .before in
-    omega (arith, room turn, start (turn .before) .good)
+    omega (arith, room turn, entry (turn .before) .good)
 
 add-i : tie.Need-add-i Inv-loop μ-loop
 add-i c = search needs
@@ -97,7 +110,8 @@ loop-again c =
     let turn = c .before .before .before .before .before .before .before in
     let head = turn .before in
     let l = head .loop in
-    let a = start head .args in
+    let s = entry head in
+    let a = s .args in
     let item = c .before .before .before .before .before .before in
     let item2 = c .before .before .before .before .before in
     let most = c .before .before .before .before in
@@ -105,7 +119,7 @@ loop-again c =
       omega arith,
       omega (arith, one-row-more (l .i) (a .width), l .inv .1),
       row .kept .0 ∙ l .inv .2,
-      filled-more (handed (a .weights .now) (a .wbytes .now)) (handed (a .values .now) (a .vbytes .now)) (limitOf (a .kind) (handed (a .copies .now) (a .cbytes .now))) (a .width) (l .i) (l .from)
+      filled-more (weights s) (values s) (limits s) (a .width) (l .i) (l .from)
           (item .item .result) (item2 .item2 .result) (most .allowed .result) (l .cells) (row .last .0) (l .inv .1) (item .item .ensures) (item2 .item2 .ensures) (most .allowed .ensures) (l .inv .3) (row .ensures),
     )
 
@@ -115,7 +129,7 @@ same-length c = long (c .before)
 returns : tie.Need-returns Inv-loop μ-loop
 returns c =
     let head = c .before in
-    let all : head .loop .i ≡ length (handed (start head .args .weights .now) (start head .args .wbytes .now)) = omega (arith, head .before .list-length .ensures) in
+    let all : head .loop .i ≡ length (weights (entry head)) = omega (arith, head .before .list-length .ensures) in
     rw (← all) (head .loop .inv .3)
 
 pub fill-spec : {M : Type 1} → statement M

@@ -1,8 +1,9 @@
 use native.Mathlib.Nat.{zero-add}
 use native.Mathlib.Numerals.{add-one}
 use mathlib.Core.Path.{_≡_, refl, _∙_}
-use Prim.Native.Nat.{_-_, _≤_, _<_}
+use Prim.Native.Nat.{ℕ, _-_, _≤_, _<_}
 use native.Mathlib.Omega.{arith}
+use mathlib.Core.List.{List}
 use lib.ListN.{length}
 use borrow.Author.Needs.{needs}
 use Rattle.meaning.specs.Lists.{at}
@@ -25,11 +26,19 @@ abbrev μ-loop : tie.MeasureT-loop
 abbrev entry : tie.At-loop Inv-loop μ-loop → tie.Start Inv-loop μ-loop
 entry c = c .before .before .before .before .before .before .before .before .before .before .before
 
+-- the lists that the function is handed
+module _ (s : tie.Start Inv-loop μ-loop) where
+  abbrev weights : List ℕ
+  weights = handed (s .args .weights .now) (s .args .wbytes .now)
+
+  abbrev values : List ℕ
+  values = handed (s .args .values .now) (s .args .vbytes .now)
+
 long : (c : tie.At-loop Inv-loop μ-loop) → length (c .loop .row) ≡ length (entry c .args .row .now)
 long c = c .loop .inv .1 ∙ c .before .before .before .before .clear .kept .0
 
 -- label i is one of the labels
-inside : (c : tie.In-loop Inv-loop μ-loop) → c .before .loop .i < length (handed (entry (c .before) .args .weights .now) (entry (c .before) .args .wbytes .now))
+inside : (c : tie.In-loop Inv-loop μ-loop) → c .before .loop .i < length (weights (entry (c .before)))
 inside c = omega (arith, c .before .before .list-length .ensures)
 
 clear-requires : tie.Need-clear-requires Inv-loop μ-loop
@@ -54,11 +63,12 @@ raise-up-requires c κs =
     let turn = c .before .before .before in
     let head = turn .before in
     let l = head .loop in
-    let a = entry head .args in
+    let s = entry head in
+    let a = s .args in
     let b = entry head .pre in
     rw (long head) (
       (rw (c .before .before .item .ensures) (b .heavy (l .i) (inside turn)), (rw (c .before .item2 .ensures) (b .cheap (l .i) (inside turn)), b .narrow)),
-      climbed-low (handed (a .weights .now) (a .wbytes .now)) (handed (a .values .now) (a .vbytes .now)) (length (a .row .now)) (l .i) (l .row) b (omega (arith, inside turn)) (l .inv .2),
+      climbed-low (weights s) (values s) (length (a .row .now)) (l .i) (l .row) b (omega (arith, inside turn)) (l .inv .2),
     )
 
 add-i : tie.Need-add-i Inv-loop μ-loop
@@ -85,7 +95,7 @@ same-length c = long (c .before)
 returns : tie.Need-returns Inv-loop μ-loop
 returns c =
     let head = c .before in
-    let all : head .loop .i ≡ length (handed (entry head .args .weights .now) (entry head .args .wbytes .now)) = omega (arith, head .before .list-length .ensures) in
+    let all : head .loop .i ≡ length (weights (entry head)) = omega (arith, head .before .list-length .ensures) in
     rw (← all) (head .loop .inv .2)
 
 pub fill-row-spec : {M : Type 1} → statement M

@@ -20,13 +20,19 @@ use Rattle.knapsack.proofs.one_row.Tie as tie
 
 -- what the job keeps
 module _ (s : tie.Start) where
+  abbrev weights : List ℕ
+  weights = handed (s .args .weights .now) (s .args .wbytes .now)
+
+  abbrev values : List ℕ
+  values = handed (s .args .values .now) (s .args .vbytes .now)
+
   abbrev job : Job
-  job = jobOf 3 (s .args .budget ∷ []) (handed (s .args .weights .now) (s .args .wbytes .now)) (handed (s .args .values .now) (s .args .vbytes .now)) []
+  job = jobOf 3 (s .args .budget ∷ []) weights values []
 
   record Kept : Type 0 where
     cells-room : s .args .budget + 1 ≤ length (s .args .cells .now)
-    picks-room : length (handed (s .args .weights .now) (s .args .wbytes .now)) ≤ length (s .args .picks .now)
-    bounds : Bounded (s .args .budget + 1) (handed (s .args .weights .now) (s .args .wbytes .now)) (handed (s .args .values .now) (s .args .vbytes .now))
+    picks-room : length weights ≤ length (s .args .picks .now)
+    bounds : Bounded (s .args .budget + 1) weights values
 
   ok : Kept
   unfolding jobOf labels roomFor roomOf
@@ -47,14 +53,14 @@ module _ (f : tie.After-fill-row) where
   row-front : take (start .args .budget + 1) (row ++ drop (start .args .budget + 1) (start .args .cells .now)) ≡ row
   row-front = take-at row (drop (start .args .budget + 1) (start .args .cells .now)) (start .args .budget + 1) row-long
 
-  labelled : f .before .before .list-length .result ≡ length (handed (start .args .weights .now) (start .args .wbytes .now))
+  labelled : f .before .before .list-length .result ≡ length (weights start)
   labelled = f .before .before .list-length .ensures
 
-  row-climbed : Climbed (handed (start .args .weights .now) (start .args .wbytes .now)) (handed (start .args .values .now) (start .args .vbytes .now)) (start .args .budget + 1) (length (handed (start .args .weights .now) (start .args .wbytes .now))) row
+  row-climbed : Climbed (weights start) (values start) (start .args .budget + 1) (length (weights start)) row
   row-climbed = rw (length-take-le (start .args .budget + 1) (start .args .cells .now) (ok start .cells-room)) at (f .fill-row .ensures)
 
   -- and the first picks are one for each label
-  picks-long : length (take (f .before .before .list-length .result) (start .args .picks .now)) ≡ length (handed (start .args .weights .now) (start .args .wbytes .now))
+  picks-long : length (take (f .before .before .list-length .result) (start .args .picks .now)) ≡ length (weights start)
   picks-long = length-take-le (f .before .before .list-length .result) (start .args .picks .now) (omega (arith, labelled, ok start .picks-room)) ∙ labelled
 
 -- what the call of `way_along` leaves
@@ -65,7 +71,7 @@ module _ (w : tie.After-way-along) where
   abbrev found : List ℕ
   found = w .way-along .last .1 .1 .1 .1 .1 .0
 
-  way : let a = start filled .args in WayAlong (at (row filled)) (handed (a .weights .now) (a .wbytes .now)) (handed (a .values .now) (a .vbytes .now)) (a .budget) (length (handed (a .weights .now) (a .wbytes .now))) (w .way-along .result) 0 found
+  way : let s = start filled in WayAlong (at (row filled)) (weights s) (values s) (s .args .budget) (length (weights s)) (w .way-along .result) 0 found
   way = rw (row-front filled, row-long filled, add-sub-cancel, picks-long filled) at (w .way-along .ensures)
 
 list-length-requires : tie.Need-list-length-requires
@@ -100,9 +106,7 @@ way-along-requires c κs =
     let f = c .before .before .before .before in
     let s = start f in
     let a = s .args in
-    let ws = handed (a .weights .now) (a .wbytes .now) in
-    let vs = handed (a .values .now) (a .vbytes .now) in
-    rw (row-front f, row-long f) (ok s .bounds, (climbed-low ws vs (a .budget + 1) (length ws) (row f) (ok s .bounds) (omega arith) (row-climbed f), sym (picks-long f)))
+    rw (row-front f, row-long f) (ok s .bounds, (climbed-low (weights s) (values s) (a .budget + 1) (length (weights s)) (row f) (ok s .bounds) (omega arith) (row-climbed f), sym (picks-long f)))
 
 sub-t11 : tie.Need-sub-t11
 sub-t11 c = search needs

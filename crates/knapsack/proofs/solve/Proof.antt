@@ -1,5 +1,6 @@
 use mathlib.Core.Path.{_≡_}
-use mathlib.Core.List.{[], _∷_}
+use Prim.Native.Nat.{ℕ}
+use mathlib.Core.List.{List, [], _∷_}
 use borrow.Author.Needs.{needs}
 use Rattle.meaning.specs.Job.{Job, jobOf, packing, free}
 use Rattle.numbers.specs.Handed.{handed}
@@ -9,16 +10,30 @@ use Rattle.knapsack.proofs.Doors.{any-below, job-free}
 use Rattle.knapsack.proofs.solve.Statement.{statement}
 use Rattle.knapsack.proofs.solve.Tie as tie
 
-abbrev job : tie.Start → Job
-job s =
-    jobOf (s .args .kind) (s .args .budget ∷ []) (handed (s .args .weights .now) (s .args .wbytes .now)) (handed (s .args .values .now) (s .args .vbytes .now)) (handed (s .args .copies .now) (s .args .cbytes .now))
+-- the job
+module _ (s : tie.Start) where
+  abbrev weights : List ℕ
+  weights = handed (s .args .weights .now) (s .args .wbytes .now)
 
--- where the kind is 3, the job is one without copies
-three : (c : tie.Then1) → let s = c .before .before .before .before .before .before .before .before .before in let bare = jobOf 3 (s .args .budget ∷ []) (handed (s .args .weights .now) (s .args .wbytes .now)) (handed (s .args .values .now) (s .args .vbytes .now)) [] in
-    (job s ≡ bare) × Unrefused (packing free) bare (lentOf (s .args .cells .now) [] (s .args .picks .now))
+  abbrev values : List ℕ
+  values = handed (s .args .values .now) (s .args .vbytes .now)
+
+  abbrev copies : List ℕ
+  copies = handed (s .args .copies .now) (s .args .cbytes .now)
+
+  abbrev job : Job
+  job = jobOf (s .args .kind) (s .args .budget ∷ []) weights values copies
+
+  abbrev bare : Job
+  bare = jobOf 3 (s .args .budget ∷ []) weights values []
+
+-- where the kind is 3, it is one without copies
+three : (c : tie.Then1) → let s = c .before .before .before .before .before .before .before .before .before in
+    (job s ≡ bare s) × Unrefused (packing free) (bare s) (lentOf (s .args .cells .now) [] (s .args .picks .now))
 three c =
     let s = c .before .before .before .before .before .before .before .before .before in
-    job-free (s .args .kind) (s .args .budget) (handed (s .args .weights .now) (s .args .wbytes .now)) (handed (s .args .values .now) (s .args .vbytes .now)) (handed (s .args .copies .now) (s .args .cbytes .now)) (s .args .cells .now) (s .args .picks .now) (c .if1 .taken) (s .pre)
+    let a = s .args in
+    job-free (a .kind) (a .budget) (weights s) (values s) (copies s) (a .cells .now) (a .picks .now) (c .if1 .taken) (s .pre)
 
 one-row-requires : tie.Need-one-row-requires
 one-row-requires c κs = three (c .before .before) .1

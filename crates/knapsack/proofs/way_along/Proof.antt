@@ -1,9 +1,10 @@
-use mathlib.Core.Bool.{true, false}
+use mathlib.Core.Bool.{Bool, true, false}
 use native.Mathlib.Numerals.{add-one}
 use lib.Seq.{take-suc-set, take-all}
 use mathlib.Core.Path.{_≡_, refl, sym, _∙_}
-use Prim.Native.Nat.{_+_, _-_, _≤_, _<_}
+use Prim.Native.Nat.{ℕ, _+_, _-_, _≤_, _<_}
 use native.Mathlib.Omega.{arith}
+use mathlib.Core.List.{List}
 use lib.ListN.{length, take, length-set}
 use borrow.Author.Needs.{needs}
 use Rattle.meaning.specs.Lists.{at}
@@ -30,21 +31,33 @@ abbrev μ-loop : tie.MeasureT-loop
 abbrev entry : tie.At-loop Inv-loop μ-loop → tie.Start Inv-loop μ-loop
 entry c = c .before .before .before .before .before .before .before
 
+-- the lists that the function is handed
+module _ (s : tie.Start Inv-loop μ-loop) where
+  abbrev weights : List ℕ
+  weights = handed (s .args .weights .now) (s .args .wbytes .now)
+
+  abbrev values : List ℕ
+  values = handed (s .args .values .now) (s .args .vbytes .now)
+
 -- label i is one of the labels
-inside : (c : tie.In-loop Inv-loop μ-loop) → c .before .loop .label < length (handed (entry (c .before) .args .weights .now) (entry (c .before) .args .wbytes .now))
+inside : (c : tie.In-loop Inv-loop μ-loop) → c .before .loop .label < length (weights (entry (c .before)))
 inside c = omega (arith, entry (c .before) .pre .1 .1)
 
-on : (c : tie.Then1 Inv-loop μ-loop) → let head = c .before .before .before .before .before in let a = entry head .args in leadsOn (at (a .row .now)) (at (handed (a .weights .now) (a .wbytes .now)) (head .loop .label)) (at (handed (a .values .now) (a .vbytes .now)) (head .loop .label)) (head .loop .c) ≡ true
+-- whether one of it leads on
+abbrev leading : tie.At-loop Inv-loop μ-loop → Bool
+leading head = let s = entry head in leadsOn (at (s .args .row .now)) (at (weights s) (head .loop .label)) (at (values s) (head .loop .label)) (head .loop .c)
+
+on : (c : tie.Then1 Inv-loop μ-loop) → leading (c .before .before .before .before .before) ≡ true
 on c = rw (← c .before .before .before .item .ensures, ← c .before .before .item2 .ensures) (sym (c .before .leads .ensures) ∙ c .if1 .taken)
 
-off : (c : tie.Else1 Inv-loop μ-loop) → let head = c .before .before .before .before .before in let a = entry head .args in leadsOn (at (a .row .now)) (at (handed (a .weights .now) (a .wbytes .now)) (head .loop .label)) (at (handed (a .values .now) (a .vbytes .now)) (head .loop .label)) (head .loop .c) ≡ false
+off : (c : tie.Else1 Inv-loop μ-loop) → leading (c .before .before .before .before .before) ≡ false
 off c = rw (← c .before .before .before .item .ensures, ← c .before .before .item2 .ensures) (sym (c .before .leads .ensures) ∙ c .if1 .left)
 
 light : (c : tie.Then1 Inv-loop μ-loop) → c .before .before .before .item .result ≤ c .before .before .before .before .before .loop .c
 light c =
     let head = c .before .before .before .before .before in
-    let a = entry head .args in
-    rw (c .before .before .before .item .ensures) (leads-true (at (a .row .now)) (at (handed (a .weights .now) (a .wbytes .now)) (head .loop .label)) (at (handed (a .values .now) (a .vbytes .now)) (head .loop .label)) (head .loop .c) (on c) .0)
+    let s = entry head in
+    rw (c .before .before .before .item .ensures) (leads-true (at (s .args .row .now)) (at (weights s) (head .loop .label)) (at (values s) (head .loop .label)) (head .loop .c) (on c) .0)
 
 heavy : (c : tie.Then1 Inv-loop μ-loop) → 1 ≤ c .before .before .before .item .result
 heavy c =

@@ -1,8 +1,9 @@
 use native.Mathlib.Nat.{suc-mul}
 use lib.Seq.{drop-length}
 use mathlib.Core.Path.{_≡_, refl}
-use Prim.Native.Nat.{_+_, _-_, _*_, _≤_, _<_}
+use Prim.Native.Nat.{ℕ, _+_, _-_, _*_, _≤_, _<_}
 use native.Mathlib.Omega.{arith}
+use mathlib.Core.List.{List}
 use lib.ListN.{length, drop, length-set}
 use borrow.Author.Needs.{needs}
 use Rattle.meaning.specs.Lists.{at}
@@ -25,18 +26,26 @@ abbrev μ-loop : tie.MeasureT-loop
 μ-loop weights wbytes values vbytes width cells picks₀ i₀ c₀ picks i c = i
 
 -- the function's entry, from the loop's head
-abbrev start : tie.At-loop Inv-loop μ-loop → tie.Start Inv-loop μ-loop
-start c = c .before .before .before .before .before .before .before
+abbrev entry : tie.At-loop Inv-loop μ-loop → tie.Start Inv-loop μ-loop
+entry c = c .before .before .before .before .before .before .before
+
+-- the lists that the function is handed
+module _ (s : tie.Start Inv-loop μ-loop) where
+  abbrev weights : List ℕ
+  weights = handed (s .args .weights .now) (s .args .wbytes .now)
+
+  abbrev values : List ℕ
+  values = handed (s .args .values .now) (s .args .vbytes .now)
 
 -- the label under trial is one of the labels
-inside : (c : tie.In-loop Inv-loop μ-loop) → c .before .loop .i - 1 < length (handed (start (c .before) .args .weights .now) (start (c .before) .args .wbytes .now))
-inside c = omega (arith, start (c .before) .pre .1 .0 .1)
+inside : (c : tie.In-loop Inv-loop μ-loop) → c .before .loop .i - 1 < length (weights (entry (c .before)))
+inside c = omega (arith, entry (c .before) .pre .1 .0 .1)
 
 -- and its rows are within the table
-room : (c : tie.In-loop Inv-loop μ-loop) → (c .before .loop .i - 1) * start (c .before) .args .width + start (c .before) .args .width + c .before .loop .c < length (start (c .before) .args .cells .now)
+room : (c : tie.In-loop Inv-loop μ-loop) → (c .before .loop .i - 1) * entry (c .before) .args .width + entry (c .before) .args .width + c .before .loop .c < length (entry (c .before) .args .cells .now)
 room c =
-    let s = start (c .before) in
-    let n = length (handed (s .args .weights .now) (s .args .wbytes .now)) in
+    let s = entry (c .before) in
+    let n = length (weights s) in
     omega (arith, rows-within (c .before .loop .i - 1) n (s .args .width) (inside c), s .pre .1 .0 .0)
 
 sub-c : tie.Need-sub-c Inv-loop μ-loop
@@ -56,7 +65,7 @@ item-requires : tie.Need-item-requires Inv-loop μ-loop
 item-requires c κs = inside c
 
 item-requires-2 : tie.Need-item-requires-2 Inv-loop μ-loop
-item-requires-2 c κs = let turn = c .before in rw (start (turn .before) .pre .0 .valued) (inside turn)
+item-requires-2 c κs = let turn = c .before in rw (entry (turn .before) .pre .0 .valued) (inside turn)
 
 mul-from : tie.Need-mul-from Inv-loop μ-loop
 mul-from c = omega (arith, room (c .before .before))
@@ -68,7 +77,7 @@ add-goal-2 : tie.Need-add-goal-2 Inv-loop μ-loop
 add-goal-2 c = omega (arith, room (c .before .before))
 
 mul-goal : tie.Need-mul-goal Inv-loop μ-loop
-mul-goal c = omega (arith, room (c .before .before), start (c .before .before .before) .good)
+mul-goal c = omega (arith, room (c .before .before), entry (c .before .before .before) .good)
 
 shared-slice-read-goal : tie.Need-shared-slice-read-goal Inv-loop μ-loop
 shared-slice-read-goal c = omega (arith, room (c .before .before .before))
@@ -78,7 +87,7 @@ unfolding mostBudget
 least-count-requires c κs =
     let turn = c .before .before .before in
     let head = turn .before in
-    let s = start head in
+    let s = entry head in
     let m = head .loop .i - 1 in (
       (rw (c .before .before .item .ensures) (s .pre .0 .heavy m (inside turn)), (omega (arith, s .pre .0 .narrow), omega (arith, room turn))),
       rw (c .before .before .item .ensures, c .before .item2 .ensures) (rw suc-mul at (s .pre .1 .1 m (head .loop .c) (inside turn) (head .loop .inv .1))),
@@ -92,11 +101,11 @@ slice-write-picks c = search needs
 
 mul-c : tie.Need-mul-c Inv-loop μ-loop
 unfolding mostBudget
-mul-c c = omega (arith, c .least-count .ensures .made .spent, start (c .before .before .before .before .before) .pre .0 .narrow)
+mul-c c = omega (arith, c .least-count .ensures .made .spent, entry (c .before .before .before .before .before) .pre .0 .narrow)
 
 cast-c : tie.Need-cast-c Inv-loop μ-loop
 unfolding mostBudget
-cast-c c = omega (arith, c .least-count .ensures .made .spent, start (c .before .before .before .before .before) .pre .0 .narrow)
+cast-c c = omega (arith, c .least-count .ensures .made .spent, entry (c .before .before .before .before .before) .pre .0 .narrow)
 
 sub-c-2 : tie.Need-sub-c-2 Inv-loop μ-loop
 sub-c-2 c = omega (arith, c .least-count .ensures .made .spent)
@@ -108,14 +117,15 @@ loop-again : tie.Need-loop-again Inv-loop μ-loop
 loop-again c =
     let head = c .before .before .before .before .before in
     let l = head .loop in
-    let a = start head .args in
+    let s = entry head in
+    let a = s .args in
     let w = c .before .before .before .item .ensures in
     let v = c .before .before .item2 .ensures in
     let least = c .least-count in (
       omega arith,
       omega arith,
       simp length-set (l .inv .2),
-      rw w (way-more (rowOf (a .cells .now) (a .width)) (handed (a .weights .now) (a .wbytes .now)) (handed (a .values .now) (a .vbytes .now)) (length (handed (a .weights .now) (a .wbytes .now))) (a .width - 1)
+      rw w (way-more (rowOf (a .cells .now) (a .width)) (weights s) (values s) (length (weights s)) (a .width - 1)
           (l .i) (l .c) (least .result) (l .picks) (omega arith) (omega arith) (l .inv .3) (rw suc-mul (rw (w, v) at (least .ensures)))),
     )
 

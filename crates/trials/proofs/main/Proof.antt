@@ -6,190 +6,145 @@ use Rattle.numbers.specs.Handed.{handed}
 use Rattle.trials.proofs.main.Statement.{statement}
 use Rattle.trials.proofs.main.Tie as tie
 
--- src/main.rt:81:16
 slice-aggregate-pack : tie.Need-slice-aggregate-pack
 slice-aggregate-pack c = search needs
 
--- src/main.rt:81:28
 slice-aggregate-pack-2 : tie.Need-slice-aggregate-pack-2
 slice-aggregate-pack-2 c = search needs
 
--- src/main.rt:81:36
 slice-aggregate-pack-3 : tie.Need-slice-aggregate-pack-3
 slice-aggregate-pack-3 c = search needs
 
--- src/main.rt:81:48
 slice-aggregate-pack-4 : tie.Need-slice-aggregate-pack-4
 slice-aggregate-pack-4 c = search needs
 
--- src/main.rt:81:56
 slice-aggregate-pack-5 : tie.Need-slice-aggregate-pack-5
 slice-aggregate-pack-5 c = search needs
 
--- src/main.rt:81:63
 slice-aggregate-pack-6 : tie.Need-slice-aggregate-pack-6
 slice-aggregate-pack-6 c = search needs
 
--- src/main.rt:81:5
 pack-requires : tie.Need-pack-requires
 unfolding opens handed
 pack-requires c κs = record { sort = once; unrefused = record { of-kind = refl; no-refusal = refl } }
 
--- src/main.rt:83:16
 slice-aggregate-pack-parts : tie.Need-slice-aggregate-pack-parts
 slice-aggregate-pack-parts c = search needs
 
--- src/main.rt:83:5
 pack-parts-requires : tie.Need-pack-parts-requires
 unfolding opens
 pack-parts-requires c κs = refl
 
--- src/main.rt:85:16
 slice-aggregate-pack-7 : tie.Need-slice-aggregate-pack-7
 slice-aggregate-pack-7 c = search needs
 
--- src/main.rt:85:28
 slice-aggregate-pack-8 : tie.Need-slice-aggregate-pack-8
 slice-aggregate-pack-8 c = search needs
 
--- src/main.rt:85:36
 slice-aggregate-pack-9 : tie.Need-slice-aggregate-pack-9
 slice-aggregate-pack-9 c = search needs
 
--- src/main.rt:85:48
 slice-aggregate-pack-10 : tie.Need-slice-aggregate-pack-10
 slice-aggregate-pack-10 c = search needs
 
--- src/main.rt:85:56
 slice-aggregate-pack-11 : tie.Need-slice-aggregate-pack-11
 slice-aggregate-pack-11 c = search needs
 
--- src/main.rt:85:63
 slice-aggregate-pack-12 : tie.Need-slice-aggregate-pack-12
 slice-aggregate-pack-12 c = search needs
 
--- src/main.rt:85:5
 pack-requires-2 : tie.Need-pack-requires-2
 unfolding opens handed
 pack-requires-2 c κs = record { sort = once; unrefused = record { of-kind = refl; no-refusal = refl } }
 
--- src/main.rt:87:17
 slice-aggregate-pack-13 : tie.Need-slice-aggregate-pack-13
 slice-aggregate-pack-13 c = search needs
 
--- src/main.rt:87:29
 slice-aggregate-pack-14 : tie.Need-slice-aggregate-pack-14
 slice-aggregate-pack-14 c = search needs
 
--- src/main.rt:87:37
 slice-aggregate-pack-15 : tie.Need-slice-aggregate-pack-15
 slice-aggregate-pack-15 c = search needs
 
--- src/main.rt:87:49
 slice-aggregate-pack-16 : tie.Need-slice-aggregate-pack-16
 slice-aggregate-pack-16 c = search needs
 
--- src/main.rt:87:57
 slice-aggregate-pack-17 : tie.Need-slice-aggregate-pack-17
 slice-aggregate-pack-17 c = search needs
 
--- src/main.rt:87:64
 slice-aggregate-pack-18 : tie.Need-slice-aggregate-pack-18
 slice-aggregate-pack-18 c = search needs
 
--- src/main.rt:87:5
 pack-requires-3 : tie.Need-pack-requires-3
 unfolding opens handed
 pack-requires-3 c κs = record { sort = once; unrefused = record { of-kind = refl; no-refusal = refl } }
 
--- src/main.rt:89:16
 slice-aggregate-pack-19 : tie.Need-slice-aggregate-pack-19
 slice-aggregate-pack-19 c = search needs
 
--- src/main.rt:89:25
 slice-aggregate-pack-20 : tie.Need-slice-aggregate-pack-20
 slice-aggregate-pack-20 c = search needs
 
--- src/main.rt:89:33
 slice-aggregate-pack-21 : tie.Need-slice-aggregate-pack-21
 slice-aggregate-pack-21 c = search needs
 
--- src/main.rt:89:42
 slice-aggregate-pack-22 : tie.Need-slice-aggregate-pack-22
 slice-aggregate-pack-22 c = search needs
 
--- src/main.rt:89:50
 slice-aggregate-pack-23 : tie.Need-slice-aggregate-pack-23
 slice-aggregate-pack-23 c = search needs
 
--- src/main.rt:89:59
 slice-aggregate-pack-24 : tie.Need-slice-aggregate-pack-24
 slice-aggregate-pack-24 c = search needs
 
--- src/main.rt:89:5
 pack-requires-4 : tie.Need-pack-requires-4
 unfolding opens handed
 pack-requires-4 c κs = record { sort = limited; unrefused = record { of-kind = refl; no-refusal = refl } }
 
--- src/main.rt:91:17
 slice-aggregate-pack-25 : tie.Need-slice-aggregate-pack-25
 slice-aggregate-pack-25 c = search needs
 
--- src/main.rt:91:26
 slice-aggregate-pack-26 : tie.Need-slice-aggregate-pack-26
 slice-aggregate-pack-26 c = search needs
 
--- src/main.rt:91:34
 slice-aggregate-pack-27 : tie.Need-slice-aggregate-pack-27
 slice-aggregate-pack-27 c = search needs
 
--- src/main.rt:91:43
 slice-aggregate-pack-28 : tie.Need-slice-aggregate-pack-28
 slice-aggregate-pack-28 c = search needs
 
--- src/main.rt:91:51
 slice-aggregate-pack-29 : tie.Need-slice-aggregate-pack-29
 slice-aggregate-pack-29 c = search needs
 
--- src/main.rt:91:58
 slice-aggregate-pack-30 : tie.Need-slice-aggregate-pack-30
 slice-aggregate-pack-30 c = search needs
 
--- src/main.rt:91:5
 pack-requires-5 : tie.Need-pack-requires-5
 unfolding opens handed
 pack-requires-5 c κs = record { sort = free; unrefused = record { of-kind = refl; no-refusal = refl } }
 
--- src/main.rt:92:16
 slice-aggregate-pack-31 : tie.Need-slice-aggregate-pack-31
 slice-aggregate-pack-31 c = search needs
 
--- src/main.rt:92:25
 slice-aggregate-pack-32 : tie.Need-slice-aggregate-pack-32
 slice-aggregate-pack-32 c = search needs
 
--- src/main.rt:92:33
 slice-aggregate-pack-33 : tie.Need-slice-aggregate-pack-33
 slice-aggregate-pack-33 c = search needs
 
--- src/main.rt:92:42
 slice-aggregate-pack-34 : tie.Need-slice-aggregate-pack-34
 slice-aggregate-pack-34 c = search needs
 
--- src/main.rt:92:50
 slice-aggregate-pack-35 : tie.Need-slice-aggregate-pack-35
 slice-aggregate-pack-35 c = search needs
 
--- src/main.rt:92:57
 slice-aggregate-pack-36 : tie.Need-slice-aggregate-pack-36
 slice-aggregate-pack-36 c = search needs
 
--- src/main.rt:92:5
 pack-requires-6 : tie.Need-pack-requires-6
 unfolding opens handed
 pack-requires-6 c κs = record { sort = free; unrefused = record { of-kind = refl; no-refusal = refl } }
 
--- src/main.rt:77:1
 returns : tie.Need-returns
 returns c = search needs
 

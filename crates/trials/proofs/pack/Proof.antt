@@ -4,77 +4,69 @@ use native.Mathlib.Omega.{arith}
 use lib.ListN.{length, replicate}
 use lib.Seq.{length-take-le}
 use borrow.Author.Needs.{needs}
-use Rattle.meaning.specs.Job.{jobOf, labels}
+use Rattle.meaning.specs.Job.{Job, jobOf, labels}
 use Rattle.numbers.specs.Handed.{handed, jobHanded}
 use Rattle.knapsack.proofs.Doors.{accepted-long, ready}
 use Rattle.trials.proofs.pack.Statement.{statement}
 use Rattle.trials.proofs.pack.Tie as tie
 
--- src/main.rt:50:72
+abbrev job : tie.Start → Job
+job s =
+    let a = s .args in
+    jobHanded (a .kind) (a .budget) (a .weights .now) (a .wbytes .now) (a .values .now) (a .vbytes .now) (a .copies .now) (a .cbytes .now)
+
 -- no more labels than picks
 few : (s : tie.Start) → length (handed (s .args .weights .now) (s .args .wbytes .now)) ≤ 4
 unfolding jobOf labels
-few s = ready (s .pre .sort) (jobHanded (s .args .kind) (s .args .budget) (s .args .weights .now) (s .args .wbytes .now) (s .args .values .now) (s .args .vbytes .now) (s .args .copies .now) (s .args .cbytes .now)) (replicate 64 0) (replicate 4 0) (s .pre .unrefused) .picks-room
+few s = ready (s .pre .sort) (job s) (replicate 64 0) (replicate 4 0) (s .pre .unrefused) .picks-room
 
 slice-aggregate-solve : tie.Need-slice-aggregate-solve
 slice-aggregate-solve c = search needs
 
--- src/main.rt:50:84
 slice-aggregate-solve-2 : tie.Need-slice-aggregate-solve-2
 slice-aggregate-solve-2 c = search needs
 
--- src/main.rt:49:9
 solve-requires : tie.Need-solve-requires
 solve-requires c κs =
     let s = c .before .before .before .before .before .before .before .before in
-    let a = s .args in
-    accepted-long (jobHanded (a .kind) (a .budget) (a .weights .now) (a .wbytes .now) (a .values .now) (a .vbytes .now) (a .copies .now) (a .cbytes .now)) (replicate 64 0) (replicate 4 0) _ _ refl refl (s .pre)
+    accepted-long (job s) (replicate 64 0) (replicate 4 0) _ _ refl refl (s .pre)
 
--- src/main.rt:52:18
 slice-aggregate-print-number : tie.Need-slice-aggregate-print-number
 slice-aggregate-print-number c = search needs
 
--- src/main.rt:52:5
 print-number-requires : tie.Need-print-number-requires
 print-number-requires c κs = search needs
 
--- src/main.rt:53:31
 enum-known-answer : tie.Need-enum-known-answer
 enum-known-answer c = search needs
 
--- src/main.rt:54:22
 slice-aggregate-print-number-2 : tie.Need-slice-aggregate-print-number-2
 slice-aggregate-print-number-2 c = search needs
 
--- src/main.rt:54:9
 print-number-requires-2 : tie.Need-print-number-requires-2
 print-number-requires-2 c κs = search needs
 
--- src/main.rt:55:22
 slice-aggregate-print-number-3 : tie.Need-slice-aggregate-print-number-3
 slice-aggregate-print-number-3 c = search needs
 
--- src/main.rt:55:9
 print-number-requires-3 : tie.Need-print-number-requires-3
 print-number-requires-3 c κs = search needs
 
--- src/main.rt:57:9
 list-length-requires : tie.Need-list-length-requires
 list-length-requires c κs = search needs
 
--- src/main.rt:58:17
+room : (c : tie.After-list-length) → c .list-length .result ≤ length (c .before .before .before .before .before .before .solve .last .1 .1 .1 .1 .1 .1 .1 .1 .1 .0)
+room c = omega (arith, few (c .before .before .before .before .before .before .before .before .before .before .before .before .before .before .before), c .list-length .ensures, c .before .before .before .before .before .before .solve .kept .1 .1 .1 .1 .1 .1 .1 .1 .1 .0)
+
 array-share-prefix-picks : tie.Need-array-share-prefix-picks
-array-share-prefix-picks c = omega (arith, few (c .before .before .before .before .before .before .before .before .before .before .before .before .before .before .before), c .list-length .ensures, c .before .before .before .before .before .before .solve .kept .1 .1 .1 .1 .1 .1 .1 .1 .1 .0)
+array-share-prefix-picks c = room c
 
--- src/main.rt:58:17
 slice-aggregate-print-picks : tie.Need-slice-aggregate-print-picks
-slice-aggregate-print-picks c = sym (length-take-le (c .before .list-length .result) _ (omega (arith, few (c .before .before .before .before .before .before .before .before .before .before .before .before .before .before .before .before), c .before .list-length .ensures, c .before .before .before .before .before .before .before .solve .kept .1 .1 .1 .1 .1 .1 .1 .1 .1 .0)))
+slice-aggregate-print-picks c = sym (length-take-le (c .before .list-length .result) _ (room (c .before)))
 
--- src/main.rt:58:5
 print-picks-requires : tie.Need-print-picks-requires
 print-picks-requires c κs = search needs
 
--- src/main.rt:35:1
 returns : tie.Need-returns
 returns c = search needs
 

@@ -8,7 +8,6 @@ use Rattle.numbers.specs.Handed.{handed}
 use Rattle.trials.proofs.pack_parts.Statement.{statement}
 use Rattle.trials.proofs.pack_parts.Tie as tie
 
--- src/main.rt:68:16
 -- 52 bytes
 long : (s : tie.Start) → length (s .args .job .now) ≡ 52
 unfolding opens
@@ -17,56 +16,43 @@ long s = ap length (s .pre)
 slice-aggregate-pack : tie.Need-slice-aggregate-pack
 slice-aggregate-pack c = search needs
 
--- src/main.rt:68:23
 sub-pack : tie.Need-sub-pack
 sub-pack c = search needs
 
--- src/main.rt:68:23
 part-pack-start : tie.Need-part-pack-start
 part-pack-start c = search needs
 
--- src/main.rt:68:23
 part-pack-end : tie.Need-part-pack-end
 part-pack-end c = omega (arith, long (c .before .before))
 
--- src/main.rt:68:37
 slice-aggregate-pack-2 : tie.Need-slice-aggregate-pack-2
 slice-aggregate-pack-2 c = search needs
 
--- src/main.rt:68:44
 sub-pack-2 : tie.Need-sub-pack-2
 sub-pack-2 c = search needs
 
--- src/main.rt:68:44
 part-pack-start-2 : tie.Need-part-pack-start-2
 part-pack-start-2 c = search needs
 
--- src/main.rt:68:44
 part-pack-end-2 : tie.Need-part-pack-end-2
 part-pack-end-2 c = omega (arith, long (c .before .before .before .before))
 
--- src/main.rt:68:58
 slice-aggregate-pack-3 : tie.Need-slice-aggregate-pack-3
 slice-aggregate-pack-3 c = search needs
 
--- src/main.rt:68:65
 sub-pack-3 : tie.Need-sub-pack-3
 sub-pack-3 c = omega (arith, long (c .before .before .before .before .before .before))
 
--- src/main.rt:68:65
 part-pack-start-3 : tie.Need-part-pack-start-3
 part-pack-start-3 c = omega (arith, long (c .before .before .before .before .before .before))
 
--- src/main.rt:68:65
 part-pack-end-3 : tie.Need-part-pack-end-3
 part-pack-end-3 c = search needs
 
--- src/main.rt:68:5
 pack-requires : tie.Need-pack-requires
 unfolding opens handed
 pack-requires c κs = rw (c .before .before .before .before .before .before .before .pre) (record { sort = once; unrefused = record { of-kind = refl; no-refusal = refl } })
 
--- src/main.rt:64:1
 returns : tie.Need-returns
 returns c = search needs
 
