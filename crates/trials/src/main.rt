@@ -86,69 +86,14 @@ fn pack_parts(job: &[u8])
     );
 }
 
-// The job bytes of case A.
-const JOB_A: [u8; 52] = [
-    1,
-    0,
-    0,
-    0,
-    1,
-    0,
-    0,
-    0,
-    1,
-    0,
-    0,
-    0,
-    7,
-    0,
-    0,
-    0,
-    3,
-    0,
-    0,
-    0,
-    3,
-    0,
-    0,
-    0,
-    4,
-    0,
-    0,
-    0,
-    5,
-    0,
-    0,
-    0,
-    3,
-    0,
-    0,
-    0,
-    4,
-    0,
-    0,
-    0,
-    5,
-    0,
-    0,
-    0,
-    6,
-    0,
-    0,
-    0,
-    0,
-    0,
-    0,
-    0,
-];
-
 fn main() {
     let none: [u32; 0] = [];
     let empty: [u8; 0] = [];
     // A, as numbers and as parts of the job bytes
     pack(1, 7, &[3, 4, 5], &empty, &[4, 5, 6], &empty, &none, &empty);
-    let job = JOB_A;
-    pack_parts(&job);
+    pack_parts(
+        b"\x01\0\0\0\x01\0\0\0\x01\0\0\0\x07\0\0\0\x03\0\0\0\x03\0\0\0\x04\0\0\0\x05\0\0\0\x03\0\0\0\x04\0\0\0\x05\0\0\0\x06\0\0\0\0\0\0\0",
+    );
     // B
     pack(1, 3, &[1, 2, 3], &empty, &[1, 2, 3], &empty, &none, &empty);
     // C
