@@ -1,6 +1,6 @@
 // A row of cells by budget, and what one label of weight w and value v makes of it. Nothing here knows of jobs.
 ghost use mathlib.Core.Path.{_≡_};
-ghost use Prim.Native.Nat.{ℕ, _+_, _-_, _*_, _≤_, _<_, max, min};
+ghost use Prim.Native.Nat.{ℕ, _+_, _-_, _*_, _/_, _≤_, _<_, max, min};
 ghost use lib.ListN.{length};
 ghost use Rattle.meaning.specs.Lists.{at};
 ghost use Rattle.meaning.specs.Refusals.{mostBudget, mostValue};
@@ -173,6 +173,22 @@ fn reach(width: usize, w: u32, most: u32) -> usize
     w as usize
 }
 
+// How many of a label of weight w may be picked, as far as the greatest budget of a row holds them. The division is spared where it
+// decides nothing.
+fn most_held(limit: u32, width: usize, w: u32) -> u32
+    requires { ⌜ (0 < width) × ((width ≤ mostBudget + 1) × (1 ≤ w)) ⌝ }
+    ensures { λ r. ⌜ r ≡ min limit ((width - 1) / w) ⌝ }
+{
+    let budget = (width - 1) as u32;
+    if budget < w {
+        return 0;
+    }
+    if limit < 2 {
+        return limit;
+    }
+    lesser(limit, budget / w)
+}
+
 // The row after the one at `from`, with up to `limit` of a label.
 pub fn next_row(cells: &mut [u32], from: usize, width: usize, w: u32, v: u32, limit: u32)
     requires { ⌜ (0 < width) × ((width ≤ mostBudget + 1) × (from + width + width ≤ length (now cells))) ⌝ }
@@ -181,7 +197,7 @@ pub fn next_row(cells: &mut [u32], from: usize, width: usize, w: u32, v: u32, li
     ensures { λ _. ⌜ NextRow (now (cells .entry)) (now (cells .exit)) from width w v limit ⌝ }
 {
     let to = from + width;
-    let most = lesser(limit, (width - 1) as u32 / w);
+    let most = most_held(limit, width, w);
     let start = reach(width, w, most);
     copy(cells, from, to, start);
     raise(cells, from, to, width, start, v);

@@ -14,33 +14,23 @@ use Rattle.rows.proofs.next_row.Tie as tie
 add-to : tie.Need-add-to
 add-to c = search needs
 
-sub-lesser : tie.Need-sub-lesser
-sub-lesser c = search needs
-
-cast-lesser : tie.Need-cast-lesser
-unfolding mostBudget
-cast-lesser c = search needs
-
-div-lesser : tie.Need-div-lesser
-div-lesser c = search needs
-
-lesser-requires : tie.Need-lesser-requires
-lesser-requires c κs = search needs
+most-held-requires : tie.Need-most-held-requires
+most-held-requires c κs = search needs
 
 reach-requires : tie.Need-reach-requires
 reach-requires c κs = search needs
 
 -- as many as may be picked are lighter than the row is wide
-light : (c : tie.After-reach) → c .before .before .before .args .w * c .before .lesser .result < c .before .before .before .args .width
+light : (c : tie.After-reach) → c .before .before .before .args .w * c .before .most-held .result < c .before .before .before .args .width
 light c =
     let a = c .before .before .before .args in
-    rw (c .before .lesser .ensures) (most-light (a .limit) (a .w) (a .width) (c .before .before .before .pre .0 .0))
+    rw (c .before .most-held .ensures) (most-light (a .limit) (a .w) (a .width) (c .before .before .before .pre .0 .0))
 
 -- and the row is copied no further than it is wide
 short : (c : tie.After-reach) → c .reach .result ≤ c .before .before .before .args .width
 short c =
     let a = c .before .before .before .args in
-    start-within (a .w) (c .before .lesser .result) (a .width) (c .reach .result) (c .reach .ensures .0) (c .reach .ensures .1) (light c)
+    start-within (a .w) (c .before .most-held .result) (a .width) (c .reach .result) (c .reach .ensures .0) (c .reach .ensures .1) (light c)
 
 copy-requires : tie.Need-copy-requires
 copy-requires c κs =
@@ -85,7 +75,7 @@ add-parts-requires c κs =
     let fits : to + a .width ≤ length u = omega (arith, raise .raise .kept .0, copy .copy .kept .0, start .pre .0) in
     rw (part-long u to (a .width) fits) (
       (start .pre .1 .0 .0, (start .pre .1 .0 .1, (start .pre .0 .1 .0, light reach))),
-      part-low (a .cells .now) (copy .copy .last .0) u (a .from) (a .width) (a .w) (a .v) (reach .before .lesser .result) (reach .reach .result) (reach .reach .ensures .0) (reach .reach .ensures .1)
+      part-low (a .cells .now) (copy .copy .last .0) u (a .from) (a .width) (a .w) (a .v) (reach .before .most-held .result) (reach .reach .result) (reach .reach .ensures .0) (reach .reach .ensures .1)
           (copy .copy .ensures) (raise .raise .ensures) (start .pre .1 .0 .0) (start .pre .1 .0 .1) fits (start .pre .1 .1),
     )
 
@@ -104,18 +94,15 @@ returns c =
     let to = a .from + a .width in
     let fits : to + a .width ≤ length u = omega (arith, raise .raise .kept .0, copy .copy .kept .0, start .pre .0) in
     let long = part-long u to (a .width) fits in
-    next-made (a .cells .now) (copy .copy .last .0) u (a .from) (a .width) (a .w) (a .v) (reach .before .lesser .result) (reach .reach .result) (reach .reach .ensures .0) (reach .reach .ensures .1)
-    (copy .copy .ensures) (raise .raise .ensures) (parts .last .0) _ (a .limit) (start .pre .1 .0 .0) fits (parts .kept .0 ∙ long) (reach .before .lesser .ensures) (rw long at (parts .ensures))
+    next-made (a .cells .now) (copy .copy .last .0) u (a .from) (a .width) (a .w) (a .v) (reach .before .most-held .result) (reach .reach .result) (reach .reach .ensures .0) (reach .reach .ensures .1)
+    (copy .copy .ensures) (raise .raise .ensures) (parts .last .0) _ (a .limit) (start .pre .1 .0 .0) fits (parts .kept .0 ∙ long) (reach .before .most-held .ensures) (rw long at (parts .ensures))
 
 pub next-row-spec : {M : Type 1} → statement M
 next-row-spec =
     tie.close
     (tie.spec
     add-to
-    sub-lesser
-    cast-lesser
-    div-lesser
-    lesser-requires
+    most-held-requires
     reach-requires
     copy-requires
     raise-requires
