@@ -126,7 +126,7 @@ unfolding kindRefusal roomFits lentOf
 no-words k j cells words picks = rw (← words-needed k j, leb·zero (length words), leb·zero 0)
 
 -- the table and the picks that were written are those of the knapsack, and the numbers are those of the picks
-pub packs : (k : Sort) (j : Job) (cells picks : List ℕ) → Unrefused (packing k) j (lentOf cells [] picks) → (cells-after picks-after table found : List ℕ) (value weight : ℕ)
+packs : (k : Sort) (j : Job) (cells picks : List ℕ) → Unrefused (packing k) j (lentOf cells [] picks) → (cells-after picks-after table found : List ℕ) (value weight : ℕ)
     → length table ≡ roomFor (packing k) j .cells → ValueTable k j table → BestPicks k j (labels j) (j .budget) found
     → value ≡ total (j .values) found → weight ≡ total (j .weights) found → Holds table cells cells-after → Holds found picks picks-after
     → Packs j cells picks (Says.Knapsack value weight) cells-after picks-after
@@ -197,7 +197,7 @@ module _ (j : Job) (cells picks row found : List ℕ) (left : ℕ) (a : Unrefuse
 -- ---- the choice among the three
 
 -- kind 3 has no copies, and is the knapsack of any number
-pub any-free : (j : Job) (cells picks : List ℕ) → j .kind-number ≡ 3 → Accepted j cells picks → Unrefused (packing free) j (lentOf cells [] picks) × (j .copies ≡ [])
+any-free : (j : Job) (cells picks : List ℕ) → j .kind-number ≡ 3 → Accepted j cells picks → Unrefused (packing free) j (lentOf cells [] picks) × (j .copies ≡ [])
 unfolding numberOf hasCopies if
 any-free j cells picks e a = go (a .sort) (sym (kind-number (j .kind-number) (packing (a .sort)) (a .unrefused .of-kind)) ∙ e) (a .unrefused)
   where

@@ -42,7 +42,7 @@ module _ (ws vs : List ℕ) (limit : ℕ → ℕ) (width : ℕ) where
   }
 
   -- rows before row i end before it
-  pub rows-below : (m i c : ℕ) → m < i → c < width → m * width + c < i * width
+  rows-below : (m i c : ℕ) → m < i → c < width → m * width + c < i * width
   rows-below m i c h l = omega (arith, mul-le-mul-right width h, suc-mul m width)
 
   -- one row more
@@ -99,7 +99,7 @@ module _ (k : Sort) (j : Job) (limit : ℕ → ℕ) (width : ℕ) (cells : List 
   row i c = rowOf cells width i c
 
   -- each row tops the row before it, by the counts that may be picked
-  pub row-topped : (i : ℕ) → i < labels j → ToppedRow (MayPick k (at (j .copies) i)) (row i) (at (j .weights) i) (at (j .values) i) width (row (suc i))
+  row-topped : (i : ℕ) → i < labels j → ToppedRow (MayPick k (at (j .copies) i)) (row i) (at (j .weights) i) (at (j .values) i) width (row (suc i))
   unfolding ToppedRow
   row-topped i h c l =
       topped-may (λ x. x ≤ limit i) (MayPick k (at (j .copies) i)) (row i) (at (j .weights) i) (at (j .values) i) c (row (suc i) c)

@@ -14,13 +14,13 @@ use Rattle.rows.proofs.Counts.{topped-none, topped-part, topped-limit, 
 use Rattle.rows.proofs.Parts.{partOf, part-at, put-at, put-before}
 
 -- a row that is raised once holds up to one of the label
-pub topped-one : (f h : ℕ → ℕ) (w v width : ℕ) → Raised f f h w v width → ToppedRow (λ x. x ≤ 1) f w v width h
+topped-one : (f h : ℕ → ℕ) (w v width : ℕ) → Raised f f h w v width → ToppedRow (λ x. x ≤ 1) f w v width h
 unfolding ToppedRow
 topped-one f h w v width up c inside =
     rw zero-add at (topped-part f f h w v 0 1 width (omega arith) (λ d l. topped-none f w v d) (rw (mul-one w, mul-one v) up) c inside)
 
 -- a row with the same cells
-pub row-same : (May : ℕ → Type 0) (f g h : ℕ → ℕ) (w v width : ℕ) → ((c : ℕ) → c < width → g c ≡ h c) → ToppedRow May f w v width g → ToppedRow May f w v width h
+row-same : (May : ℕ → Type 0) (f g h : ℕ → ℕ) (w v width : ℕ) → ((c : ℕ) → c < width → g c ≡ h c) → ToppedRow May f w v width g → ToppedRow May f w v width h
 unfolding ToppedRow
 row-same May f g h w v width e tops c inside = rw (← e c inside) (tops c inside)
 
@@ -29,7 +29,7 @@ module _ (s t u : List ℕ) (from width w v most start : ℕ)
     (none : most ≡ 0 → start ≡ width) (some : 0 < most → start ≡ w)
     (copied : Stored s t (from + width) 0 start (λ c. at s (from + c)))
     (raised : Stored t u (from + width) start width (λ c. max (at t (from + c)) (at t (from + (c - start)) + v))) where
-  pub rows-before : (k : ℕ) → k < from + width → at u k ≡ at s k
+  rows-before : (k : ℕ) → k < from + width → at u k ≡ at s k
   rows-before k h = raised .before k (omega arith) ∙ copied .before k (omega arith)
 
   same-below : (c : ℕ) → c < start → at u (from + width + c) ≡ at s (from + c)
@@ -39,7 +39,7 @@ module _ (s t u : List ℕ) (from width w v most start : ℕ)
   row-copied c h = copied .before (from + c) (omega arith)
 
   -- up to one of the label, or none where none may be picked
-  pub first-one : ToppedRow (λ x. x ≤ min 1 most) (λ c. at s (from + c)) w v width (λ c. at u (from + width + c))
+  first-one : ToppedRow (λ x. x ≤ min 1 most) (λ c. at s (from + c)) w v width (λ c. at u (from + width + c))
   unfolding ToppedRow
   first-one =
       by 0 most
