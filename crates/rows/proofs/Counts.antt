@@ -3,14 +3,14 @@
 use mathlib.Core.Path.{_≡_, refl, sym, ap, _∙_}
 use mathlib.Core.Logic.{_⊎_, inl, inr}
 use Prim.Native.Nat.{ℕ, zero, suc, _+_, _-_, _*_, _/_, _%_, _≤_, _<_, min}
-use native.Mathlib.Nat.{mul-add, mul-zero, mul-one, mul-comm, mul-le-mul-left, mul-le-mul-right, mul-assoc, div-add-mod, mod-lt, sub-add-cancel, le-div-iff-mul-le, one-mul}
+use native.Mathlib.Nat.{le-antisymm, mul-add, mul-zero, mul-one, mul-comm, mul-le-mul-left, mul-le-mul-right, mul-assoc, div-add-mod, mod-lt, sub-add-cancel, le-div-iff-mul-le, one-mul}
 use native.Mathlib.Omega.{arith}
 use Rattle.meaning.specs.Lists.{at}
 use Rattle.meaning.specs.Job.{Job, Sort}
 use Rattle.meaning.specs.Refusals.{mostValue}
 use Rattle.meaning.specs.Knapsacks.{MayPick, BestValue}
 use Rattle.meaning.proofs.Steps.{best-step}
-use Rattle.rows.specs.Rows.{Worth, Topped, ToppedRow, AnyCount, Raised, Low}
+use Rattle.rows.specs.Rows.{Worth, Topped, ToppedRow, AnyCount, Least, Raised, Low}
 use Rattle.rows.proofs.Stores.{by}
 
 -- x times w, with s of the x apart
@@ -199,3 +199,14 @@ raised-low f g w v width cheap low up c h =
     by c w
     (λ short. omega (arith, up .short c h short, low c h))
     (λ light. omega (arith, up .long c h light, low c h, low (c - w) (omega arith)))
+
+-- ---- no second choice is left
+
+-- one number is the greatest
+pub topped-unique : {May : ℕ → Type 0} {f : ℕ → ℕ} {w v c b b′ : ℕ} → Topped May f w v c b → Topped May f w v c b′ → b ≡ b′
+topped-unique {b = b} {b′ = b′} d e = le-antisymm (e .above (d .count) b (d .may) (d .made)) (d .above (e .count) b′ (e .may) (e .made))
+
+-- and one count the least
+pub least-unique : {f : ℕ → ℕ} {w v c b x x′ : ℕ} → Least f w v c b x → Least f w v c b x′ → x ≡ x′
+least-unique {x = x} {x′ = x′} d e =
+    by x x′ (λ l. absurd (e .fewer x l (d .made))) (λ l. by x′ x (λ m. absurd (d .fewer x′ m (e .made))) (λ m. omega arith))

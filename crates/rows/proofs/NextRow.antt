@@ -5,13 +5,13 @@ use Prim.Native.Nat.{ℕ, _+_, _-_, _*_, _/_, _≤_, _<_, max, min}
 use native.Mathlib.Nat.{mul-one, mul-div-le, mul-le-mul-left, min-le-right, zero-add}
 use native.Mathlib.Omega.{arith}
 use mathlib.Core.List.{List, _++_}
-use lib.ListN.{length, take}
+use lib.ListN.{length, take, drop}
 use Rattle.meaning.specs.Lists.{at}
 use Rattle.meaning.specs.Refusals.{mostValue}
 use Rattle.rows.specs.Rows.{ToppedRow, Raised, Stored, Repeated, NextRow, Low}
 use Rattle.rows.proofs.Stores.{by}
 use Rattle.rows.proofs.Counts.{topped-none, topped-part, topped-limit, topped-low}
-use Rattle.rows.proofs.Parts.{partOf, part-at, put-at, put-before}
+use Rattle.rows.proofs.Parts.{partOf, part-at, put-at, put-before, put-past}
 
 -- a row that is raised once holds up to one of the label
 topped-one : (f h : ℕ → ℕ) (w v width : ℕ) → Raised f f h w v width → ToppedRow (λ x. x ≤ 1) f w v width h
@@ -31,6 +31,9 @@ module _ (s t u : List ℕ) (from width w v most start : ℕ)
     (raised : Stored t u (from + width) start width (λ c. max (at t (from + c)) (at t (from + (c - start)) + v))) where
   rows-before : (k : ℕ) → k < from + width → at u k ≡ at s k
   rows-before k h = raised .before k (omega arith) ∙ copied .before k (omega arith)
+
+  rows-past : start ≤ width → (k : ℕ) → from + width + width ≤ k → at u k ≡ at s k
+  rows-past within k h = raised .past k h ∙ copied .past k (omega arith)
 
   same-below : (c : ℕ) → c < start → at u (from + width + c) ≡ at s (from + c)
   same-below c h = raised .before (from + width + c) (omega arith) ∙ copied .cells c (omega arith) h
@@ -66,16 +69,17 @@ module _ (s t u : List ℕ) (from width w v most start : ℕ)
       topped-low (λ x. x ≤ min 1 most) (λ c. at s (from + c)) (at (partOf u (from + width) width)) w v width pos cheap low (first-part fits)
 
   -- then up to `limit` of it, by parts in place
-  module _ (row rest : List ℕ) (limit : ℕ) (pos : 1 ≤ w) (fits : from + width + width ≤ length u) (long : length row ≡ width)
+  module _ (row : List ℕ) (limit : ℕ) (pos : 1 ≤ w) (fits : from + width + width ≤ length u) (long : length row ≡ width) (within : start ≤ width)
       (is-most : most ≡ min limit ((width - 1) / w)) (parts : Repeated (partOf u (from + width) width) row w v width most) where
-    pub next-made : NextRow s (take (from + width) u ++ (row ++ rest)) from width w v limit
+    pub next-made : NextRow s (take (from + width) u ++ (row ++ drop (from + width + width - (from + width)) (drop (from + width) u))) from width w v limit
     unfolding Repeated ToppedRow
     next-made = record {
       made = λ c l.
           let all = parts (λ d. at s (from + d)) (first-part fits) c l in
-          rw (put-at u (from + width) width fits row rest c (omega arith))
+          rw (put-at u (from + width) width fits row c (omega arith))
           (topped-limit (λ d. at s (from + d)) w v c (at row c) limit (width - 1) pos (omega arith) (rw is-most at all));
-      before = λ k l. put-before u (from + width) width fits row rest k l ∙ rows-before k l;
+      before = λ k l. put-before u (from + width) width fits row k l ∙ rows-before k l;
+      past = λ k l. put-past u (from + width) width fits row long k l ∙ rows-past within k l;
     }
 
 -- as many as the budget holds are lighter than the row is wide

@@ -19,7 +19,11 @@ module _ (whole : List ℕ) (from len : ℕ) (fits : from + len ≤ length whole
   pub part-at : (c : ℕ) → c < len → at (partOf whole from len) c ≡ at whole (from + c)
   part-at c h = getD-take (from + len - from) (drop from whole) c 0 (omega arith) ∙ getD-drop from whole c 0
 
-  module _ (new rest : List ℕ) where
+  module _ (new : List ℕ) where
+    -- what stands after the part
+    abbrev rest : List ℕ
+    rest = drop (from + len - from) (drop from whole)
+
     pub put-at : (c : ℕ) → c < length new → at (take from whole ++ (new ++ rest)) (from + c) ≡ at new c
     put-at c h =
         let front : length (take from whole) ≡ from = length-take-le from whole (omega arith) in
@@ -31,3 +35,15 @@ module _ (whole : List ℕ) (from len : ℕ) (fits : from + len ≤ length whole
     put-before k h =
         let front : length (take from whole) ≡ from = length-take-le from whole (omega arith) in
         List·getD-append (take from whole) (new ++ rest) 0 k (omega arith) ∙ getD-take from whole k 0 h
+
+    pub put-past : length new ≡ len → (k : ℕ) → from + len ≤ k → at (take from whole ++ (new ++ rest)) k ≡ at whole k
+    put-past long k h =
+        let front : length (take from whole) ≡ from = length-take-le from whole (omega arith) in
+        let past : k ≡ length (take from whole) + (length new + (k - from - len)) = omega arith in
+        let back : from + (from + len - from + (k - from - len)) ≡ k = omega arith in
+        ap (λ (n : ℕ). at (take from whole ++ (new ++ rest)) n) past
+        ∙ getD-append-add (take from whole) (new ++ rest) (length new + (k - from - len)) 0
+        ∙ getD-append-add new rest (k - from - len) 0
+        ∙ getD-drop (from + len - from) (drop from whole) (k - from - len) 0
+        ∙ getD-drop from whole (from + len - from + (k - from - len)) 0
+        ∙ ap (at whole) back

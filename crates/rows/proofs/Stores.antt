@@ -35,7 +35,7 @@ stored-first l i x h =
 module _ (s : List ℕ) (to lo hi : ℕ) (rule : ℕ → ℕ) where
   -- nothing stored yet
   pub stored-none : hi ≤ lo → Stored s s to lo hi rule
-  stored-none h = record { cells = λ c l m. absurd (omega arith); before = λ k l. refl }
+  stored-none h = record { cells = λ c l m. absurd (omega arith); before = λ k l. refl; past = λ k l. refl }
 
   module _ (t : List ℕ) (place x : ℕ) (inside : place < length t) (d : Stored s t to lo hi rule) where
     -- the next cell up
@@ -45,6 +45,7 @@ module _ (s : List ℕ) (to lo hi : ℕ) (rule : ℕ → ℕ) where
           (λ b. at-other t place x (to + c) (omega arith) ∙ d .cells c l b)
           (λ b. let same : hi ≡ c = omega arith in at-same t place x (to + c) inside (omega arith) ∙ r ∙ rw same);
       before = λ k l. at-other t place x k (omega arith) ∙ d .before k l;
+      past = λ k l. at-other t place x k (omega arith) ∙ d .past k (omega arith);
     }
 
     -- the next cell down
@@ -54,6 +55,7 @@ module _ (s : List ℕ) (to lo hi : ℕ) (rule : ℕ → ℕ) where
           (λ b. at-other t place x (to + c) (omega arith) ∙ d .cells c (omega arith) m)
           (λ b. let same : lo - 1 ≡ c = omega arith in at-same t place x (to + c) inside (omega arith) ∙ r ∙ rw same);
       before = λ k l. at-other t place x k (omega arith) ∙ d .before k (omega arith);
+      past = λ k l. at-other t place x k (omega arith) ∙ d .past k l;
     }
 
 -- ---- a row in place, from small budgets up

@@ -51,10 +51,11 @@ pub record RaisedBetween (s t : List ℕ) (w v lo hi : ℕ) : Type 0 where
   pub before : (c : ℕ) → c < lo → at t c ≡ at s c
   pub past : (c : ℕ) → hi ≤ c → at t c ≡ at s c
 
--- t is s with the places to + lo, .. to + hi - 1 written by a rule; what stands before them is kept
+-- t is s with the places to + lo, .. to + hi - 1 written by a rule; all others are kept
 pub record Stored (s t : List ℕ) (to lo hi : ℕ) (rule : ℕ → ℕ) : Type 0 where
   pub cells : (c : ℕ) → lo ≤ c → c < hi → at t (to + c) ≡ rule c
   pub before : (k : ℕ) → k < to + lo → at t k ≡ at s k
+  pub past : (k : ℕ) → to + hi ≤ k → at t k ≡ at s k
 
 -- no cell is more than the greatest value for each unit of its budget, so that a label more still fits 32 bits
 unfoldable pub Low : (ℕ → ℕ) → ℕ → Type 0
@@ -73,10 +74,11 @@ pub record Bundled (s t : List ℕ) (w v width m : ℕ) : Type 0 where
   pub fewer : ToppedRow (λ x. x ≤ m - 1) (at s) w v width (at t)
   pub low : Low (at t) width
 
--- t is s with the row after the one at `from` made of it and up to `limit` of the label; what stands before is kept
+-- t is s with the row after the one at `from` made of it and up to `limit` of the label; all other cells are kept
 pub record NextRow (s t : List ℕ) (from width w v limit : ℕ) : Type 0 where
   pub made : ToppedRow (λ x. x ≤ limit) (λ c. at s (from + c)) w v width (λ c. at t (from + width + c))
   pub before : (k : ℕ) → k < from + width → at t k ≡ at s k
+  pub past : (k : ℕ) → from + width + width ≤ k → at t k ≡ at s k
 
 -- one of the label leads on from budget c, where the row is right with it
 unfoldable pub leadsOn : (ℕ → ℕ) → ℕ → ℕ → ℕ → Bool

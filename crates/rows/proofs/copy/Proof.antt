@@ -56,7 +56,7 @@ same-length : tie.Need-same-length Inv-loop μ-loop
 same-length c = c .before .loop .inv .1
 
 returns : tie.Need-returns Inv-loop μ-loop
-returns c = let d = c .before .loop .inv .2 in record { cells = λ k l m. d .cells k l (omega arith); before = d .before }
+returns c = let d = c .before .loop .inv .2 in record { cells = λ k l m. d .cells k l (omega arith); before = d .before; past = λ k l. d .past k (omega arith) }
 
 pub copy-spec : {M : Type 1} → statement M
 copy-spec =

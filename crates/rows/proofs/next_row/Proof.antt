@@ -95,7 +95,7 @@ returns c =
     let fits : to + a .width ≤ length u = omega (arith, raise .raise .kept .0, copy .copy .kept .0, start .pre .0) in
     let long = part-long u to (a .width) fits in
     next-made (a .cells .now) (copy .copy .last .0) u (a .from) (a .width) (a .w) (a .v) (reach .before .most-held .result) (reach .reach .result) (reach .reach .ensures .0) (reach .reach .ensures .1)
-    (copy .copy .ensures) (raise .raise .ensures) (parts .last .0) _ (a .limit) (start .pre .1 .0 .0) fits (parts .kept .0 ∙ long) (reach .before .most-held .ensures) (rw long at (parts .ensures))
+    (copy .copy .ensures) (raise .raise .ensures) (parts .last .0) (a .limit) (start .pre .1 .0 .0) fits (parts .kept .0 ∙ long) (short reach) (reach .before .most-held .ensures) (rw long at (parts .ensures))
 
 pub next-row-spec : {M : Type 1} → statement M
 next-row-spec =

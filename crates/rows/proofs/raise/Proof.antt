@@ -82,7 +82,7 @@ same-length : tie.Need-same-length Inv-loop μ-loop
 same-length c = c .before .loop .inv .2
 
 returns : tie.Need-returns Inv-loop μ-loop
-returns c = let d = c .before .loop .inv .3 in record { cells = λ k l m. d .cells k l (omega arith); before = d .before }
+returns c = let d = c .before .loop .inv .3 in record { cells = λ k l m. d .cells k l (omega arith); before = d .before; past = λ k l. d .past k (omega arith) }
 
 pub raise-spec : {M : Type 1} → statement M
 raise-spec =
