@@ -12,7 +12,7 @@ use mir.Facts.{and-yes, eqb-yes, leb-yes}
 use Rattle.meaning.specs.Lists.{at, every, if, total}
 use Rattle.meaning.specs.Job.{Job, Sort, packing, labels, Kind, free, jobOf}
 use Rattle.meaning.specs.Lent.{cellCount, Lent, Room}
-use Rattle.meaning.specs.Refusals.{Rules, boundsFit, eachWithin, hasCopies, jobRefusal, knapsackRules, leastCopies, leastValue, listsFit, mostBudget, mostCopies, mostLabels, mostValue, numbersFit, positive, rulesOf, claimsFit, kindRefusal, roomFits}
+use Rattle.meaning.specs.Refusals.{Rules, ascendingFrom, boundsFit, eachWithin, hasCopies, jobRefusal, knapsackRules, leastCopies, leastValue, listsFit, mostBudget, mostCopies, mostLabels, mostValue, numbersFit, positive, rulesOf, claimsFit, kindRefusal, roomFits}
 use Rattle.meaning.specs.Knapsacks.{BestValue, MayPick}
 use Rattle.meaning.proofs.Steps.{best-by}
 use Rattle.meaning.proofs.Sections.{limit32}
@@ -100,6 +100,16 @@ unfolding eachWithin
 value-rule k j ok i h =
     let within = every-at (λ x. leb (leastValue k) x && leb x mostValue) (j .values) i (omega (arith, ok .valued)) (ok .values) in
     leb-yes (and-yes (leb (leastValue k) (at (j .values) i)) (leb (at (j .values) i) mostValue) within .1)
+
+-- block sizes are no less than where they ascend from
+pub size-rule : (low : ℕ) (sizes : List ℕ) (i : ℕ) → i < length sizes → T (ascendingFrom low sizes) → low ≤ at sizes i
+unfolding ascendingFrom
+size-rule low [] i h t = absurd (not-suc-le-zero h)
+size-rule low (x ∷ xs) zero h t = leb-yes (and-yes (leb low x) (ascendingFrom (suc x) xs) t .0)
+size-rule low (x ∷ xs) (suc i) h t =
+    let (first, rest) = and-yes (leb low x) (ascendingFrom (suc x) xs) t in
+    let least : low ≤ x = leb-yes first in
+    omega (arith, size-rule (suc x) xs i (le-of-suc-le-suc h) rest)
 
 -- with room, a knapsack that passed is not refused
 if-passed : (b : Bool) (x y : ℕ) → T b → if (not b) x y ≡ y

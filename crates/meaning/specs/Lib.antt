@@ -14,6 +14,7 @@ pub mod Blocks
 pub mod Shares
 pub mod Answers
 pub mod Solved
+pub mod Doors
 pub mod Certificates
 pub mod Writer
 pub mod Demands

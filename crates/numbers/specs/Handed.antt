@@ -13,3 +13,7 @@ handed numbers bytes = numbers ++ numbersIn bytes
 abbrev pub jobHanded : ℕ → ℕ → List ℕ → List ℕ → List ℕ → List ℕ → List ℕ → List ℕ → Job
 jobHanded kind budget weights wbytes values vbytes copies cbytes =
     jobOf kind (budget ∷ []) (handed weights wbytes) (handed values vbytes) (handed copies cbytes)
+
+-- the same with weights alone: kinds 4 to 7
+abbrev pub weightsHanded : ℕ → ℕ → List ℕ → List ℕ → Job
+weightsHanded kind budget weights wbytes = jobOf kind (budget ∷ []) (handed weights wbytes) [] []

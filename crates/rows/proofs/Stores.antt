@@ -20,10 +20,10 @@ by {C} a b below not-below = go (decLt a b)
     go (no h) = not-below (omega arith)
 
 -- the place that was stored to, and another
-at-same : (l : List ℕ) (i x k : ℕ) → i < length l → k ≡ i → at (set l i x) k ≡ x
+pub at-same : (l : List ℕ) (i x k : ℕ) → i < length l → k ≡ i → at (set l i x) k ≡ x
 at-same l i x k h e = rw e (getD-set-same l i x 0 h)
 
-at-other : (l : List ℕ) (i x k : ℕ) → ¬ (k ≡ i) → at (set l i x) k ≡ at l k
+pub at-other : (l : List ℕ) (i x k : ℕ) → ¬ (k ≡ i) → at (set l i x) k ≡ at l k
 at-other l i x k h = getD-set-other l i k x 0 h
 
 -- a place and those after it, once it was stored to

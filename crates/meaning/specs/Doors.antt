@@ -1,0 +1,20 @@
+-- What a kind's own crate promises: the planner's promise, said of the slices that the kind uses. The others, whatever they hold, stay.
+-- Assumes nothing.
+use mathlib.Core.List.{List}
+use Prim.Native.Nat.{ℕ}
+use Rattle.meaning.specs.declared.Answer.{Answer}
+use Rattle.meaning.specs.Job.{Job}
+use Rattle.meaning.specs.Lent.{lentOf}
+use Rattle.meaning.specs.Solved.{Solved}
+
+-- kinds 1, 2, 3 and 5 use cells and picks
+unfoldable pub SolvedInCells : Job → List ℕ → List ℕ → Answer → List ℕ → List ℕ → Type 0
+SolvedInCells j cells picks a cells-after picks-after = (words : List ℕ) → Solved j (lentOf cells words picks) a (lentOf cells-after words picks-after)
+
+-- kinds 4 and 6 use words
+unfoldable pub SolvedInWords : Job → List ℕ → Answer → List ℕ → Type 0
+SolvedInWords j words a words-after = (cells picks : List ℕ) → Solved j (lentOf cells words picks) a (lentOf cells words-after picks)
+
+-- kind 7 uses picks
+unfoldable pub SolvedInPicks : Job → List ℕ → Answer → List ℕ → Type 0
+SolvedInPicks j picks a picks-after = (cells words : List ℕ) → Solved j (lentOf cells words picks) a (lentOf cells words picks-after)
