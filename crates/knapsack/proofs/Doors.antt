@@ -1,31 +1,28 @@
 -- From an accepted job to what the functions ask, and from what they leave to what `meaning` promises.
 -- Assumes nothing.
-use mathlib.Core.Path.{_≡_, refl, sym, ap, _∙_, subst}
+use mathlib.Core.Path.{_≡_, refl, sym, _∙_, subst}
 use Prim.Native.Nat.{ℕ, _+_, _-_, _*_, _≤_, _<_}
 use native.Mathlib.Omega.{arith}
-use mathlib.Core.Bool.{_&&_}
 use mathlib.Core.List.{List, [], _∷_, _++_}
-use lib.Dec.{leb, leb·zero}
 use lib.ListN.{length, drop}
-use mir.Facts.{and-yes, leb-yes}
-use Rattle.meaning.specs.declared.Answer.{Answer}
 use Rattle.meaning.specs.declared.Answer.the-variants as Says
 use Rattle.meaning.specs.Lists.{at, total, if}
 use Rattle.meaning.specs.Slices.{Holds}
 use Rattle.meaning.specs.Job.{Job, Sort, once, limited, free, packing, labels, jobOf}
-use Rattle.meaning.specs.Lent.{Lent, lentOf, roomFor, roomOf, cellCount}
-use Rattle.meaning.specs.Refusals.{kindRefusal, roomFits, hasCopies}
+use Rattle.meaning.specs.Lent.{lentOf, roomFor, roomOf, cellCount}
+use Rattle.meaning.specs.Refusals.{hasCopies}
 use Rattle.meaning.specs.Orders.{last-least}
 use Rattle.meaning.specs.Knapsacks.{MayPick, BestValue, BestPicks, orderOf, ValueTable, FullTable, OneRow, cellNumber}
-use Rattle.meaning.specs.Solved.{Outcome, Gives, TableHolds, Unrefused}
+use Rattle.meaning.specs.Solved.{Gives, TableHolds, Unrefused}
+use Rattle.meaning.specs.Doors.{SolvedInCells}
 use Rattle.meaning.proofs.Valid.{Valid, is-cleared, is-valid, weight-rule, value-rule}
-use Rattle.meaning.proofs.Laws.{numberOf, kind-number, answered-solved}
-use Rattle.meaning.proofs.Unique.{no-second-choice}
+use Rattle.meaning.proofs.Laws.{numberOf, kind-number}
+use Rattle.meaning.proofs.Doors.{kept, as-long, still-unrefused, holds-front, solved-in-cells}
 use Rattle.meaning.proofs.Totals.{total-none, empty-of}
 use Rattle.meaning.proofs.Trace.{picks-none, picks-worth}
 use Rattle.knapsack.specs.Tables.{Bounded, limitOf, rowOf, Filled, Climbed}
 use Rattle.knapsack.specs.Ways.{WayBack, WayAlong}
-use Rattle.knapsack.specs.Doors.{Accepted, Packs}
+use Rattle.knapsack.specs.Doors.{Accepted}
 use Rattle.knapsack.proofs.FullRows.{row-best, back-picks, back-weight}
 use Rattle.knapsack.proofs.FreeRow.{climbed-best, along-picks, along-weight}
 
@@ -45,14 +42,12 @@ picks-needed limited j = refl
 picks-needed free j = refl
 
 pub ready : (k : Sort) (j : Job) (cells picks : List ℕ) → Unrefused (packing k) j (lentOf cells [] picks) → Ready k j cells picks
-unfolding roomFits lentOf
+unfolding lentOf
 ready k j cells picks a =
-    let room = roomFor (packing k) j in
-    let c = is-cleared room (packing k) j (lentOf cells [] picks) (a .no-refusal) in
-    let (cells-words, p) = and-yes (leb (room .cells) (length cells) && leb (room .words) 0) (leb (room .picks) (length picks)) (c .roomy) in
-    let (f, _) = and-yes (leb (room .cells) (length cells)) (leb (room .words) 0) cells-words in
-    let needed : room .picks ≤ length picks = leb-yes p in
-    record { valid = is-valid k j _ (c .keeps); cells-room = leb-yes f; picks-room = rw (picks-needed k j) at needed }
+    let lent = lentOf cells [] picks in
+    let c = is-cleared (roomFor (packing k) j) (packing k) j lent (a .no-refusal) in
+    let keeps = kept (packing k) j lent a in
+    record { valid = is-valid k j _ (c .keeps); cells-room = keeps .cells-room; picks-room = rw (picks-needed k j) at (keeps .picks-room) }
 
 pub bounded : (k : Sort) (j : Job) → Valid k j → Bounded (j .budget + 1) (j .weights) (j .values)
 unfolding labels
@@ -119,36 +114,15 @@ words-needed once j = refl
 words-needed limited j = refl
 words-needed free j = refl
 
--- the words have no part in a knapsack's refusal
-no-words : (k : Sort) (j : Job) (cells words picks : List ℕ)
-    → kindRefusal (roomFor (packing k) j) (packing k) j (lentOf cells words picks) ≡ kindRefusal (roomFor (packing k) j) (packing k) j (lentOf cells [] picks)
-unfolding kindRefusal roomFits lentOf
-no-words k j cells words picks = rw (← words-needed k j, leb·zero (length words), leb·zero 0)
-
 -- the table and the picks that were written are those of the knapsack, and the numbers are those of the picks
 packs : (k : Sort) (j : Job) (cells picks : List ℕ) → Unrefused (packing k) j (lentOf cells [] picks) → (cells-after picks-after table found : List ℕ) (value weight : ℕ)
     → length table ≡ roomFor (packing k) j .cells → ValueTable k j table → BestPicks k j (labels j) (j .budget) found
     → value ≡ total (j .values) found → weight ≡ total (j .weights) found → Holds table cells cells-after → Holds found picks picks-after
-    → Packs j cells picks (Says.Knapsack value weight) cells-after picks-after
-unfolding Packs Outcome Gives TableHolds Holds lentOf
-packs k j cells picks a cells-after picks-after table found value weight long right chosen v w in-cells in-picks words =
-    answered-solved (packing k) j (lentOf cells words picks) (lentOf cells-after words picks-after) (Says.Knapsack value weight)
-    (record { of-kind = a .of-kind; no-refusal = no-words k j cells words picks ∙ a .no-refusal })
-    (record {
-      content = lentOf table [] found;
-      gives = record { picked = chosen; numbers = rw (v, w) };
-      table-right = right;
-      cells-needed = long;
-      words-needed = words-needed k j;
-      cells-hold = in-cells;
-      words-hold = refl;
-      picks-hold = in-picks;
-    })
-
--- a slice with its first places written
-holds-front : (new old : List ℕ) (n : ℕ) → length new ≡ n → Holds new old (new ++ drop n old)
-unfolding Holds
-holds-front new old n long = rw long
+    → SolvedInCells j cells picks (Says.Knapsack value weight) cells-after picks-after
+unfolding Gives TableHolds lentOf
+packs k j cells picks a cells-after picks-after table found value weight long right chosen v w in-cells in-picks =
+    solved-in-cells (packing k) j (Says.Knapsack value weight) cells picks cells-after picks-after table found a (sym (words-needed k j))
+    (record { picked = chosen; numbers = rw (v, w) }) right long in-cells in-picks
 
 -- kinds 1 and 2, by the table that was filled and the way back through it
 module _ (k : Sort) (j : Job) (cells picks table found : List ℕ) (left : ℕ) (is : Rowed k) (a : Unrefused (packing k) j (lentOf cells [] picks))
@@ -164,7 +138,7 @@ module _ (k : Sort) (j : Job) (cells picks table found : List ℕ) (left : ℕ) 
   chosen = back-picks k j (limitOf (numberOf (packing k)) (j .copies)) (j .budget + 1) table few may filled (order-back is) (j .budget) (omega arith) way [] (picks-none k j left)
 
   pub packs-full : (needed n value : ℕ) → needed ≡ cellCount j → n ≡ labels j → value ≡ at table (labels j * (j .budget + 1) + j .budget)
-      → Packs j cells picks (Says.Knapsack value (j .budget - left)) (table ++ drop needed cells) (found ++ drop n picks)
+      → SolvedInCells j cells picks (Says.Knapsack value (j .budget - left)) (table ++ drop needed cells) (found ++ drop n picks)
   unfolding FullTable cellNumber BestPicks
   packs-full needed n value e₁ e₂ e₃ =
       let best = row-best k j (limitOf (numberOf (packing k)) (j .copies)) (j .budget + 1) table few may filled in
@@ -178,19 +152,19 @@ module _ (k : Sort) (j : Job) (cells picks table found : List ℕ) (left : ℕ) 
 -- kind 3, by the row that was filled and the way along the labels
 module _ (j : Job) (cells picks row found : List ℕ) (left : ℕ) (a : Unrefused (packing free) j (lentOf cells [] picks)) (long : length row ≡ j .budget + 1)
     (climbed : Climbed (j .weights) (j .values) (j .budget + 1) (labels j) row)
-    (way : WayAlong (at row) (j .weights) (j .values) (j .budget) (labels j) left 0 found) where
+    (way : WayAlong (at row) (j .weights) (j .values) (j .budget) left found) where
   row-best-values : (c : ℕ) → c ≤ j .budget → BestValue free j (labels j) c (at row c)
   row-best-values c h = climbed-best j (j .budget + 1) (labels j) row climbed c (omega arith)
 
   pub packs-free : (n value : ℕ) → n ≡ labels j → value ≡ at row (j .budget)
-      → Packs j cells picks (Says.Knapsack value (j .budget - left)) (row ++ drop (j .budget + 1) cells) (found ++ drop n picks)
+      → SolvedInCells j cells picks (Says.Knapsack value (j .budget - left)) (row ++ drop (j .budget + 1) cells) (found ++ drop n picks)
   unfolding ValueTable OneRow BestPicks roomFor roomOf
   packs-free n value e₁ e₂ =
       let chosen = along-picks j (at row) (j .budget) row-best-values left found way in
       packs free j cells picks a (row ++ drop (j .budget + 1) cells) (found ++ drop n picks) row found value (j .budget - left)
       long row-best-values chosen
       (e₂ ∙ picks-worth free j (labels j) (j .budget) found chosen (row-best-values (j .budget) (omega arith)))
-      (omega (arith, along-weight j (at row) (j .budget) row-best-values left found way))
+      (omega (arith, along-weight (at row) (j .weights) (j .values) (j .budget) left found way))
       (holds-front row cells (j .budget + 1) long)
       (holds-front found picks n (chosen .one-of .fits .selection .one-each ∙ sym e₁))
 
@@ -228,16 +202,8 @@ job-free kind budget ws vs cs cells picks e a =
 -- only the lengths of cells and picks count
 pub accepted-long : (j : Job) (cells picks cells-too picks-too : List ℕ) → length cells ≡ length cells-too → length picks ≡ length picks-too
     → Accepted j cells picks → Accepted j cells-too picks-too
-unfolding kindRefusal roomFits lentOf
+unfolding lentOf
 accepted-long j cells picks cells-too picks-too e f a = record {
   sort = a .sort;
-  unrefused = record { of-kind = a .unrefused .of-kind; no-refusal = rw (← e, ← f) (a .unrefused .no-refusal) };
+  unrefused = still-unrefused (packing (a .sort)) j (lentOf cells [] picks) (lentOf cells-too [] picks-too) (as-long e) (as-long refl) (as-long f) (a .unrefused);
 }
-
--- ---- no second choice is left: the answer, and what cells and picks hold
-pub packs-unique : (j : Job) (cells picks : List ℕ) (a a′ : Answer) (c c′ p p′ : List ℕ) → Packs j cells picks a c p → Packs j cells picks a′ c′ p′
-    → (a ≡ a′) × (c ≡ c′) × (p ≡ p′)
-unfolding Packs lentOf
-packs-unique j cells picks a a′ c c′ p p′ x y =
-    let one = no-second-choice j (lentOf cells [] picks) (lentOf c [] p) (lentOf c′ [] p′) a a′ (x []) (y []) in
-    (one .answer, ap (λ (l : Lent). l .cells) (one .left), ap (λ (l : Lent). l .picks) (one .left))

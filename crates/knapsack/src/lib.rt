@@ -9,11 +9,12 @@ ghost use Rattle.meaning.specs.Lists.{at};
 ghost use Rattle.meaning.specs.Job.{jobOf, packing, free};
 ghost use Rattle.meaning.specs.Lent.{lentOf};
 ghost use Rattle.meaning.specs.Solved.{Unrefused};
+ghost use Rattle.meaning.specs.Doors.{SolvedInCells};
 ghost use Rattle.numbers.specs.Handed.{handed, jobHanded};
 ghost use Rattle.rows.specs.Rows.{SomeCount, Low};
 ghost use Rattle.knapsack.specs.Tables.{Bounded, limitOf, rowOf, Filled, Climbed};
 ghost use Rattle.knapsack.specs.Ways.{WayBack, WayAlong};
-ghost use Rattle.knapsack.specs.Doors.{Accepted, Packs};
+ghost use Rattle.knapsack.specs.Doors.{Accepted};
 
 // ---- kinds 1 and 2: a row for each label
 
@@ -119,20 +120,19 @@ fn way_along(
 ) -> usize
     requires { ⌜ Bounded (length (now row)) (handed (now weights) (now wbytes)) (handed (now values) (now vbytes)) ⌝ }
     requires { ⌜ Low (at (now row)) (length (now row)) × (length (handed (now weights) (now wbytes)) ≡ length (now picks)) ⌝ }
-    ensures { λ r. ⌜ WayAlong (at (now (row .entry))) (handed (now (weights .entry)) (now (wbytes .entry))) (handed (now (values .entry)) (now (vbytes .entry))) (length (now (row .entry)) - 1) (length (now (picks .entry))) r 0 (now (picks .exit)) ⌝ }
+    ensures { λ r. ⌜ WayAlong (at (now (row .entry))) (handed (now (weights .entry)) (now (wbytes .entry))) (handed (now (values .entry)) (now (vbytes .entry))) (length (now (row .entry)) - 1) r (now (picks .exit)) ⌝ }
 {
+    let n = picks.len();
+    rows::clear(picks, n);
     let mut label = 0;
     let mut c = row.len() - 1;
-    let mut x: u32 = 0;
-    while label < picks.len() {
+    while label < n {
         let w = numbers::item(weights, wbytes, label);
         let v = numbers::item(values, vbytes, label);
         if rows::leads(row, w, v, c) {
             c -= w as usize;
-            x += 1;
+            picks[label] += 1;
         } else {
-            picks[label] = x;
-            x = 0;
             label += 1;
         }
     }
@@ -156,7 +156,7 @@ fn full_table(
 ) -> Answer
     requires { ⌜ Accepted (jobHanded kind budget (now weights) (now wbytes) (now values) (now vbytes) (now copies) (now cbytes)) (now cells) (now picks) ⌝ }
     requires { ⌜ kind < 3 ⌝ }
-    ensures { λ r. ⌜ Packs (jobHanded kind budget (now (weights .entry)) (now (wbytes .entry)) (now (values .entry)) (now (vbytes .entry)) (now (copies .entry)) (now (cbytes .entry))) (now (cells .entry)) (now (picks .entry)) r (now (cells .exit)) (now (picks .exit)) ⌝ }
+    ensures { λ r. ⌜ SolvedInCells (jobHanded kind budget (now (weights .entry)) (now (wbytes .entry)) (now (values .entry)) (now (vbytes .entry)) (now (copies .entry)) (now (cbytes .entry))) (now (cells .entry)) (now (picks .entry)) r (now (cells .exit)) (now (picks .exit)) ⌝ }
 {
     let n = numbers::list_length(weights, wbytes);
     let width = budget as usize + 1;
@@ -198,7 +198,7 @@ fn one_row(
     picks: &mut [u32],
 ) -> Answer
     requires { ⌜ Unrefused (packing free) (jobOf 3 (budget ∷ []) (handed (now weights) (now wbytes)) (handed (now values) (now vbytes)) []) (lentOf (now cells) [] (now picks)) ⌝ }
-    ensures { λ r. ⌜ Packs (jobOf 3 (budget ∷ []) (handed (now (weights .entry)) (now (wbytes .entry))) (handed (now (values .entry)) (now (vbytes .entry))) []) (now (cells .entry)) (now (picks .entry)) r (now (cells .exit)) (now (picks .exit)) ⌝ }
+    ensures { λ r. ⌜ SolvedInCells (jobOf 3 (budget ∷ []) (handed (now (weights .entry)) (now (wbytes .entry))) (handed (now (values .entry)) (now (vbytes .entry))) []) (now (cells .entry)) (now (picks .entry)) r (now (cells .exit)) (now (picks .exit)) ⌝ }
 {
     let n = numbers::list_length(weights, wbytes);
     let width = budget as usize + 1;
@@ -231,7 +231,7 @@ pub fn solve(
     picks: &mut [u32],
 ) -> Answer
     requires { ⌜ Accepted (jobHanded kind budget (now weights) (now wbytes) (now values) (now vbytes) (now copies) (now cbytes)) (now cells) (now picks) ⌝ }
-    ensures { λ r. ⌜ Packs (jobHanded kind budget (now (weights .entry)) (now (wbytes .entry)) (now (values .entry)) (now (vbytes .entry)) (now (copies .entry)) (now (cbytes .entry))) (now (cells .entry)) (now (picks .entry)) r (now (cells .exit)) (now (picks .exit)) ⌝ }
+    ensures { λ r. ⌜ SolvedInCells (jobHanded kind budget (now (weights .entry)) (now (wbytes .entry)) (now (values .entry)) (now (vbytes .entry)) (now (copies .entry)) (now (cbytes .entry))) (now (cells .entry)) (now (picks .entry)) r (now (cells .exit)) (now (picks .exit)) ⌝ }
 {
     if kind == 3 {
         return one_row(budget, weights, wbytes, values, vbytes, cells, picks);

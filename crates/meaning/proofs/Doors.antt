@@ -1,6 +1,6 @@
 -- What a kind's crate may count on, and what it owes: laws of `Unrefused` and of the promises in specs/Doors.
 -- Assumes nothing.
-use mathlib.Core.Path.{_∙_, _≡_, ap, refl, sym}
+use mathlib.Core.Path.{_≡_, ap, refl, sym}
 use Prim.Native.Nat.{_≤_, ℕ}
 use mathlib.Core.Bool.{_&&_}
 use mathlib.Core.List.{List, [], _++_}
@@ -13,7 +13,7 @@ use Rattle.meaning.specs.Job.{Job, Kind, labels}
 use Rattle.meaning.specs.Lent.{Lent, lentOf, roomFor}
 use Rattle.meaning.specs.Refusals.{boundsFit, claimsFit, eachWithin, kindRefusal, leastCopies, mostCopies, mostValue, numbersFit, roomFits, rulesOf}
 use Rattle.meaning.specs.Answers.{saidOf}
-use Rattle.meaning.specs.Solved.{Gives, Solved, TableHolds, Unrefused}
+use Rattle.meaning.specs.Solved.{Gives, TableHolds, Unrefused}
 use Rattle.meaning.specs.Doors.{SolvedInCells, SolvedInWords, SolvedInPicks}
 use Rattle.meaning.proofs.Valid.{is-cleared}
 use Rattle.meaning.proofs.Laws.{answered-solved}

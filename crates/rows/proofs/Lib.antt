@@ -9,3 +9,5 @@ pub mod NextRow
 -- what a row says of a count
 pub mod LeastCounts
 pub mod LeadsOn
+-- the way through the labels
+pub mod Ways

@@ -1,6 +1,6 @@
 -- Cells that a loop stores one by one.
 -- Assumes nothing.
-use mathlib.Core.Path.{_≡_, refl, _∙_}
+use mathlib.Core.Path.{_≡_, refl, sym, ap, ap₂, _∙_}
 use Prim.Native.Nat.{ℕ, suc, _+_, _-_, _*_, _≤_, _<_, max}
 use native.Mathlib.Decide.{decLt}
 use native.Mathlib.Omega.{arith}
@@ -9,7 +9,7 @@ use lib.ListN.{length, set, drop}
 use lib.Seq.{getD-set-same, getD-set-other, drop-cons, drop-set-lt, lt-length-set}
 use Rattle.meaning.specs.Lists.{at}
 use Rattle.meaning.specs.Refusals.{mostValue}
-use Rattle.rows.specs.Rows.{RaisedBetween, Stored, Low}
+use Rattle.rows.specs.Rows.{Swept, Stored, Low}
 
 -- by cases, a below b or not; the numbers come first, so that what each case is handed is known
 pub by : {C : Type 0} (a b : ℕ) → (a < b → C) → (b ≤ a → C) → C
@@ -60,31 +60,31 @@ module _ (s : List ℕ) (to lo hi : ℕ) (rule : ℕ → ℕ) where
 
 -- ---- a row in place, from small budgets up
 
-module _ (s : List ℕ) (w v : ℕ) where
-  pub between-none : (c : ℕ) → RaisedBetween s s w v c c
-  between-none c = record { long = λ k l h. absurd (omega arith); before = λ k l. refl; past = λ k l. refl }
+module _ (rule : ℕ → ℕ → ℕ) (s : List ℕ) (w : ℕ) where
+  pub swept-none : (c : ℕ) → Swept rule s s w c c
+  swept-none c = record { made = λ k l h. absurd (omega arith); before = λ k l. refl; past = λ k l. refl }
 
   -- one cell more
-  pub between-more : (t : List ℕ) (lo c x : ℕ) → c < length t → 1 ≤ w → w ≤ lo → lo ≤ c → RaisedBetween s t w v lo c → x ≡ max (at t c) (at t (c - w) + v)
-      → RaisedBetween s (set t c x) w v lo (c + 1)
-  between-more t lo c x inside pos light h d e =
+  pub swept-more : (t : List ℕ) (lo c x : ℕ) → c < length t → 1 ≤ w → w ≤ lo → lo ≤ c → Swept rule s t w lo c → x ≡ rule (at t c) (at t (c - w))
+      → Swept rule s (set t c x) w lo (c + 1)
+  swept-more t lo c x inside pos light h d e =
       let same : (k : ℕ) → k < c → at (set t c x) k ≡ at t k = λ k l. at-other t c x k (omega arith) in
       record {
-        long = λ k l m. by k c
-            (λ b. omega (arith, same k b, same (k - w) (omega arith), d .long k l b))
+        made = λ k l m. by k c
+            (λ b. same k b ∙ d .made k l b ∙ ap (rule (at s k)) (sym (same (k - w) (omega arith))))
             (λ b.
             let here : k ≡ c = omega arith in
-            rw here (omega (arith, at-same t c x c inside refl, same (c - w) (omega arith), d .past c (omega arith))));
+            rw here (at-same t c x c inside refl ∙ e ∙ ap₂ rule (d .past c (omega arith)) (sym (same (c - w) (omega arith)))));
         before = λ k l. same k (omega arith) ∙ d .before k l;
         past = λ k l. at-other t c x k (omega arith) ∙ d .past k (omega arith);
       }
 
   -- one stretch after another
-  pub between-on : (t u : List ℕ) (lo mid hi : ℕ) → 1 ≤ w → lo ≤ mid → mid ≤ hi → RaisedBetween s t w v lo mid → RaisedBetween t u w v mid hi → RaisedBetween s u w v lo hi
-  between-on t u lo mid hi pos h₁ h₂ d e = record {
-    long = λ k l m. by k mid
-        (λ b. omega (arith, e .before k b, e .before (k - w) (omega arith), d .long k l b))
-        (λ b. omega (arith, e .long k b m, d .past k b));
+  pub swept-on : (t u : List ℕ) (lo mid hi : ℕ) → 1 ≤ w → lo ≤ mid → mid ≤ hi → Swept rule s t w lo mid → Swept rule t u w mid hi → Swept rule s u w lo hi
+  swept-on t u lo mid hi pos h₁ h₂ d e = record {
+    made = λ k l m. by k mid
+        (λ b. e .before k b ∙ d .made k l b ∙ ap (rule (at s k)) (sym (e .before (k - w) (omega arith))))
+        (λ b. e .made k b m ∙ ap (λ (x : ℕ). rule x (at u (k - w))) (d .past k b));
     before = λ k l. e .before k (omega arith) ∙ d .before k l;
     past = λ k l. e .past k l ∙ d .past k (omega arith);
   }

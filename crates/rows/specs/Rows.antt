@@ -45,11 +45,16 @@ pub record Raised (f less g : ℕ → ℕ) (w v width : ℕ) : Type 0 where
   pub short : (c : ℕ) → c < width → c < w → g c ≡ f c
   pub long : (c : ℕ) → c < width → w ≤ c → g c ≡ max (f c) (less (c - w) + v)
 
--- t is s with the label added as often as it may be in the cells from lo to hi - 1; the others are kept
-pub record RaisedBetween (s t : List ℕ) (w v lo hi : ℕ) : Type 0 where
-  pub long : (c : ℕ) → lo ≤ c → c < hi → at t c ≡ max (at s c) (at t (c - w) + v)
+-- t is s with the cells from lo to hi - 1 made one after another, each by a rule of what it held and of the new cell w places before it;
+-- the others are kept
+pub record Swept (rule : ℕ → ℕ → ℕ) (s t : List ℕ) (w lo hi : ℕ) : Type 0 where
+  pub made : (c : ℕ) → lo ≤ c → c < hi → at t c ≡ rule (at s c) (at t (c - w))
   pub before : (c : ℕ) → c < lo → at t c ≡ at s c
   pub past : (c : ℕ) → hi ≤ c → at t c ≡ at s c
+
+-- the rule by which a label of value v is added wherever that is more
+abbrev pub raisedBy : ℕ → ℕ → ℕ → ℕ
+raisedBy v without less = max without (less + v)
 
 -- t is s with the places to + lo, .. to + hi - 1 written by a rule; all others are kept
 pub record Stored (s t : List ℕ) (to lo hi : ℕ) (rule : ℕ → ℕ) : Type 0 where

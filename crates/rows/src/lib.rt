@@ -4,7 +4,7 @@ ghost use Prim.Native.Nat.{ℕ, _+_, _-_, _*_, _/_, _≤_, _<_, max, min};
 ghost use lib.ListN.{length};
 ghost use Rattle.meaning.specs.Lists.{at};
 ghost use Rattle.meaning.specs.Refusals.{mostBudget, mostValue};
-ghost use Rattle.rows.specs.Rows.{ToppedRow, AnyCount, SomeCount, Least, Raised, RaisedBetween, Stored, Low, Repeated, Bundled, NextRow, leadsOn};
+ghost use Rattle.rows.specs.Rows.{ToppedRow, AnyCount, SomeCount, Least, Raised, Swept, raisedBy, Stored, Low, Repeated, Bundled, NextRow, leadsOn};
 
 // The lesser of two numbers.
 fn lesser(a: u32, b: u32) -> u32
@@ -99,7 +99,7 @@ fn add_parts(row: &mut [u32], w: u32, v: u32, most: u32)
 fn raise_stretch(row: &mut [u32], from: usize, to: usize, w: usize, v: u32)
     requires { ⌜ (1 ≤ w) × ((w ≤ from) × ((from ≤ to) × (to ≤ length (now row)))) ⌝ }
     requires { ⌜ (v ≤ mostValue * w) × ((length (now row) ≤ mostBudget + 1) × Low (at (now row)) (length (now row))) ⌝ }
-    ensures { λ _. ⌜ RaisedBetween (now (row .entry)) (now (row .exit)) w v from to × Low (at (now (row .exit))) (length (now (row .entry))) ⌝ }
+    ensures { λ _. ⌜ Swept (raisedBy v) (now (row .entry)) (now (row .exit)) w from to × Low (at (now (row .exit))) (length (now (row .entry))) ⌝ }
 {
     let mut c = from;
     while c < to {

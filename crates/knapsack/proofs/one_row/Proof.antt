@@ -13,7 +13,7 @@ use Rattle.meaning.specs.Refusals.{mostBudget}
 use Rattle.numbers.specs.Handed.{handed}
 use Rattle.knapsack.specs.Tables.{Bounded, Climbed}
 use Rattle.knapsack.specs.Ways.{WayAlong}
-use Rattle.knapsack.proofs.FreeRow.{climbed-low, along-within}
+use Rattle.knapsack.proofs.FreeRow.{climbed-low, along-weight}
 use Rattle.knapsack.proofs.Doors.{ready, bounded, packs-free}
 use Rattle.knapsack.proofs.one_row.Statement.{statement}
 use Rattle.knapsack.proofs.one_row.Tie as tie
@@ -71,8 +71,12 @@ module _ (w : tie.After-way-along) where
   abbrev found : List ℕ
   found = w .way-along .last .1 .1 .1 .1 .1 .0
 
-  way : let s = start filled in WayAlong (at (row filled)) (weights s) (values s) (s .args .budget) (length (weights s)) (w .way-along .result) 0 found
-  way = rw (row-front filled, row-long filled, add-sub-cancel, picks-long filled) at (w .way-along .ensures)
+  way : let s = start filled in WayAlong (at (row filled)) (weights s) (values s) (s .args .budget) (w .way-along .result) found
+  way = rw (row-front filled, row-long filled, add-sub-cancel) at (w .way-along .ensures)
+
+  -- what is left is no more than the budget
+  within : w .way-along .result ≤ start filled .args .budget
+  within = let s = start filled in omega (arith, along-weight (at (row filled)) (weights s) (values s) (s .args .budget) (w .way-along .result) found way)
 
 list-length-requires : tie.Need-list-length-requires
 list-length-requires c κs = search needs
@@ -119,10 +123,10 @@ slice-read-t21 c = let f = c .before .before .before .before .before .before .be
 
 cast-t22 : tie.Need-cast-t22
 unfolding mostBudget
-cast-t22 c = let w = c .before .before .before in omega (arith, along-within (way w), ok (start (filled w)) .bounds .narrow)
+cast-t22 c = let w = c .before .before .before in omega (arith, within w, ok (start (filled w)) .bounds .narrow)
 
 sub-t23 : tie.Need-sub-t23
-sub-t23 c = let w = c .before .before .before in along-within (way w)
+sub-t23 c = within (c .before .before .before)
 
 same-length : tie.Need-same-length
 same-length c = search needs

@@ -1,35 +1,33 @@
-use mathlib.Core.Bool.{Bool, true, false}
-use native.Mathlib.Numerals.{add-one}
-use lib.Seq.{take-suc-set, take-all}
 use mathlib.Core.Path.{_≡_, refl, sym, _∙_}
+use native.Mathlib.Numerals.{add-one}
+use native.Mathlib.Nat.{zero-add}
 use Prim.Native.Nat.{ℕ, _+_, _-_, _≤_, _<_}
 use native.Mathlib.Omega.{arith}
+use mathlib.Core.Bool.{Bool, true, false}
 use mathlib.Core.List.{List}
-use lib.ListN.{length, take, length-set}
+use lib.ListN.{length, length-set}
 use borrow.Author.Needs.{needs}
 use Rattle.meaning.specs.Lists.{at}
+use Rattle.meaning.specs.Orders.{first-most}
 use Rattle.meaning.specs.Refusals.{mostBudget}
+use Rattle.meaning.proofs.Greedy.{first-is}
 use Rattle.numbers.specs.Handed.{handed}
-use Rattle.rows.specs.Rows.{leadsOn}
-use Rattle.rows.proofs.LeadsOn.{leads-true}
-use Rattle.knapsack.specs.Ways.{WayAlong, start, taken, passed}
+use Rattle.rows.specs.Ways.{Way, turnOf, start, taken, passed}
+use Rattle.rows.proofs.Ways.{way-few}
+use Rattle.knapsack.specs.Ways.{leadsAlong, WayAlong}
+use Rattle.knapsack.proofs.FreeRow.{along-light}
 use Rattle.knapsack.proofs.way_along.Statement.{statement}
 use Rattle.knapsack.proofs.way_along.Tie as tie
 
 abbrev Inv-loop : tie.InvT-loop
-Inv-loop weights wbytes values vbytes row picks₀ i₀ c₀ x₀ picks i c x =
-    (i ≤ length picks₀)
-    × (x + c < length row)
+Inv-loop weights wbytes values vbytes row picks₀ n label₀ c₀ picks label c =
+    (label ≤ length (handed weights wbytes))
+    × (c < length row)
     × (length picks ≡ length picks₀)
-    × WayAlong (at row) (handed weights wbytes) (handed values vbytes) (length row - 1) i c x (take i picks)
-    × (length picks₀ ≤ i → x ≡ 0)
+    × Way first-most (leadsAlong (at row) (handed weights wbytes) (handed values vbytes)) (handed weights wbytes) (length (handed weights wbytes)) (length row - 1) label c picks
 
 abbrev μ-loop : tie.MeasureT-loop
-μ-loop weights wbytes values vbytes row picks₀ i₀ c₀ x₀ picks i c x = length picks₀ - i + c
-
--- the function's entry, from the loop's head
-abbrev entry : tie.At-loop Inv-loop μ-loop → tie.Start Inv-loop μ-loop
-entry c = c .before .before .before .before .before .before .before
+μ-loop weights wbytes values vbytes row picks₀ n label₀ c₀ picks label c = length picks₀ - label + c
 
 -- the lists that the function is handed
 module _ (s : tie.Start Inv-loop μ-loop) where
@@ -39,13 +37,21 @@ module _ (s : tie.Start Inv-loop μ-loop) where
   abbrev values : List ℕ
   values = handed (s .args .values .now) (s .args .vbytes .now)
 
--- label i is one of the labels
+-- the function's entry, from the loop's head
+abbrev entry : tie.At-loop Inv-loop μ-loop → tie.Start Inv-loop μ-loop
+entry c = c .before .before .before .before .before .before .before .before .before .before .before
+
+-- the picks are as many as were lent
+lent : (c : tie.At-loop Inv-loop μ-loop) → length (c .before .before .before .clear .last .0) ≡ length (weights (entry c))
+lent c = c .before .before .before .clear .kept .0 ∙ sym (entry c .pre .1 .1)
+
+-- the label is one of the labels
 inside : (c : tie.In-loop Inv-loop μ-loop) → c .before .loop .label < length (weights (entry (c .before)))
-inside c = omega (arith, entry (c .before) .pre .1 .1)
+inside c = omega (arith, c .before .loop .inv .0, lent (c .before))
 
 -- whether one of it leads on
 abbrev leading : tie.At-loop Inv-loop μ-loop → Bool
-leading head = let s = entry head in leadsOn (at (s .args .row .now)) (at (weights s) (head .loop .label)) (at (values s) (head .loop .label)) (head .loop .c)
+leading head = let s = entry head in leadsAlong (at (s .args .row .now)) (weights s) (values s) (head .loop .label) (head .loop .c)
 
 on : (c : tie.Then1 Inv-loop μ-loop) → leading (c .before .before .before .before .before) ≡ true
 on c = rw (← c .before .before .before .item .ensures, ← c .before .before .item2 .ensures) (sym (c .before .leads .ensures) ∙ c .if1 .taken)
@@ -57,18 +63,24 @@ light : (c : tie.Then1 Inv-loop μ-loop) → c .before .before .before .item .re
 light c =
     let head = c .before .before .before .before .before in
     let s = entry head in
-    rw (c .before .before .before .item .ensures) (leads-true (at (s .args .row .now)) (at (weights s) (head .loop .label)) (at (values s) (head .loop .label)) (head .loop .c) (on c) .0)
+    rw (c .before .before .before .item .ensures) (along-light (at (s .args .row .now)) (weights s) (values s) (head .loop .label) (head .loop .c) (on c))
 
 heavy : (c : tie.Then1 Inv-loop μ-loop) → 1 ≤ c .before .before .before .item .result
 heavy c =
     let turn = c .before .before .before .before in
     rw (c .before .before .before .item .ensures) (entry (turn .before) .pre .0 .heavy (turn .before .loop .label) (inside turn))
 
+clear-requires : tie.Need-clear-requires Inv-loop μ-loop
+clear-requires c κs = search needs
+
 sub-c : tie.Need-sub-c Inv-loop μ-loop
 sub-c c = search needs
 
 loop-holds : tie.Need-loop-holds Inv-loop μ-loop
-loop-holds c = (omega arith, omega (arith, c .before .before .before .before .before .before .pre .0 .wide), refl, start, λ h. refl)
+loop-holds c =
+    let s = c .before .before .before .before .before .before .before .before .before .before in
+    let z = c .before .before .clear in
+    (omega arith, omega (arith, s .pre .0 .wide), refl, start {picks = z .last .0} (z .kept .0 ∙ sym (s .pre .1 .1)) (λ m h. rw zero-add at (z .ensures .cells m (omega arith) (omega (arith, s .pre .1 .1)))))
 
 item-requires : tie.Need-item-requires Inv-loop μ-loop
 item-requires c κs = inside c
@@ -89,57 +101,64 @@ cast-c c = omega (arith, light c)
 sub-c-2 : tie.Need-sub-c-2 Inv-loop μ-loop
 sub-c-2 c = light c
 
-add-x : tie.Need-add-x Inv-loop μ-loop
-unfolding mostBudget
-add-x c = let turn = c .before .before .before .before in omega (arith, entry (turn .before) .pre .0 .narrow)
-
-loop-less : tie.Need-loop-less Inv-loop μ-loop
-loop-less c = omega (arith, light c, heavy c)
-
-loop-again : tie.Need-loop-again Inv-loop μ-loop
-loop-again c =
-    let turn = c .before .before .before .before in
-    let l = turn .before .loop in
-    let w = c .before .before .before .item .ensures in (
-      omega arith,
-      omega (arith, light c, heavy c),
-      l .inv .2,
-      rw (add-one, w) (taken (l .inv .3) (inside turn) (on c)),
-      λ h. absurd (omega arith),
-    )
-
 mul-picks : tie.Need-mul-picks Inv-loop μ-loop
 mul-picks c = search needs
 
+slice-read-picks : tie.Need-slice-read-picks Inv-loop μ-loop
+slice-read-picks c = search needs
+
+add-picks : tie.Need-add-picks Inv-loop μ-loop
+unfolding mostBudget
+add-picks c =
+    let turn = c .before .before .before .before .before in
+    let s = entry (turn .before) in
+    let l = turn .before .loop in
+    omega (
+      arith,
+      way-few first-is (leadsAlong (at (s .args .row .now)) (weights s) (values s)) (weights s) (length (weights s)) (length (s .args .row .now) - 1) (along-light (at (s .args .row .now)) (weights s) (values s))
+          (l .inv .3) (l .label) (s .pre .0 .heavy (l .label) (inside turn)),
+      s .pre .0 .narrow,
+    )
+
 slice-write-picks : tie.Need-slice-write-picks Inv-loop μ-loop
 slice-write-picks c = search needs
+
+loop-less : tie.Need-loop-less Inv-loop μ-loop
+loop-less c = omega (arith, light (c .before), heavy (c .before))
+
+loop-again : tie.Need-loop-again Inv-loop μ-loop
+unfolding turnOf
+loop-again c =
+    let turn = c .before .before .before .before .before in
+    let l = turn .before .loop in (
+      l .inv .0,
+      omega (arith, light (c .before), heavy (c .before)),
+      simp length-set (l .inv .2),
+      rw (add-one, c .before .before .before .before .item .ensures) (taken (l .inv .3) (inside turn) (on (c .before))),
+    )
 
 add-label : tie.Need-add-label Inv-loop μ-loop
 add-label c = search needs
 
 loop-less-2 : tie.Need-loop-less-2 Inv-loop μ-loop
-loop-less-2 c = omega arith
+loop-less-2 c = let turn = c .before .before .before .before in omega (arith, inside turn, lent (turn .before))
 
 loop-again-2 : tie.Need-loop-again-2 Inv-loop μ-loop
+unfolding turnOf
 loop-again-2 c =
     let turn = c .before .before .before .before in
-    let l = turn .before .loop in (
-      omega arith,
-      omega arith,
-      simp length-set (l .inv .2),
-      rw (add-one, take-suc-set (l .picks) (l .label) (l .x) (omega arith)) (passed (l .inv .3) (inside turn) (off c)),
-      λ h. refl,
-    )
+    let l = turn .before .loop in
+    (omega (arith, inside turn), l .inv .1, l .inv .2, rw add-one (passed (l .inv .3) (inside turn) (off c)))
 
 same-length : tie.Need-same-length Inv-loop μ-loop
 same-length c = search needs
 
 returns : tie.Need-returns Inv-loop μ-loop
+unfolding WayAlong
 returns c =
     let l = c .before .loop in
-    let all : l .label ≡ length (entry (c .before) .args .picks .now) = omega arith in
-    let whole : take (l .label) (l .picks) ≡ l .picks = take-all (l .label) (l .picks) (omega arith) in
-    rw (← all, ← whole) (rw (l .inv .4 (omega arith)) at (l .inv .3))
+    let all : l .label ≡ length (weights (entry (c .before))) = omega (arith, l .inv .0, lent (c .before)) in
+    rw all at (l .inv .3)
 
 pub way-along-spec : {M : Type 1} → statement M
 way-along-spec =
@@ -147,6 +166,7 @@ way-along-spec =
     (tie.spec
     Inv-loop
     μ-loop
+    clear-requires
     sub-c
     loop-holds
     item-requires
@@ -154,11 +174,12 @@ way-along-spec =
     leads-requires
     cast-c
     sub-c-2
-    add-x
+    mul-picks
+    slice-read-picks
+    add-picks
+    slice-write-picks
     loop-less
     loop-again
-    mul-picks
-    slice-write-picks
     add-label
     loop-less-2
     loop-again-2

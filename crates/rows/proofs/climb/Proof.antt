@@ -4,13 +4,13 @@ use native.Mathlib.Omega.{arith}
 use lib.ListN.{length}
 use borrow.Author.Needs.{needs}
 use Rattle.meaning.specs.Lists.{at}
-use Rattle.rows.specs.Rows.{RaisedBetween, Low}
-use Rattle.rows.proofs.Stores.{between-on}
+use Rattle.rows.specs.Rows.{Swept, raisedBy, Low}
+use Rattle.rows.proofs.Stores.{swept-on}
 use Rattle.rows.proofs.climb.Statement.{statement}
 use Rattle.rows.proofs.climb.Tie as tie
 
 abbrev Inv-loop : tie.InvT-loop
-Inv-loop row₀ w v w' c₀ row c = (w' ≤ c) × (length row ≡ length row₀) × RaisedBetween row₀ row w' v w' c × Low (at row) (length row₀)
+Inv-loop row₀ w v w' c₀ row c = (w' ≤ c) × (length row ≡ length row₀) × Swept (raisedBy v) row₀ row w' w' c × Low (at row) (length row₀)
 
 abbrev μ-loop : tie.MeasureT-loop
 μ-loop row₀ w v w' c₀ row c = length row₀ - c
@@ -39,7 +39,7 @@ loop-again c =
     let up = c .before .before .raise-stretch in (
       omega (arith, end .ensures),
       up .kept .0 ∙ l .inv .1,
-      between-on (a .row .now) (a .w) (a .v) (l .row) (up .last .0) (a .w) (l .c) (end .result) (omega arith) (l .inv .0) (omega (arith, end .ensures)) (l .inv .2) (up .ensures .0),
+      swept-on (raisedBy (a .v)) (a .row .now) (a .w) (l .row) (up .last .0) (a .w) (l .c) (end .result) (omega arith) (l .inv .0) (omega (arith, end .ensures)) (l .inv .2) (up .ensures .0),
       rw (l .inv .1) at (up .ensures .1),
     )
 
@@ -49,7 +49,7 @@ same-length c = search needs
 returns : tie.Need-returns Inv-loop μ-loop
 returns c =
     let d = c .before .loop .inv .2 in
-    record { short = λ k h m. d .before k m; long = λ k h m. d .long k m (omega arith) }
+    record { short = λ k h m. d .before k m; long = λ k h m. d .made k m (omega arith) }
 
 pub climb-spec : {M : Type 1} → statement M
 climb-spec =

@@ -5,13 +5,13 @@ use lib.ListN.{length, length-set}
 use borrow.Author.Needs.{needs}
 use Rattle.meaning.specs.Lists.{at}
 use Rattle.meaning.specs.Refusals.{mostBudget, mostValue}
-use Rattle.rows.specs.Rows.{RaisedBetween, Low}
-use Rattle.rows.proofs.Stores.{between-none, between-more, low-more, low-set}
+use Rattle.rows.specs.Rows.{Swept, raisedBy, Low}
+use Rattle.rows.proofs.Stores.{swept-none, swept-more, low-more, low-set}
 use Rattle.rows.proofs.raise_stretch.Statement.{statement}
 use Rattle.rows.proofs.raise_stretch.Tie as tie
 
 abbrev Inv-loop : tie.InvT-loop
-Inv-loop row₀ from to w v c₀ row c = (from ≤ c) × (c ≤ to) × (length row ≡ length row₀) × RaisedBetween row₀ row w v from c × Low (at row) (length row₀)
+Inv-loop row₀ from to w v c₀ row c = (from ≤ c) × (c ≤ to) × (length row ≡ length row₀) × Swept (raisedBy v) row₀ row w from c × Low (at row) (length row₀)
 
 abbrev μ-loop : tie.MeasureT-loop
 μ-loop row₀ from to w v c₀ row c = to - c
@@ -19,7 +19,7 @@ abbrev μ-loop : tie.MeasureT-loop
 loop-holds : tie.Need-loop-holds Inv-loop μ-loop
 loop-holds c =
     let s = c .before in
-    (omega arith, omega arith, refl, between-none (s .args .row .now) (s .args .w) (s .args .v) (s .args .from), s .pre .1 .1 .1)
+    (omega arith, omega arith, refl, swept-none (raisedBy (s .args .v)) (s .args .row .now) (s .args .w) (s .args .from), s .pre .1 .1 .1)
 
 mul-without : tie.Need-mul-without Inv-loop μ-loop
 mul-without c = search needs
@@ -68,7 +68,7 @@ loop-again c =
       omega arith,
       omega arith,
       simp length-set (l .inv .2),
-      between-more (a .row .now) (a .w) (a .v) (l .row) (a .from) (l .c) (c .greater .result) (omega arith) (omega arith) (omega arith) (omega arith) (l .inv .3) (c .greater .ensures),
+      swept-more (raisedBy (a .v)) (a .row .now) (a .w) (l .row) (a .from) (l .c) (c .greater .result) (omega arith) (omega arith) (omega arith) (omega arith) (l .inv .3) (c .greater .ensures),
       low-set (l .row) (l .c) (c .greater .result) (length (a .row .now)) (omega arith) low
           (rw (c .greater .ensures) (low-more (at (l .row) (l .c)) (at (l .row) (l .c - a .w)) (l .c) (a .w) (a .v) (low (l .c) (omega arith)) (omega arith) (low (l .c - a .w) (omega arith)) (omega arith))),
     )
