@@ -46,7 +46,7 @@ fn fill(
     requires { ⌜ (length (handed (now weights) (now wbytes)) + 1) * width ≡ length (now cells) ⌝ }
     ensures { λ _. ⌜ Filled (handed (now (weights .entry)) (now (wbytes .entry))) (handed (now (values .entry)) (now (vbytes .entry))) (limitOf kind (handed (now (copies .entry)) (now (cbytes .entry)))) width (length (handed (now (weights .entry)) (now (wbytes .entry)))) (now (cells .exit)) ⌝ }
 {
-    rows::clear(cells, width);
+    rows::set_all(cells, width, 0);
     let n = numbers::list_length(weights, wbytes);
     let mut i = 0;
     let mut from = 0;
@@ -98,7 +98,7 @@ fn fill_row(weights: &[u32], wbytes: &[u8], values: &[u32], vbytes: &[u8], row: 
     ensures { λ _. ⌜ Climbed (handed (now (weights .entry)) (now (wbytes .entry))) (handed (now (values .entry)) (now (vbytes .entry))) (length (now (row .entry))) (length (handed (now (weights .entry)) (now (wbytes .entry)))) (now (row .exit)) ⌝ }
 {
     let width = row.len();
-    rows::clear(row, width);
+    rows::set_all(row, width, 0);
     let n = numbers::list_length(weights, wbytes);
     let mut i = 0;
     while i < n {
@@ -123,7 +123,7 @@ fn way_along(
     ensures { λ r. ⌜ WayAlong (at (now (row .entry))) (handed (now (weights .entry)) (now (wbytes .entry))) (handed (now (values .entry)) (now (vbytes .entry))) (length (now (row .entry)) - 1) r (now (picks .exit)) ⌝ }
 {
     let n = picks.len();
-    rows::clear(picks, n);
+    rows::set_all(picks, n, 0);
     let mut label = 0;
     let mut c = row.len() - 1;
     while label < n {

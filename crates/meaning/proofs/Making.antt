@@ -1,10 +1,10 @@
--- Kinds 5 and 6: lists of blocks with one block more or fewer, the ways with one size more, and the one way for amount 0.
+-- Kinds 5 and 6: lists of blocks with one block more or fewer; the fewest blocks and the ways with one size more, and with no sizes.
 -- Assumes nothing.
 use mathlib.Core.Path.{_≡_, refl, sym, ap, _∙_, subst}
 use mathlib.Core.Logic.{_⊎_, inl, inr}
-use Prim.Native.Nat.{ℕ, zero, suc, _+_, _-_, _*_, _≤_, _<_}
-use native.Mathlib.Decide.{decLt}
-use native.Mathlib.Nat.{le-refl, mul-zero}
+use Prim.Native.Nat.{ℕ, zero, suc, _+_, _-_, _*_, _≤_, _<_, min, zero-le}
+use native.Mathlib.Decide.{decLe, decLt}
+use native.Mathlib.Nat.{le-refl, mul-le-mul-right, mul-zero, one-mul}
 use native.Mathlib.Omega.{arith}
 use mathlib.Core.List.{List, [], _∷_, _++_, append-cancel-right, List·Memᴰ·eq-of-singleton, List·Memᴰ·head, List·Memᴰ·not-nil}
 use lib.ListN.{length, length-append, take}
@@ -12,11 +12,20 @@ use lib.Seq.{getD-at}
 use Rattle.meaning.specs.Lists.{at, sum, total}
 use Rattle.meaning.specs.Counting.{Distinct}
 use Rattle.meaning.specs.Job.{Job, labels}
-use Rattle.meaning.specs.Blocks.{Makes, WaysFor}
-use Rattle.meaning.proofs.Totals.{at-more, cut-last, empty-of, fewer-more, fewer-sum, fewer-total, front-long, length-fewer, length-more, more-fewer, more-total, one-fewer, one-more, positive-or-zero, total-cut, total-none, total-with, zero-total}
+use Rattle.meaning.specs.Cells.{LeastShown, noWay, none-shown, shown}
+use Rattle.meaning.specs.Blocks.{MadeOf, Makes, WaysFor}
+use Rattle.meaning.proofs.Totals.{at-more, cut-last, empty-of, fewer-more, fewer-total, front-long, length-fewer, length-more, more-fewer, more-sum, more-total, one-fewer, one-more, total-cut, total-none, total-with}
+use Rattle.meaning.proofs.Loops.{sum-snoc}
 use Rattle.meaning.proofs.Counting.{counted-either, counted-iff, counted-through}
 
 -- ---- one block more, one block fewer
+
+-- counts sum to no more than they come to with sizes that are 1 or more
+each-counts : (ws p : List ℕ) → ((m : ℕ) → m < length p → 1 ≤ at ws m) → length p ≤ length ws → sum p ≤ total ws p
+unfolding sum total
+each-counts ws [] pos h = zero-le
+each-counts [] (x ∷ p) pos h = absurd (omega arith)
+each-counts (w ∷ ws) (x ∷ p) pos h = omega (arith, mul-le-mul-right x (pos 0 (omega arith)), one-mul x, each-counts ws p (λ m l. pos (suc m) (omega arith)) (omega arith))
 
 module _ (j : Job) (a : ℕ) where
   -- with one more of size m
@@ -33,20 +42,7 @@ module _ (j : Job) (a : ℕ) where
       let less : total (j .weights) (one-fewer q m) + at (j .weights) m ≡ total (j .weights) q = fewer-total (j .weights) q m (omega (arith, k .one-each)) pos in
       (omega (arith, k .sums-to), record { one-each = length-fewer q m ∙ k .one-each; sums-to = omega (arith, k .sums-to) })
 
-  -- kind 5: a list for a positive amount has a block, and without it makes what is left, so that the fewest blocks are one more than
-  -- the fewest for what some last block leaves
-  pub makes-fewer : (q : List ℕ) → 0 < a → Makes j (labels j) a q
-      → (m : ℕ) × (m < labels j) × (at (j .weights) m ≤ a) × Makes j (labels j) (a - at (j .weights) m) (one-fewer q m) × (suc (sum (one-fewer q m)) ≡ sum q)
-  makes-fewer q pos k =
-      elim (positive-or-zero q) [
-        | inl (m, h, some-of) ↦
-            let m′ : m < labels j = omega (arith, k .one-each) in
-            let (heavy, rest) = makes-less q m m′ some-of k in
-            (m, m′, heavy, rest, fewer-sum q m h some-of)
-        | inr e ↦ absurd (omega (arith, zero-total (j .weights) q e, k .sums-to))
-      ]
-
--- ---- kind 6: with one size more, the lists without it and the lists with one more of it
+-- ---- with one size more, the lists without it and the lists with one more of it
 
 none-of : List ℕ → List ℕ
 none-of p = p ++ (0 ∷ [])
@@ -78,13 +74,28 @@ module _ (j : Job) (i : ℕ) where
     cut-last q i (m .one-each) ∙ ap (λ (x : ℕ). take i q ++ (x ∷ [])) e,
   )
 
-  -- a size above a adds no way
+  -- a size above a is in none of them
+  none-fits : (a : ℕ) → a < w → (q : List ℕ) → Makes j (suc i) a q → at q i ≡ 0
+  none-fits a heavy q m = elim (decLt 0 (at q i)) [ yes pos ↦ absurd (omega (arith, makes-less j a q i (le-refl (suc i)) pos m .0)) | no z ↦ omega arith ]
+
+  -- so it adds no way
   pub ways-skip : (a n : ℕ) → a < w → WaysFor j i a n → WaysFor j (suc i) a n
   unfolding WaysFor
-  ways-skip a n heavy c = counted-iff (counted-through none-of (one-without a) c) (without-makes a) (λ q m. makes-without a q m (none-fits q m))
-    where
-      none-fits : (q : List ℕ) → Makes j (suc i) a q → at q i ≡ 0
-      none-fits q m = elim (decLt 0 (at q i)) [ yes pos ↦ absurd (omega (arith, makes-less j a q i (le-refl (suc i)) pos m .0)) | no z ↦ omega arith ]
+  ways-skip a n heavy c = counted-iff (counted-through none-of (one-without a) c) (without-makes a) (λ q m. makes-without a q m (none-fits a heavy q m))
+
+  -- the same number of blocks, with none of the last size
+  made-without : (a x : ℕ) → MadeOf j i a x → MadeOf j (suc i) a x
+  unfolding none-of
+  made-without a x d = record { picks = none-of (d .picks); makes = without-makes a (none-of (d .picks)) (d .picks, d .makes, refl); blocks = sum-snoc (d .picks) 0 ∙ omega (arith, d .blocks) }
+
+  without-made : (a x : ℕ) (q : List ℕ) → Without a q → sum q ≡ x → MadeOf j i a x
+  unfolding none-of
+  without-made a x q (p, m, e) blocks = record { picks = p; makes = m; blocks = omega (arith, sum-snoc p 0, ap sum e) }
+
+  -- and no fewer blocks
+  pub fewest-skip : (a x : ℕ) → a < w → LeastShown (MadeOf j i a) x → LeastShown (MadeOf j (suc i) a) x
+  fewest-skip a x heavy (shown d least) = shown (made-without a x d) (λ z e. least z (without-made a z (e .picks) (makes-without a (e .picks) (e .makes) (none-fits a heavy (e .picks) (e .makes))) (e .blocks)))
+  fewest-skip a x heavy (none-shown none e) = none-shown (λ z d. none z (without-made a z (d .picks) (makes-without a (d .picks) (d .makes) (none-fits a heavy (d .picks) (d .makes))) (d .blocks))) e
 
   module _ (a : ℕ) (fits : w ≤ a) where
     -- the lists for a that have one more of the last size than a list for what it leaves
@@ -119,9 +130,66 @@ module _ (j : Job) (i : ℕ) where
     ways-more n m c d =
         counted-iff (counted-either apart (counted-through none-of (one-without a) c) (counted-through (λ (p : List ℕ). one-more p i) one-with d)) either-makes makes-either
 
+    -- a block more of the last size
+    made-with : (x : ℕ) → MadeOf j (suc i) (a - w) x → MadeOf j (suc i) a (suc x)
+    made-with x d = record {
+      picks = one-more (d .picks) i;
+      makes = makes-more j a (d .picks) i (le-refl (suc i)) fits (d .makes);
+      blocks = more-sum (d .picks) i (omega (arith, d .makes .one-each)) ∙ ap suc (d .blocks);
+    }
+
+    made-either : (x : ℕ) → MadeOf j (suc i) a x → MadeOf j i a x ⊎ ((y : ℕ) × (x ≡ suc y) × MadeOf j (suc i) (a - w) y)
+    made-either x d =
+        elim (makes-either (d .picks) (d .makes)) [
+          | inl h ↦ inl (without-made a x (d .picks) h (d .blocks))
+          | inr (p, m, e) ↦ inr (sum p, sym (d .blocks) ∙ ap sum e ∙ more-sum p i (omega (arith, m .one-each)), record { picks = p; makes = m; blocks = refl })
+        ]
+
+    -- the fewest blocks for a with one size more: those with the sizes before, or one more than those for a less the size. No number of
+    -- blocks comes to the mark for no way
+    module _ (below : (z : ℕ) → MadeOf j (suc i) a z → z < noWay) where
+      pub fewest-more : (x y : ℕ) → LeastShown (MadeOf j i a) x → LeastShown (MadeOf j (suc i) (a - w)) y → LeastShown (MadeOf j (suc i) a) (min x (suc y))
+      fewest-more x y (shown d least) (shown e low) =
+          elim (decLe x (suc y)) [
+            | yes h ↦ let here : x ≡ min x (suc y) = omega arith in subst (LeastShown (MadeOf j (suc i) a)) here
+                (shown (made-without a x d) (λ z g. elim (made-either z g) [ inl k ↦ least z k | inr (u, s, k) ↦ omega (arith, low u k) ]))
+            | no h ↦ let here : suc y ≡ min x (suc y) = omega arith in subst (LeastShown (MadeOf j (suc i) a)) here
+                (shown (made-with y e) (λ z g. elim (made-either z g) [ inl k ↦ omega (arith, least z k) | inr (u, s, k) ↦ omega (arith, low u k) ]))
+          ]
+      fewest-more x y (shown d least) (none-shown none e) =
+          let here : x ≡ min x (suc y) = omega (arith, below x (made-without a x d)) in
+          subst (LeastShown (MadeOf j (suc i) a)) here
+          (shown (made-without a x d) (λ z g. elim (made-either z g) [ inl k ↦ least z k | inr (u, s, k) ↦ absurd (none u k) ]))
+      fewest-more x y (none-shown none e) (shown d low) =
+          let here : suc y ≡ min x (suc y) = omega (arith, below (suc y) (made-with y d)) in
+          subst (LeastShown (MadeOf j (suc i) a)) here
+          (shown (made-with y d) (λ z g. elim (made-either z g) [ inl k ↦ absurd (none z k) | inr (u, s, k) ↦ omega (arith, low u k) ]))
+      fewest-more x y (none-shown none e) (none-shown none′ e′) =
+          none-shown (λ z g. elim (made-either z g) [ inl k ↦ none z k | inr (u, s, k) ↦ none′ u k ]) (omega arith)
+
+-- ---- the blocks of a list
+
+-- they are no more than the amount, since sizes are 1 or more
+pub few-blocks : (j : Job) (i a x : ℕ) → ((m : ℕ) → m < i → 1 ≤ at (j .weights) m) → i ≤ labels j → MadeOf j i a x → x ≤ a
+unfolding labels
+few-blocks j i a x pos h d =
+    let within = each-counts (j .weights) (d .picks) (λ m l. pos m (omega (arith, d .makes .one-each))) (omega (arith, d .makes .one-each)) in
+    omega (arith, d .blocks, d .makes .sums-to)
+
+-- with no sizes, amount 0 is made of no blocks
+pub fewest-none : (j : Job) → LeastShown (MadeOf j 0 0) 0
+unfolding sum
+fewest-none j = shown (record { picks = []; makes = record { one-each = refl; sums-to = total-none (j .weights) }; blocks = refl }) (λ z d. omega arith)
+
+-- and no other is made
+pub fewest-no-sizes : (j : Job) (a : ℕ) → 0 < a → LeastShown (MadeOf j 0 a) noWay
+fewest-no-sizes j a pos =
+    none-shown (λ z d. omega (arith, d .makes .sums-to, ap (total (j .weights)) (empty-of (d .picks) (d .makes .one-each)) ∙ total-none (j .weights))) refl
+
 -- ---- the ways with no sizes, and for amount 0
 
-ways-none : (j : Job) → WaysFor j 0 0 1
+-- with no sizes amount 0 has the empty list alone
+pub ways-none : (j : Job) → WaysFor j 0 0 1
 unfolding WaysFor Distinct
 ways-none j = record {
   those = [] ∷ [];

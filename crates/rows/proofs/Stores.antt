@@ -89,6 +89,14 @@ module _ (rule : ℕ → ℕ → ℕ) (s : List ℕ) (w : ℕ) where
     past = λ k l. e .past k l ∙ d .past k (omega arith);
   }
 
+  -- a whole row: the stretches came to its end, or the first cell to be made lies past it
+  pub swept-all : (t : List ℕ) (c width : ℕ) → width ≤ c → c ≤ max w width → Swept rule s t w w c → Swept rule s t w w width
+  swept-all t c width h l d = record {
+    made = λ k m n. d .made k m (omega arith);
+    before = d .before;
+    past = λ k m. by k c (λ b. d .before k (omega arith)) (λ b. d .past k b);
+  }
+
 -- a cell that is low stays so with a label more
 pub low-more : (x y c w v : ℕ) → x ≤ mostValue * c → w ≤ c → y ≤ mostValue * (c - w) → v ≤ mostValue * w → max x (y + v) ≤ mostValue * c
 unfolding mostValue

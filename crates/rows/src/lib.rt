@@ -4,7 +4,7 @@ ghost use Prim.Native.Nat.{ℕ, _+_, _-_, _*_, _/_, _≤_, _<_, max, min};
 ghost use lib.ListN.{length};
 ghost use Rattle.meaning.specs.Lists.{at};
 ghost use Rattle.meaning.specs.Refusals.{mostBudget, mostValue};
-ghost use Rattle.rows.specs.Rows.{ToppedRow, AnyCount, SomeCount, Least, Raised, Swept, raisedBy, Stored, Low, Repeated, Bundled, NextRow, leadsOn};
+ghost use Rattle.rows.specs.Rows.{ToppedRow, AnyCount, SomeCount, Least, Raised, Swept, raisedBy, Stored, FirstAlone, Low, Repeated, Bundled, NextRow, leadsOn};
 
 // The lesser of two numbers.
 fn lesser(a: u32, b: u32) -> u32
@@ -20,16 +20,29 @@ fn greater(a: u32, b: u32) -> u32
     if a < b { b } else { a }
 }
 
-// The row of no labels: zeros.
-pub fn clear(cells: &mut [u32], width: usize)
+// The first cells of a table, all of them x.
+pub fn set_all(cells: &mut [u32], width: usize, x: u32)
     requires { ⌜ width ≤ length (now cells) ⌝ }
-    ensures { λ _. ⌜ Stored (now (cells .entry)) (now (cells .exit)) 0 0 width (λ c. 0) ⌝ }
+    ensures { λ _. ⌜ Stored (now (cells .entry)) (now (cells .exit)) 0 0 width (λ c. x) ⌝ }
 {
     let mut c = 0;
     while c < width {
-        cells[c] = 0;
+        cells[c] = x;
         c += 1;
     }
+}
+
+// The words of no labels: 1 in the first, for the empty list alone, and 0 in the others.
+pub fn first_alone(words: &mut [u64])
+    requires { ⌜ 0 < length (now words) ⌝ }
+    ensures { λ _. ⌜ FirstAlone (length (now (words .entry))) (now (words .exit)) ⌝ }
+{
+    let mut m = 0;
+    while m < words.len() {
+        words[m] = 0;
+        m += 1;
+    }
+    words[0] = 1;
 }
 
 // ---- a row made of the row before it, in a table
@@ -111,7 +124,7 @@ fn raise_stretch(row: &mut [u32], from: usize, to: usize, w: usize, v: u32)
 }
 
 // Where a stretch that starts at budget c ends: within w cells no cell depends on another, so that such a stretch runs in vectors.
-fn stretch_end(width: usize, c: usize, w: usize) -> usize
+pub fn stretch_end(width: usize, c: usize, w: usize) -> usize
     requires { ⌜ (c < width) × (1 ≤ w) ⌝ }
     ensures { λ r. ⌜ (c < r) × (r ≤ width) ⌝ }
 {

@@ -37,7 +37,7 @@ module _ (s : tie.Start Inv-loop μ-loop) where
   limits = limitOf (s .args .kind) (handed (s .args .copies .now) (s .args .cbytes .now))
 
 long : (c : tie.At-loop Inv-loop μ-loop) → length (c .loop .cells) ≡ length (entry c .args .cells .now)
-long c = c .loop .inv .2 ∙ c .before .before .before .before .clear .kept .0
+long c = c .loop .inv .2 ∙ c .before .before .before .before .set-all .kept .0
 
 -- label i is one of the labels
 inside : (c : tie.In-loop Inv-loop μ-loop) → c .before .loop .i < length (weights (entry (c .before)))
@@ -50,8 +50,8 @@ room c =
     let n = length (weights s) in
     omega (arith, rows-within (c .before .loop .i) n (s .args .width) (inside c), s .pre .1 .1, c .before .loop .inv .1)
 
-clear-requires : tie.Need-clear-requires Inv-loop μ-loop
-clear-requires c κs =
+set-all-requires : tie.Need-set-all-requires Inv-loop μ-loop
+set-all-requires c κs =
     let s = c .before .before .before .before .before .before .before .before in
     omega (arith, one-row-more (length (weights s)) (s .args .width), s .pre .1 .1)
 
@@ -62,8 +62,8 @@ loop-holds : tie.Need-loop-holds Inv-loop μ-loop
 loop-holds c =
     let s = c .before .before .before .before .before .before .before .before .before .before .before .before in
     let a = s .args in
-    let clear = c .before .before .before .clear in
-    (omega arith, omega (arith, zero-mul (a .width)), refl, filled-none (weights s) (values s) (limits s) (a .width) (a .cells .now) (clear .last .0) (clear .ensures))
+    let zeros = c .before .before .before .set-all in
+    (omega arith, omega (arith, zero-mul (a .width)), refl, filled-none (weights s) (values s) (limits s) (a .width) (a .cells .now) (zeros .last .0) (zeros .ensures))
 
 item-requires : tie.Need-item-requires Inv-loop μ-loop
 item-requires c κs = inside c
@@ -138,7 +138,7 @@ fill-spec =
     (tie.spec
     Inv-loop
     μ-loop
-    clear-requires
+    set-all-requires
     list-length-requires
     loop-holds
     item-requires

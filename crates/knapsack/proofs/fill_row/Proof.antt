@@ -35,22 +35,22 @@ module _ (s : tie.Start Inv-loop μ-loop) where
   values = handed (s .args .values .now) (s .args .vbytes .now)
 
 long : (c : tie.At-loop Inv-loop μ-loop) → length (c .loop .row) ≡ length (entry c .args .row .now)
-long c = c .loop .inv .1 ∙ c .before .before .before .before .clear .kept .0
+long c = c .loop .inv .1 ∙ c .before .before .before .before .set-all .kept .0
 
 -- label i is one of the labels
 inside : (c : tie.In-loop Inv-loop μ-loop) → c .before .loop .i < length (weights (entry (c .before)))
 inside c = omega (arith, c .before .before .list-length .ensures)
 
-clear-requires : tie.Need-clear-requires Inv-loop μ-loop
-clear-requires c κs = search needs
+set-all-requires : tie.Need-set-all-requires Inv-loop μ-loop
+set-all-requires c κs = search needs
 
 list-length-requires : tie.Need-list-length-requires Inv-loop μ-loop
 list-length-requires c κs = search needs
 
 loop-holds : tie.Need-loop-holds Inv-loop μ-loop
 loop-holds c =
-    let clear = c .before .before .before .clear in
-    (omega arith, refl, level (λ k h. rw zero-add at (clear .ensures .cells k (omega arith) h)))
+    let zeros = c .before .before .before .set-all in
+    (omega arith, refl, level (λ k h. rw zero-add at (zeros .ensures .cells k (omega arith) h)))
 
 item-requires : tie.Need-item-requires Inv-loop μ-loop
 item-requires c κs = inside c
@@ -104,7 +104,7 @@ fill-row-spec =
     (tie.spec
     Inv-loop
     μ-loop
-    clear-requires
+    set-all-requires
     list-length-requires
     loop-holds
     item-requires

@@ -42,8 +42,8 @@ abbrev entry : tie.At-loop Inv-loop μ-loop → tie.Start Inv-loop μ-loop
 entry c = c .before .before .before .before .before .before .before .before .before .before .before
 
 -- the picks are as many as were lent
-lent : (c : tie.At-loop Inv-loop μ-loop) → length (c .before .before .before .clear .last .0) ≡ length (weights (entry c))
-lent c = c .before .before .before .clear .kept .0 ∙ sym (entry c .pre .1 .1)
+lent : (c : tie.At-loop Inv-loop μ-loop) → length (c .before .before .before .set-all .last .0) ≡ length (weights (entry c))
+lent c = c .before .before .before .set-all .kept .0 ∙ sym (entry c .pre .1 .1)
 
 -- the label is one of the labels
 inside : (c : tie.In-loop Inv-loop μ-loop) → c .before .loop .label < length (weights (entry (c .before)))
@@ -70,8 +70,8 @@ heavy c =
     let turn = c .before .before .before .before in
     rw (c .before .before .before .item .ensures) (entry (turn .before) .pre .0 .heavy (turn .before .loop .label) (inside turn))
 
-clear-requires : tie.Need-clear-requires Inv-loop μ-loop
-clear-requires c κs = search needs
+set-all-requires : tie.Need-set-all-requires Inv-loop μ-loop
+set-all-requires c κs = search needs
 
 sub-c : tie.Need-sub-c Inv-loop μ-loop
 sub-c c = search needs
@@ -79,7 +79,7 @@ sub-c c = search needs
 loop-holds : tie.Need-loop-holds Inv-loop μ-loop
 loop-holds c =
     let s = c .before .before .before .before .before .before .before .before .before .before in
-    let z = c .before .before .clear in
+    let z = c .before .before .set-all in
     (omega arith, omega (arith, s .pre .0 .wide), refl, start {picks = z .last .0} (z .kept .0 ∙ sym (s .pre .1 .1)) (λ m h. rw zero-add at (z .ensures .cells m (omega arith) (omega (arith, s .pre .1 .1)))))
 
 item-requires : tie.Need-item-requires Inv-loop μ-loop
@@ -166,7 +166,7 @@ way-along-spec =
     (tie.spec
     Inv-loop
     μ-loop
-    clear-requires
+    set-all-requires
     sub-c
     loop-holds
     item-requires

@@ -5,17 +5,17 @@ use lib.ListN.{length, length-set}
 use borrow.Author.Needs.{needs}
 use Rattle.rows.specs.Rows.{Stored}
 use Rattle.rows.proofs.Stores.{stored-none, stored-up}
-use Rattle.rows.proofs.clear.Statement.{statement}
-use Rattle.rows.proofs.clear.Tie as tie
+use Rattle.rows.proofs.set_all.Statement.{statement}
+use Rattle.rows.proofs.set_all.Tie as tie
 
 abbrev Inv-loop : tie.InvT-loop
-Inv-loop cells₀ width c₀ cells c = (c ≤ width) × (length cells ≡ length cells₀) × Stored cells₀ cells 0 0 c (λ k. 0)
+Inv-loop cells₀ width x c₀ cells c = (c ≤ width) × (length cells ≡ length cells₀) × Stored cells₀ cells 0 0 c (λ k. x)
 
 abbrev μ-loop : tie.MeasureT-loop
-μ-loop cells₀ width c₀ cells c = width - c
+μ-loop cells₀ width x c₀ cells c = width - c
 
 loop-holds : tie.Need-loop-holds Inv-loop μ-loop
-loop-holds c = (omega arith, refl, stored-none (c .args .cells .now) 0 0 0 (λ k. 0) (omega arith))
+loop-holds c = (omega arith, refl, stored-none (c .args .cells .now) 0 0 0 (λ k. c .args .x) (omega arith))
 
 mul-cells : tie.Need-mul-cells Inv-loop μ-loop
 mul-cells c = search needs
@@ -33,7 +33,7 @@ loop-again : tie.Need-loop-again Inv-loop μ-loop
 loop-again c =
     let a = c .before .before .args in
     let l = c .before .loop in
-    (omega arith, simp length-set (l .inv .1), stored-up (a .cells .now) 0 0 (l .c) (λ k. 0) (l .cells) (l .c) 0 (omega arith) (l .inv .2) (omega arith) (omega arith) refl)
+    (omega arith, simp length-set (l .inv .1), stored-up (a .cells .now) 0 0 (l .c) (λ k. a .x) (l .cells) (l .c) (a .x) (omega arith) (l .inv .2) (omega arith) (omega arith) refl)
 
 same-length : tie.Need-same-length Inv-loop μ-loop
 same-length c = c .before .loop .inv .1
@@ -41,8 +41,8 @@ same-length c = c .before .loop .inv .1
 returns : tie.Need-returns Inv-loop μ-loop
 returns c = let d = c .before .loop .inv .2 in record { cells = λ k l m. d .cells k l (omega arith); before = d .before; past = λ k l. d .past k (omega arith) }
 
-pub clear-spec : {M : Type 1} → statement M
-clear-spec =
+pub set-all-spec : {M : Type 1} → statement M
+set-all-spec =
     tie.close
     (tie.spec
     Inv-loop

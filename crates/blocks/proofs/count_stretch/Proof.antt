@@ -1,0 +1,89 @@
+use mathlib.Core.Path.{_≡_, refl}
+use Prim.Native.Nat.{_-_, _≤_}
+use native.Mathlib.Omega.{arith}
+use lib.ListN.{length, length-set}
+use Rattle.rows.specs.Rows.{Swept}
+use Rattle.rows.proofs.Stores.{swept-none, swept-more}
+use Rattle.blocks.specs.Sizes.{waysOf}
+use borrow.Author.Needs.{needs}
+use Rattle.blocks.proofs.count_stretch.Statement.{statement}
+use Rattle.blocks.proofs.count_stretch.Tie as tie
+
+abbrev Inv-loop : tie.InvT-loop
+Inv-loop words₀ from to w a₀ words a = (from ≤ a) × (a ≤ to) × (length words ≡ length words₀) × Swept waysOf words₀ words w from a
+
+abbrev μ-loop : tie.MeasureT-loop
+μ-loop words₀ from to w a₀ words a = to - a
+
+loop-holds : tie.Need-loop-holds Inv-loop μ-loop
+loop-holds c = let s = c .before in (omega arith, omega arith, refl, swept-none waysOf (s .args .words .now) (s .args .w) (s .args .from))
+
+mul-both : tie.Need-mul-both Inv-loop μ-loop
+mul-both c = search needs
+
+slice-read-both : tie.Need-slice-read-both Inv-loop μ-loop
+slice-read-both c = search needs
+
+sub-both : tie.Need-sub-both Inv-loop μ-loop
+sub-both c = search needs
+
+mul-both-2 : tie.Need-mul-both-2 Inv-loop μ-loop
+mul-both-2 c = search needs
+
+slice-read-both-2 : tie.Need-slice-read-both-2 Inv-loop μ-loop
+slice-read-both-2 c = search needs
+
+both-requires : tie.Need-both-requires Inv-loop μ-loop
+both-requires c κs = search needs
+
+mul-words : tie.Need-mul-words Inv-loop μ-loop
+mul-words c = search needs
+
+slice-write-words : tie.Need-slice-write-words Inv-loop μ-loop
+slice-write-words c = search needs
+
+add-a : tie.Need-add-a Inv-loop μ-loop
+add-a c = search needs
+
+loop-less : tie.Need-loop-less Inv-loop μ-loop
+loop-less c = search needs
+
+loop-again : tie.Need-loop-again Inv-loop μ-loop
+loop-again c =
+    let a = c .before .before .before .before .before .before .args in
+    let l = c .before .before .before .before .loop in (
+      omega arith,
+      omega arith,
+      simp length-set (l .inv .2),
+      swept-more waysOf (a .words .now) (a .w) (l .words) (a .from) (l .a) (c .both .result) (omega arith) (omega arith) (omega arith) (omega arith) (l .inv .3) (c .both .ensures),
+    )
+
+same-length : tie.Need-same-length Inv-loop μ-loop
+same-length c = c .before .loop .inv .2
+
+returns : tie.Need-returns Inv-loop μ-loop
+returns c =
+    let l = c .before .loop in
+    let end : l .a ≡ c .before .before .before .args .to = omega arith in
+    rw end at (l .inv .3)
+
+pub count-stretch-spec : {M : Type 1} → statement M
+count-stretch-spec =
+    tie.close
+    (tie.spec
+    Inv-loop
+    μ-loop
+    loop-holds
+    mul-both
+    slice-read-both
+    sub-both
+    mul-both-2
+    slice-read-both-2
+    both-requires
+    mul-words
+    slice-write-words
+    add-a
+    loop-less
+    loop-again
+    same-length
+    returns)

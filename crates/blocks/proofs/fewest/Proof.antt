@@ -1,0 +1,163 @@
+use mathlib.Core.Path.{_≡_, refl, sym, ap, _∙_}
+use Prim.Native.Nat.{ℕ, _+_, _-_, _≤_}
+use native.Mathlib.Nat.{add-sub-cancel}
+use native.Mathlib.Omega.{arith}
+use mathlib.Core.List.{List, [], _∷_, _++_}
+use lib.ListN.{length, drop, take, length-append, List·getD-append}
+use lib.Seq.{length-take-le, take-at}
+use Rattle.meaning.specs.Lists.{at}
+use Rattle.meaning.specs.Cells.{noWay}
+use Rattle.meaning.specs.Job.{Job, jobOf, fewest-blocks, labels}
+use Rattle.meaning.specs.Lent.{lentOf, roomFor, roomOf}
+use Rattle.meaning.specs.Refusals.{rulesOf}
+use Rattle.meaning.proofs.Doors.{kept}
+use Rattle.numbers.specs.Handed.{handed}
+use Rattle.blocks.specs.Sizes.{Bounded, FewestGrown, WayDown}
+use Rattle.blocks.proofs.Doors.{bounded, no-blocks, blocks-laid}
+use borrow.Author.Needs.{needs}
+use Rattle.blocks.proofs.fewest.Statement.{statement}
+use Rattle.blocks.proofs.fewest.Tie as tie
+
+-- what the job keeps
+module _ (s : tie.Start) where
+  abbrev sizes : List ℕ
+  sizes = handed (s .args .weights .now) (s .args .wbytes .now)
+
+  abbrev job : Job
+  job = jobOf 5 (s .args .budget ∷ []) sizes [] []
+
+  record Room : Type 0 where
+    cells : s .args .budget + 1 ≤ length (s .args .cells .now)
+    picks : length sizes ≤ length (s .args .picks .now)
+    bounds : Bounded (s .args .budget + 1) sizes
+
+  ok : Room
+  unfolding jobOf labels roomFor roomOf lentOf rulesOf
+  ok =
+      let lent = lentOf (s .args .cells .now) [] (s .args .picks .now) in
+      let keeps = kept fewest-blocks job lent (s .pre) in
+      record { cells = keeps .cells-room; picks = keeps .picks-room; bounds = bounded fewest-blocks job lent refl keeps }
+
+  lent : length (take (s .args .budget + 1) (s .args .cells .now)) ≡ s .args .budget + 1
+  lent = length-take-le (s .args .budget + 1) (s .args .cells .now) (ok .cells)
+
+-- what the call of `fill_fewest` leaves
+module _ (f : tie.After-fill-fewest) where
+  abbrev start : tie.Start
+  start = f .before .before .before .before .before .before .before
+
+  abbrev row : List ℕ
+  row = f .fill-fewest .last .1 .1 .0
+
+  abbrev cells : List ℕ
+  cells = row ++ drop (start .args .budget + 1) (start .args .cells .now)
+
+  row-long : length row ≡ start .args .budget + 1
+  row-long = f .fill-fewest .kept .1 .1 .0 ∙ lent start
+
+  row-grown : FewestGrown (sizes start) (start .args .budget + 1) row
+  row-grown = rw (lent start) at (f .fill-fewest .ensures)
+
+  -- the first cells of the slice are the row
+  row-front : take (start .args .budget + 1) cells ≡ row
+  row-front = take-at row (drop (start .args .budget + 1) (start .args .cells .now)) (start .args .budget + 1) row-long
+
+  -- the cell that is read is the row's last
+  last : at cells (start .args .budget + 1 - 1) ≡ at row (start .args .budget)
+  last =
+      ap (at cells) (add-sub-cancel (start .args .budget) 1)
+      ∙ List·getD-append row (drop (start .args .budget + 1) (start .args .cells .now)) 0 (start .args .budget) (omega (arith, row-long))
+
+  counted : f .before .before .list-length .result ≡ length (sizes start)
+  counted = f .before .before .list-length .ensures
+
+  -- and the first picks are one for each size
+  picks-long : length (take (f .before .before .list-length .result) (start .args .picks .now)) ≡ length (sizes start)
+  picks-long = length-take-le (f .before .before .list-length .result) (start .args .picks .now) (omega (arith, counted, ok start .picks)) ∙ counted
+
+list-length-requires : tie.Need-list-length-requires
+list-length-requires c κs = search needs
+
+add-width : tie.Need-add-width
+add-width c = search needs
+
+slice-relend-prefix-fill-fewest : tie.Need-slice-relend-prefix-fill-fewest
+slice-relend-prefix-fill-fewest c = ok (c .before .before .before .before .before) .cells
+
+slice-aggregate-fill-fewest : tie.Need-slice-aggregate-fill-fewest
+slice-aggregate-fill-fewest c = sym (lent (c .before .before .before .before .before .before))
+
+fill-fewest-requires : tie.Need-fill-fewest-requires
+fill-fewest-requires c κs = let s = c .before .before .before .before .before .before in rw (lent s) (ok s .bounds)
+
+sub-blocks : tie.Need-sub-blocks
+sub-blocks c = search needs
+
+mul-blocks : tie.Need-mul-blocks
+mul-blocks c = search needs
+
+slice-read-blocks : tie.Need-slice-read-blocks
+slice-read-blocks c = let f = c .before .before .before in omega (arith, row-long f, length-append (row f) (drop (start f .args .budget + 1) (start f .args .cells .now)))
+
+same-length : tie.Need-same-length
+same-length c = search needs
+
+returns : tie.Need-returns
+unfolding jobOf noWay
+returns c =
+    let f = c .before .before .before .before in
+    let s = start f in
+    no-blocks (job s) (s .args .cells .now) (s .args .picks .now) (row f) (s .pre) (ok s .bounds) (row-long f) (row-grown f) _ (last f) (c .if1 .taken)
+
+slice-reshare-prefix-way-down : tie.Need-slice-reshare-prefix-way-down
+slice-reshare-prefix-way-down c = let f = c .before .before .before .before in omega (arith, row-long f, length-append (row f) (drop (start f .args .budget + 1) (start f .args .cells .now)))
+
+slice-aggregate-way-down : tie.Need-slice-aggregate-way-down
+slice-aggregate-way-down c = let f = c .before .before .before .before .before in sym (row-long f) ∙ ap length (sym (row-front f))
+
+slice-relend-prefix-way-down : tie.Need-slice-relend-prefix-way-down
+slice-relend-prefix-way-down c = let f = c .before .before .before .before .before in omega (arith, counted f, ok (start f) .picks)
+
+slice-aggregate-way-down-2 : tie.Need-slice-aggregate-way-down-2
+slice-aggregate-way-down-2 c = let f = c .before .before .before .before .before .before in counted f ∙ sym (picks-long f)
+
+way-down-requires : tie.Need-way-down-requires
+way-down-requires c κs = let f = c .before .before .before .before .before .before in rw (row-front f, row-long f) (ok (start f) .bounds, sym (picks-long f))
+
+same-length-2 : tie.Need-same-length-2
+same-length-2 c = search needs
+
+same-length-3 : tie.Need-same-length-3
+same-length-3 c = search needs
+
+returns-2 : tie.Need-returns-2
+unfolding jobOf labels noWay
+returns-2 c =
+    let w = c .before .before in
+    let f = w .before .before .before .before .before .before .before in
+    let s = start f in
+    let way : WayDown (at (row f)) (sizes s) (s .args .budget) (w .way-down .result) (w .way-down .last .1 .1 .1 .0) = rw (row-front f, row-long f, add-sub-cancel) at (w .way-down .ensures) in
+    blocks-laid (job s) (s .args .cells .now) (s .args .picks .now) (row f) (s .pre) (ok s .bounds) (row-long f) (row-grown f) _ _ (w .way-down .result) (w .way-down .last .1 .1 .1 .0) (last f) (w .before .before .before .if1 .left) (counted f) way
+
+pub fewest-spec : {M : Type 1} → statement M
+fewest-spec =
+    tie.close
+    (tie.spec
+    list-length-requires
+    add-width
+    slice-relend-prefix-fill-fewest
+    slice-aggregate-fill-fewest
+    fill-fewest-requires
+    sub-blocks
+    mul-blocks
+    slice-read-blocks
+    same-length
+    returns
+    slice-reshare-prefix-way-down
+    slice-aggregate-way-down
+    slice-relend-prefix-way-down
+    slice-aggregate-way-down-2
+    way-down-requires
+    same-length-2
+    same-length-3
+    returns-2)

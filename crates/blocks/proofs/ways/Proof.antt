@@ -1,0 +1,118 @@
+use mathlib.Core.Path.{_≡_, refl, sym, ap, _∙_}
+use Prim.Native.Nat.{ℕ, _+_, _-_, _≤_}
+use native.Mathlib.Nat.{add-sub-cancel}
+use native.Mathlib.Omega.{arith}
+use mathlib.Core.List.{List, [], _∷_, _++_}
+use lib.ListN.{length, drop, take, length-append, List·getD-append}
+use lib.Seq.{length-take-le}
+use Rattle.meaning.specs.Lists.{at}
+use Rattle.meaning.specs.Job.{Job, jobOf, block-ways}
+use Rattle.meaning.specs.Lent.{lentOf, roomFor, roomOf}
+use Rattle.meaning.specs.Refusals.{rulesOf}
+use Rattle.meaning.specs.Blocks.{tooMany}
+use Rattle.meaning.proofs.Doors.{kept}
+use Rattle.numbers.specs.Handed.{handed}
+use Rattle.blocks.specs.Sizes.{Bounded, WaysGrown}
+use Rattle.blocks.proofs.Doors.{bounded, too-many, ways-counted}
+use borrow.Author.Needs.{needs}
+use Rattle.blocks.proofs.ways.Statement.{statement}
+use Rattle.blocks.proofs.ways.Tie as tie
+
+-- what the job keeps
+module _ (s : tie.Start) where
+  abbrev sizes : List ℕ
+  sizes = handed (s .args .weights .now) (s .args .wbytes .now)
+
+  abbrev job : Job
+  job = jobOf 6 (s .args .budget ∷ []) sizes [] []
+
+  words-room : s .args .budget + 1 ≤ length (s .args .words .now)
+  unfolding jobOf roomFor roomOf lentOf
+  words-room = kept block-ways job (lentOf [] (s .args .words .now) []) (s .pre) .words-room
+
+  bounds : Bounded (s .args .budget + 1) sizes
+  unfolding jobOf rulesOf
+  bounds = bounded block-ways job (lentOf [] (s .args .words .now) []) refl (kept block-ways job (lentOf [] (s .args .words .now) []) (s .pre))
+
+  lent : length (take (s .args .budget + 1) (s .args .words .now)) ≡ s .args .budget + 1
+  lent = length-take-le (s .args .budget + 1) (s .args .words .now) words-room
+
+-- what the call of `fill_ways` leaves
+module _ (f : tie.After-fill-ways) where
+  abbrev start : tie.Start
+  start = f .before .before .before .before .before
+
+  abbrev row : List ℕ
+  row = f .fill-ways .last .1 .1 .0
+
+  abbrev words : List ℕ
+  words = row ++ drop (start .args .budget + 1) (start .args .words .now)
+
+  row-long : length row ≡ start .args .budget + 1
+  row-long = f .fill-ways .kept .1 .1 .0 ∙ lent start
+
+  row-grown : WaysGrown (sizes start) (start .args .budget + 1) row
+  row-grown = rw (lent start) at (f .fill-ways .ensures)
+
+  -- the cell that is read is the row's last
+  last : at words (start .args .budget + 1 - 1) ≡ at row (start .args .budget)
+  last =
+      ap (at words) (add-sub-cancel (start .args .budget) 1)
+      ∙ List·getD-append row (drop (start .args .budget + 1) (start .args .words .now)) 0 (start .args .budget) (omega (arith, row-long))
+
+add-width : tie.Need-add-width
+add-width c = search needs
+
+slice-relend-prefix-fill-ways : tie.Need-slice-relend-prefix-fill-ways
+slice-relend-prefix-fill-ways c = words-room (c .before .before .before)
+
+slice-aggregate-fill-ways : tie.Need-slice-aggregate-fill-ways
+slice-aggregate-fill-ways c = sym (lent (c .before .before .before .before))
+
+fill-ways-requires : tie.Need-fill-ways-requires
+fill-ways-requires c κs = let s = c .before .before .before .before in rw (lent s) (bounds s)
+
+sub-found : tie.Need-sub-found
+sub-found c = search needs
+
+mul-found : tie.Need-mul-found
+mul-found c = search needs
+
+slice-read-found : tie.Need-slice-read-found
+slice-read-found c = let f = c .before .before .before in omega (arith, row-long f, length-append (row f) (drop (start f .args .budget + 1) (start f .args .words .now)))
+
+same-length : tie.Need-same-length
+same-length c = search needs
+
+returns : tie.Need-returns
+unfolding jobOf tooMany
+returns c =
+    let f = c .before .before .before .before in
+    let s = start f in
+    too-many (job s) (s .args .words .now) (row f) (s .pre) (bounds s) (row-long f) (row-grown f) _ (last f) (c .if1 .taken)
+
+same-length-2 : tie.Need-same-length-2
+same-length-2 c = search needs
+
+returns-2 : tie.Need-returns-2
+unfolding jobOf tooMany
+returns-2 c =
+    let f = c .before .before .before .before in
+    let s = start f in
+    ways-counted (job s) (s .args .words .now) (row f) (s .pre) (bounds s) (row-long f) (row-grown f) _ (last f) (c .if1 .left)
+
+pub ways-spec : {M : Type 1} → statement M
+ways-spec =
+    tie.close
+    (tie.spec
+    add-width
+    slice-relend-prefix-fill-ways
+    slice-aggregate-fill-ways
+    fill-ways-requires
+    sub-found
+    mul-found
+    slice-read-found
+    same-length
+    returns
+    same-length-2
+    returns-2)

@@ -1,0 +1,56 @@
+-- Cells alone: a row by amounts as it is made size by size, and how the blocks are read off it.
+-- Assumes nothing.
+use mathlib.Core.Path.{_≡_}
+use Prim.Native.Nat.{ℕ, suc, _+_, _-_, _≤_, _<_, min}
+use mathlib.Core.Bool.{Bool, _&&_}
+use mathlib.Core.List.{List}
+use lib.Dec.{leb, ltb}
+use lib.ListN.{length}
+use Rattle.meaning.specs.Lists.{at}
+use Rattle.meaning.specs.Cells.{noWay}
+use Rattle.meaning.specs.Refusals.{mostBudget}
+use Rattle.meaning.specs.Orders.{last-most}
+use Rattle.meaning.specs.Blocks.{tooMany}
+use Rattle.rows.specs.Rows.{Swept}
+use Rattle.rows.specs.Ways.{Way}
+
+-- what the sizes and the width of a row keep in kinds 5 and 6
+pub record Bounded (width : ℕ) (sizes : List ℕ) : Type 0 where
+  pub wide : 0 < width
+  pub narrow : width ≤ mostBudget + 1
+  pub whole : (i : ℕ) → i < length sizes → 1 ≤ at sizes i
+
+-- kind 5: an amount's blocks with a size more. It may be made without the size, or with one block of it on top of the blocks for the rest
+abbrev pub fewerOf : ℕ → ℕ → ℕ
+fewerOf without rest = min without (suc rest)
+
+-- kind 6: an amount's ways with a size more. Those without it, and those for the rest, as far as they can be counted
+abbrev pub waysOf : ℕ → ℕ → ℕ
+waysOf without rest = min (without + rest) tooMany
+
+-- the row after the first i sizes, each of which made every cell by a rule of what it held and of the new cell one size before it. With no
+-- sizes amount 0 has `one` and no other amount has more than `none`
+pub data Grown (rule : ℕ → ℕ → ℕ) (one none : ℕ) (sizes : List ℕ) (width : ℕ) : ℕ → List ℕ → Type 0 where
+  bare : {row : List ℕ} → at row 0 ≡ one → ((a : ℕ) → 0 < a → a < width → at row a ≡ none) → Grown rule one none sizes width 0 row
+  grown : {i : ℕ} {row next : List ℕ} → Grown rule one none sizes width i row → Swept rule row next (at sizes i) (at sizes i) width
+      → Grown rule one none sizes width (suc i) next
+
+-- kind 5: the row of fewest blocks after all sizes
+abbrev pub FewestGrown : List ℕ → ℕ → List ℕ → Type 0
+FewestGrown sizes width row = Grown fewerOf 0 noWay sizes width (length sizes) row
+
+-- kind 6: the row of ways after all sizes
+abbrev pub WaysGrown : List ℕ → ℕ → List ℕ → Type 0
+WaysGrown sizes width row = Grown waysOf 1 0 sizes width (length sizes) row
+
+-- one block of the size leads on from amount a: it leaves an amount that takes fewer
+unfoldable pub leavesFewer : (ℕ → ℕ) → ℕ → ℕ → Bool
+leavesFewer row size a = leb size a && ltb (row (a - size)) (row a)
+
+-- kind 5: one block of size m leads on from amount a
+abbrev pub leadsDown : (ℕ → ℕ) → List ℕ → ℕ → ℕ → Bool
+leadsDown row sizes m a = leavesFewer row (at sizes m) a
+
+-- kind 5: the way down the sizes, from the last one at the whole amount. All counts are settled, and c is left
+unfoldable pub WayDown : (ℕ → ℕ) → List ℕ → ℕ → ℕ → List ℕ → Type 0
+WayDown row sizes amount c picks = Way last-most (leadsDown row sizes) sizes (length sizes) amount (length sizes) c picks
