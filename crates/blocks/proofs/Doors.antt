@@ -73,11 +73,11 @@ module _ (j : Job) (cells picks row : List ℕ) (ok : Unrefused fewest-blocks j 
       go (none-shown none e) q m = none (sum q) (record { picks = q; makes = m; blocks = refl })
 
   -- elsewhere the way down finds the chosen blocks, and the cell says how many
-  pub blocks-laid : (blocks n left : ℕ) (found : List ℕ) → blocks ≡ at row (j .budget) → ¬ (blocks ≡ noWay) → n ≡ labels j → WayDown (at row) (j .weights) (j .budget) left found
+  pub blocks-laid : (blocks n : ℕ) (found : List ℕ) → blocks ≡ at row (j .budget) → ¬ (blocks ≡ noWay) → n ≡ labels j → WayDown (at row) (j .weights) (j .budget) found
       → SolvedInCells j cells picks (Says.Blocks blocks) (row ++ drop (j .budget + 1) cells) (found ++ drop n picks)
   unfolding Gives Built Laid
-  blocks-laid blocks n left found e other counts way =
-      let laid : Laid j (j .budget) found = down-laid j (at row) (j .budget) shows marked left found (omega (arith, marked (j .budget) (omega arith))) way in
+  blocks-laid blocks n found e other counts way =
+      let laid : Laid j (j .budget) found = down-laid j (at row) (j .budget) shows marked found (omega (arith, marked (j .budget) (omega arith))) way in
       let many : blocks ≡ sum found = e ∙ sym (fewest-row j (at row) (j .budget) shows marked (j .budget) (omega arith) found (laid .one-of)) in
       leaves (Says.Blocks blocks) found (found ++ drop n picks) (a-sum (laid .one-of .makes) laid (ap (λ (b : ℕ). saidOf (Says.Blocks b)) many))
       (holds-front found picks n (laid .one-of .makes .one-each ∙ sym counts))

@@ -144,8 +144,8 @@ module _ (j : Job) (row : ℕ → ℕ) (amount : ℕ) (rows : (a : ℕ) → a �
         (λ none-of. omega arith)
 
   -- so the counts found are the chosen ones
-  pub down-laid : (left : ℕ) (found : List ℕ) → row amount < noWay → WayDown row (j .weights) amount left found → Laid j amount found
-  unfolding WayDown Laid blockOrder labels
-  down-laid left found some-way way =
+  pub down-laid : (found : List ℕ) → row amount < noWay → WayDown row (j .weights) amount found → Laid j amount found
+  unfolding Laid blockOrder labels
+  down-laid found some-way down =
       way-chosen last-is (leadsDown row (j .weights)) (j .weights) (labels j) amount (down-light row (j .weights)) FewestAt long
-      left-fewest more-fewest fewer-fewest unused left found (some-fewest amount (omega arith) some-way) way
+      left-fewest more-fewest fewer-fewest unused (down .left) found (some-fewest amount (omega arith) some-way) (down .way)

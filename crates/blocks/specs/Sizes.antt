@@ -51,6 +51,7 @@ leavesFewer row size a = leb size a && ltb (row (a - size)) (row a)
 abbrev pub leadsDown : (ℕ → ℕ) → List ℕ → ℕ → ℕ → Bool
 leadsDown row sizes m a = leavesFewer row (at sizes m) a
 
--- kind 5: the way down the sizes, from the last one at the whole amount. All counts are settled, and c is left
-unfoldable pub WayDown : (ℕ → ℕ) → List ℕ → ℕ → ℕ → List ℕ → Type 0
-WayDown row sizes amount c picks = Way last-most (leadsDown row sizes) sizes (length sizes) amount (length sizes) c picks
+-- kind 5: the way down the sizes, from the last one at the whole amount, with all counts settled
+pub record WayDown (row : ℕ → ℕ) (sizes : List ℕ) (amount : ℕ) (picks : List ℕ) : Type 0 where
+  pub left : ℕ
+  pub way : Way last-most (leadsDown row sizes) sizes (length sizes) amount (length sizes) left picks

@@ -89,11 +89,11 @@ fn leads(row: &[u32], w: u32, a: usize) -> bool
     row[a - w] < row[a]
 }
 
-// The blocks for the greatest amount of a row, on the way down the sizes. Gives what is left of the amount.
-fn way_down(weights: &[u32], wbytes: &[u8], row: &[u32], picks: &mut [u32]) -> usize
+// The blocks for the greatest amount of a row, on the way down the sizes.
+fn way_down(weights: &[u32], wbytes: &[u8], row: &[u32], picks: &mut [u32])
     requires { ⌜ Bounded (length (now row)) (handed (now weights) (now wbytes)) ⌝ }
     requires { ⌜ length (handed (now weights) (now wbytes)) ≡ length (now picks) ⌝ }
-    ensures { λ r. ⌜ WayDown (at (now (row .entry))) (handed (now (weights .entry)) (now (wbytes .entry))) (length (now (row .entry)) - 1) r (now (picks .exit)) ⌝ }
+    ensures { λ _. ⌜ WayDown (at (now (row .entry))) (handed (now (weights .entry)) (now (wbytes .entry))) (length (now (row .entry)) - 1) (now (picks .exit)) ⌝ }
 {
     let n = picks.len();
     rows::set_all(picks, n, 0);
@@ -108,7 +108,6 @@ fn way_down(weights: &[u32], wbytes: &[u8], row: &[u32], picks: &mut [u32]) -> u
             i -= 1;
         }
     }
-    a
 }
 
 // Kind 5: the row, and the blocks for the whole budget or that there are none.
@@ -193,11 +192,10 @@ fn ways(budget: u32, weights: &[u32], wbytes: &[u8], words: &mut [u64]) -> Answe
 {
     let width = budget as usize + 1;
     fill_ways(weights, wbytes, &mut words[..width]);
-    let found = words[width - 1];
-    if found == 18_446_744_073_709_551_615 {
+    if words[width - 1] == 18_446_744_073_709_551_615 {
         return Answer::Refused(8);
     }
-    Answer::Ways(found)
+    Answer::Ways(words[width - 1])
 }
 
 // ---- the door

@@ -136,8 +136,8 @@ returns-2 c =
     let w = c .before .before in
     let f = w .before .before .before .before .before .before .before in
     let s = start f in
-    let way : WayDown (at (row f)) (sizes s) (s .args .budget) (w .way-down .result) (w .way-down .last .1 .1 .1 .0) = rw (row-front f, row-long f, add-sub-cancel) at (w .way-down .ensures) in
-    blocks-laid (job s) (s .args .cells .now) (s .args .picks .now) (row f) (s .pre) (ok s .bounds) (row-long f) (row-grown f) _ _ (w .way-down .result) (w .way-down .last .1 .1 .1 .0) (last f) (w .before .before .before .if1 .left) (counted f) way
+    let way : WayDown (at (row f)) (sizes s) (s .args .budget) (w .way-down .last .1 .1 .1 .0) = rw (row-front f, row-long f, add-sub-cancel) at (w .way-down .ensures) in
+    blocks-laid (job s) (s .args .cells .now) (s .args .picks .now) (row f) (s .pre) (ok s .bounds) (row-long f) (row-grown f) _ _ (w .way-down .last .1 .1 .1 .0) (last f) (w .before .before .before .if1 .left) (counted f) way
 
 pub fewest-spec : {M : Type 1} → statement M
 fewest-spec =

@@ -30,7 +30,7 @@ abbrev sizes : tie.Start Inv-loop μ-loop → List ℕ
 sizes s = handed (s .args .weights .now) (s .args .wbytes .now)
 
 long : (c : tie.At-loop Inv-loop μ-loop) → length (c .loop .row) ≡ length (entry c .args .row .now)
-long c = c .loop .inv .1 ∙ length-set (c .before .before .before .before .set-all .last .0) 0 0 ∙ c .before .before .before .before .set-all .kept .0
+long c = c .loop .inv .1 ∙ simp length-set (c .before .before .before .before .set-all .kept .0)
 
 -- size i is one of them
 inside : (c : tie.In-loop Inv-loop μ-loop) → c .before .loop .i < length (sizes (entry (c .before)))
@@ -53,7 +53,7 @@ loop-holds c =
       omega arith,
       refl,
       bare (at-same (marks .last .0) 0 0 0 (omega (arith, marks .kept .0, s .pre .wide)) refl)
-          (λ a pos h. at-other (marks .last .0) 0 0 a (omega arith) ∙ (rw zero-add at (marks .ensures .cells a (omega arith) (omega (arith, length-set (marks .last .0) 0 0, marks .kept .0))))),
+          (λ a pos h. at-other (marks .last .0) 0 0 a (omega arith) ∙ (rw zero-add at (marks .ensures .cells a (omega arith) (omega (arith, marks .kept .0, simp length-set at h))))),
     )
 
 item-requires : tie.Need-item-requires Inv-loop μ-loop

@@ -1,4 +1,4 @@
-use mathlib.Core.Path.{_≡_, refl, sym, _∙_}
+use mathlib.Core.Path.{_≡_, refl, sym, subst, _∙_}
 use Prim.Native.Nat.{ℕ, _+_, _-_, _≤_, _<_}
 use native.Mathlib.Nat.{zero-add}
 use native.Mathlib.Omega.{arith}
@@ -12,7 +12,7 @@ use Rattle.meaning.proofs.Greedy.{last-is}
 use Rattle.numbers.specs.Handed.{handed}
 use Rattle.rows.specs.Ways.{Way, start}
 use Rattle.rows.proofs.Ways.{way-few}
-use Rattle.blocks.specs.Sizes.{leadsDown, WayDown}
+use Rattle.blocks.specs.Sizes.{leavesFewer, leadsDown}
 use Rattle.blocks.proofs.Laying.{down-light, down-taken, down-passed}
 use borrow.Author.Needs.{needs}
 use Rattle.blocks.proofs.way_down.Statement.{statement}
@@ -49,10 +49,14 @@ abbrev leading : tie.At-loop Inv-loop μ-loop → Bool
 leading head = let s = entry head in leadsDown (at (s .args .row .now)) (sizes s) (head .loop .i - 1) (head .loop .a)
 
 on : (c : tie.Then1 Inv-loop μ-loop) → leading (c .before .before .before .before) ≡ true
-on c = rw (← c .before .before .item .ensures) (sym (c .before .leads .ensures) ∙ c .if1 .taken)
+on c =
+    let head = c .before .before .before .before in
+    subst (λ (w : ℕ). leavesFewer (at (entry head .args .row .now)) w (head .loop .a) ≡ true) (c .before .before .item .ensures) (sym (c .before .leads .ensures) ∙ c .if1 .taken)
 
 off : (c : tie.Else1 Inv-loop μ-loop) → leading (c .before .before .before .before) ≡ false
-off c = rw (← c .before .before .item .ensures) (sym (c .before .leads .ensures) ∙ c .if1 .left)
+off c =
+    let head = c .before .before .before .before in
+    subst (λ (w : ℕ). leavesFewer (at (entry head .args .row .now)) w (head .loop .a) ≡ false) (c .before .before .item .ensures) (sym (c .before .leads .ensures) ∙ c .if1 .left)
 
 light : (c : tie.Then1 Inv-loop μ-loop) → c .before .before .item .result ≤ c .before .before .before .before .loop .a
 light c =
@@ -158,11 +162,10 @@ same-length : tie.Need-same-length Inv-loop μ-loop
 same-length c = search needs
 
 returns : tie.Need-returns Inv-loop μ-loop
-unfolding WayDown
 returns c =
     let l = c .before .loop in
     let all : length (sizes (entry (c .before))) - l .i ≡ length (sizes (entry (c .before))) = omega arith in
-    rw all at (l .inv .3)
+    record { left = l .a; way = rw all at (l .inv .3) }
 
 pub way-down-spec : {M : Type 1} → statement M
 way-down-spec =

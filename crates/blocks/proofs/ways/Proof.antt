@@ -1,5 +1,5 @@
 use mathlib.Core.Path.{_≡_, refl, sym, ap, _∙_}
-use Prim.Native.Nat.{ℕ, _+_, _-_, _≤_}
+use Prim.Native.Nat.{ℕ, _+_, _-_, _≤_, _<_}
 use native.Mathlib.Nat.{add-sub-cancel}
 use native.Mathlib.Omega.{arith}
 use mathlib.Core.List.{List, [], _∷_, _++_}
@@ -54,6 +54,9 @@ module _ (f : tie.After-fill-ways) where
   row-grown : WaysGrown (sizes start) (start .args .budget + 1) row
   row-grown = rw (lent start) at (f .fill-ways .ensures)
 
+  inside : start .args .budget + 1 - 1 < length words
+  inside = omega (arith, row-long, length-append row (drop (start .args .budget + 1) (start .args .words .now)))
+
   -- the cell that is read is the row's last
   last : at words (start .args .budget + 1 - 1) ≡ at row (start .args .budget)
   last =
@@ -72,14 +75,14 @@ slice-aggregate-fill-ways c = sym (lent (c .before .before .before .before))
 fill-ways-requires : tie.Need-fill-ways-requires
 fill-ways-requires c κs = let s = c .before .before .before .before in rw (lent s) (bounds s)
 
-sub-found : tie.Need-sub-found
-sub-found c = search needs
+sub-if1 : tie.Need-sub-if1
+sub-if1 c = search needs
 
-mul-found : tie.Need-mul-found
-mul-found c = search needs
+mul-if1 : tie.Need-mul-if1
+mul-if1 c = search needs
 
-slice-read-found : tie.Need-slice-read-found
-slice-read-found c = let f = c .before .before .before in omega (arith, row-long f, length-append (row f) (drop (start f .args .budget + 1) (start f .args .words .now)))
+slice-read-if1 : tie.Need-slice-read-if1
+slice-read-if1 c = inside (c .before .before .before)
 
 same-length : tie.Need-same-length
 same-length c = search needs
@@ -89,7 +92,16 @@ unfolding jobOf tooMany
 returns c =
     let f = c .before .before .before .before in
     let s = start f in
-    too-many (job s) (s .args .words .now) (row f) (s .pre) (bounds s) (row-long f) (row-grown f) _ (last f) (c .if1 .taken)
+    too-many (job s) (s .args .words .now) (row f) (s .pre) (bounds s) (row-long f) (row-grown f) (at (words f) (s .args .budget + 1 - 1)) (last f) (c .if1 .taken)
+
+sub-t6 : tie.Need-sub-t6
+sub-t6 c = search needs
+
+mul-t10 : tie.Need-mul-t10
+mul-t10 c = search needs
+
+slice-read-t12 : tie.Need-slice-read-t12
+slice-read-t12 c = inside (c .before .before .before .before .before)
 
 same-length-2 : tie.Need-same-length-2
 same-length-2 c = search needs
@@ -97,9 +109,9 @@ same-length-2 c = search needs
 returns-2 : tie.Need-returns-2
 unfolding jobOf tooMany
 returns-2 c =
-    let f = c .before .before .before .before in
+    let f = c .before .before .before .before .before in
     let s = start f in
-    ways-counted (job s) (s .args .words .now) (row f) (s .pre) (bounds s) (row-long f) (row-grown f) _ (last f) (c .if1 .left)
+    ways-counted (job s) (s .args .words .now) (row f) (s .pre) (bounds s) (row-long f) (row-grown f) (at (words f) (s .args .budget + 1 - 1)) (last f) (c .before .if1 .left)
 
 pub ways-spec : {M : Type 1} → statement M
 ways-spec =
@@ -109,10 +121,13 @@ ways-spec =
     slice-relend-prefix-fill-ways
     slice-aggregate-fill-ways
     fill-ways-requires
-    sub-found
-    mul-found
-    slice-read-found
+    sub-if1
+    mul-if1
+    slice-read-if1
     same-length
     returns
+    sub-t6
+    mul-t10
+    slice-read-t12
     same-length-2
     returns-2)
