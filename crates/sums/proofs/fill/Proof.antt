@@ -16,6 +16,18 @@ Inv-loop weights wbytes words₀ n i₀ words i = (i ≤ n) × (length words ≡
 abbrev μ-loop : tie.MeasureT-loop
 μ-loop weights wbytes words₀ n i₀ words i = n - i
 
+-- the function's entry, from the loop's head
+abbrev entry : tie.At-loop Inv-loop μ-loop → tie.Start Inv-loop μ-loop
+entry c = c .before .before .before .before .before .before .before .before .before
+
+-- the weights that the function is handed
+abbrev weights : tie.Start Inv-loop μ-loop → List ℕ
+weights s = handed (s .args .weights .now) (s .args .wbytes .now)
+
+-- label i is one of the labels
+inside : (c : tie.In-loop Inv-loop μ-loop) → c .before .loop .i < length (weights (entry (c .before)))
+inside c = omega (arith, c .before .before .list-length .ensures)
+
 clear-requires : tie.Need-clear-requires Inv-loop μ-loop
 clear-requires c κs = search needs
 
@@ -23,10 +35,10 @@ list-length-requires : tie.Need-list-length-requires Inv-loop μ-loop
 list-length-requires c κs = search needs
 
 loop-holds : tie.Need-loop-holds Inv-loop μ-loop
-loop-holds c = ?
+loop-holds c = let clear = c .before .before .before .clear in (omega arith, refl, rw (clear .kept .0) (none-yet (clear .ensures)))
 
 item-requires : tie.Need-item-requires Inv-loop μ-loop
-item-requires c κs = ?
+item-requires c κs = inside (c .before)
 
 add-label-requires : tie.Need-add-label-requires Inv-loop μ-loop
 add-label-requires c κs = search needs
@@ -38,13 +50,20 @@ loop-less : tie.Need-loop-less Inv-loop μ-loop
 loop-less c = search needs
 
 loop-again : tie.Need-loop-again Inv-loop μ-loop
-loop-again c = ?
+loop-again c =
+    let l = c .before .before .before .before .before .before .loop in
+    let label = c .before .before .add-label in
+    let w = c .before .before .before .item .ensures in
+    (omega arith, label .kept .0 ∙ l .inv .1, rw add-one (one-more (l .inv .2) (rw (l .inv .1, w) at (label .ensures))))
 
 same-length : tie.Need-same-length Inv-loop μ-loop
-same-length c = ?
+same-length c = c .before .loop .inv .1 ∙ c .before .before .before .before .before .clear .kept .0
 
 returns : tie.Need-returns Inv-loop μ-loop
-returns c = ?
+returns c =
+    let head = c .before in
+    let all : head .loop .i ≡ length (weights (entry head)) = omega (arith, head .before .list-length .ensures) in
+    rw (← all, ← head .before .before .before .before .clear .kept .0) (head .loop .inv .2)
 
 pub fill-spec : {M : Type 1} → statement M
 fill-spec =

@@ -1,37 +1,53 @@
+use lib.ListN.{take}
+use lib.Seq.{length-take-le}
+use Rattle.meaning.specs.Job.{jobOf}
+use Rattle.numbers.specs.Handed.{weightsHanded}
+use Rattle.sums.proofs.Meant.{small, roomy, solved}
+use mathlib.Core.Path.{_≡_, refl, sym, ap, _∙_}
+use Prim.Native.Nat.{ℕ, _+_, _*_, _/_, _≤_, _<_}
+use native.Mathlib.Omega.{arith}
+use lib.ListN.{length}
 use borrow.Author.Needs.{needs}
 use Rattle.sums.proofs.solve.Statement.{statement}
 use Rattle.sums.proofs.solve.Tie as tie
-use Rattle.sums.proofs.solve.Reads as reads
-use Rattle.sums.proofs.solve.Lts as lts
-use Rattle.sums.proofs.table.Reads as table-reads
 
--- src/lib.rt:143:19
 add-needed : tie.Need-add-needed
 add-needed c = search needs
 
--- src/lib.rt:143:18
 cast-needed : tie.Need-cast-needed
 cast-needed c = search needs
 
--- src/lib.rt:144:36
+-- the needed words are there
+room : (s : tie.Start) → s .args .budget / 64 + 1 ≤ length (s .args .words .now)
+unfolding jobOf
+room s = roomy (weightsHanded 4 (s .args .budget) (s .args .weights .now) (s .args .wbytes .now)) (s .args .words .now) (s .pre)
+
+-- and are lent
+lent : (s : tie.Start) → length (take (s .args .budget / 64 + 1) (s .args .words .now)) ≡ s .args .budget / 64 + 1
+lent s = length-take-le (s .args .budget / 64 + 1) (s .args .words .now) (room s)
+
 slice-relend-prefix-table : tie.Need-slice-relend-prefix-table
-slice-relend-prefix-table c = ?
+slice-relend-prefix-table c = room (c .before .before .before)
 
--- src/lib.rt:144:36
 slice-aggregate-table : tie.Need-slice-aggregate-table
-slice-aggregate-table c = ?
+slice-aggregate-table c = sym (lent (c .before .before .before .before))
 
--- src/lib.rt:144:5
 table-requires : tie.Need-table-requires
-table-requires c κs = ?
+unfolding jobOf
+table-requires c κs =
+    let s = c .before .before .before .before in
+    (small (weightsHanded 4 (s .args .budget) (s .args .weights .now) (s .args .wbytes .now)) (s .args .words .now) (s .pre), lent s)
 
--- src/lib.rt:139:1
 same-length : tie.Need-same-length
 same-length c = search needs
 
--- src/lib.rt:139:1
 returns : tie.Need-returns
-returns c = ?
+unfolding jobOf
+returns c =
+    let table = c .before .before .table in
+    let s = c .before .before .before .before .before .before .before in
+    solved (weightsHanded 4 (s .args .budget) (s .args .weights .now) (s .args .wbytes .now)) (table .result) (s .args .words .now) (table .last .1 .1 .1 .0)
+    (s .pre) (table .kept .1 .1 .1 .0 ∙ lent s) (table .ensures)
 
 pub solve-spec : {M : Type 1} → statement M
 solve-spec =
