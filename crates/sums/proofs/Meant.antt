@@ -1,10 +1,10 @@
 -- From the bits to what `meaning` promises.
 -- Assumes nothing.
-use mathlib.Core.Path.{_≡_, refl, sym, subst, _∙_}
-use mathlib.Core.Logic.{_⊎_, inl, inr}
+use mathlib.Core.Path.{_≡_, refl, subst}
+use mathlib.Core.Logic.{inl, inr}
 use Prim.Native.Nat.{ℕ, zero, suc, _+_, _-_, _*_, _/_, _^_, _≤_, _<_, max}
 use native.Mathlib.Omega.{arith}
-use mathlib.Core.Bool.{Bool, true, false}
+use mathlib.Core.Bool.{Bool}
 use mathlib.Core.List.{List, [], _++_}
 use lib.Dec.{T, eqb}
 use lib.ListN.{length, drop}
@@ -12,13 +12,11 @@ use mir.Facts.{eqb-yes}
 use Rattle.meaning.specs.declared.Answer.{Answer}
 use Rattle.meaning.specs.declared.Answer.the-variants as Says
 use Rattle.meaning.specs.Lists.{at, if, upTo}
-use Rattle.meaning.specs.Counting.{Counted}
 use Rattle.meaning.specs.Job.{Job, labels, subset-sums}
 use Rattle.meaning.specs.Lent.{lentOf, roomFor, roomOf}
 use Rattle.meaning.specs.Refusals.{mostBudget, rulesOf, weightRules}
 use Rattle.meaning.specs.Shares.{tally}
 use Rattle.meaning.specs.Sums.{Reached, ReachedWithin, Tells, is-so, is-not, bit, BitTable, YesOrNo, TotalCount}
-use Rattle.meaning.specs.Answers.{saidOf}
 use Rattle.meaning.specs.Solved.{Unrefused, Gives, TableHolds}
 use Rattle.meaning.specs.Doors.{SolvedInWords}
 use Rattle.meaning.proofs.Counting.{counted-iff}

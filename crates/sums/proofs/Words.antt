@@ -1,6 +1,6 @@
 -- The words: those of no labels, one label more from the highest word down, and the last word cut off at the budget.
 -- Assumes nothing.
-use mathlib.Core.Path.{_≡_, refl, ap, ap₂, sym, _∙_}
+use mathlib.Core.Path.{_≡_, ap, ap₂, sym, _∙_}
 use Prim.Native.Nat.{ℕ, _+_, _-_, _*_, _/_, _%_, _^_, _≤_, _<_, max}
 use native.Mathlib.Nat.{max-zero, zero-max}
 use native.Mathlib.Omega.{arith}
@@ -80,19 +80,15 @@ module _ (s : List ℕ) (q r : ℕ) (some : 0 < r) (few : r < 64) where
   }
 
 module _ (s : List ℕ) (w len : ℕ) where
-  -- no word yet
-  pub added-none : Added s s w len len
-  added-none = record { short = λ u a b l. refl; long = λ u a b l. absurd (omega arith); below = λ m h. refl }
-
   -- one word more: it takes the bits that it is moved onto
   pub added-more : (t : List ℕ) (n m x y : ℕ) → n ≡ m + 1 → m < length t → Added s t w n len → Moved s w m x → y ≡ bitOr (at s m) x → Added s (set t m y) w m len
   added-more t n m x y e inside d moved taken =
       let new : (u : ℕ) → 64 * m ≤ u → u < 64 * n → bit (set t m y) u ≡ max (bit s u) (bitOf x (u % 64)) =
-          λ u a b.
-          stored-bit t m y (u % 64) u inside (omega arith) (omega arith)
-          ∙ ap (λ (z : ℕ). bitOf z (u % 64)) taken
-          ∙ bit-or (at s m) x (u % 64)
-          ∙ ap (λ (z : ℕ). max z (bitOf x (u % 64))) (sym (bit-in s m (u % 64) u (omega arith) (omega arith))) in
+      λ u a b.
+      stored-bit t m y (u % 64) u inside (omega arith) (omega arith)
+      ∙ ap (λ (z : ℕ). bitOf z (u % 64)) taken
+      ∙ bit-or (at s m) x (u % 64)
+      ∙ ap (λ (z : ℕ). max z (bitOf x (u % 64))) (sym (bit-in s m (u % 64) u (omega arith) (omega arith))) in
       let same : (u : ℕ) → 64 * n ≤ u → bit (set t m y) u ≡ bit t u = λ u a. other-bit t m y u (omega arith) in
       record {
         short = λ u a b l. by u (64 * n)
@@ -117,17 +113,17 @@ module _ (s : List ℕ) (w len : ℕ) where
 
 -- ---- the last word cut off
 
-module _ (l : List ℕ) (budget len : ℕ) (long : length l ≡ len) (enough : len ≡ budget / 64 + 1) where
+module _ (l : List ℕ) (budget : ℕ) (enough : length l ≡ budget / 64 + 1) where
   -- the last word
   abbrev cut : ℕ
   cut = at l (budget / 64) * 2 ^ (63 - budget % 64) % 2 ^ 64 / 2 ^ (63 - budget % 64)
 
-  pub trimmed : Trimmed l (set l (budget / 64) cut) budget len
+  pub trimmed : Trimmed l (set l (budget / 64) cut) budget (length l)
   trimmed =
       let spare = 63 - budget % 64 in
       let word = at l (budget / 64) in
       let new : (u : ℕ) → u / 64 ≡ budget / 64 → bit (set l (budget / 64) cut) u ≡ bitOf cut (u % 64) =
-          λ u e. stored-bit l (budget / 64) cut (u % 64) u (omega arith) (omega arith) (omega arith) in
+      λ u e. stored-bit l (budget / 64) cut (u % 64) u (omega arith) (omega arith) (omega arith) in
       record {
         within = λ u h. by (u / 64) (budget / 64)
             (λ b. other-bit l (budget / 64) cut u (omega arith))

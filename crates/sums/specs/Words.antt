@@ -3,15 +3,14 @@
 use mathlib.Core.Path.{_≡_}
 use Prim.Native.Nat.{ℕ, suc, _-_, _*_, _≤_, _<_, max}
 use mathlib.Core.Bool.{Bool}
-use mathlib.Core.List.{List}
+use mathlib.Core.List.{List, []}
 use lib.Dec.{eqb}
+use Rattle.meaning.specs.declared.Answer.{Answer}
 use Rattle.meaning.specs.Lists.{at}
 use Rattle.meaning.specs.Job.{Job}
 use Rattle.meaning.specs.Sums.{bit, BitTable}
 use Rattle.meaning.specs.Answers.{saidOf}
 use Rattle.meaning.specs.Solved.{Summed}
-use Rattle.meaning.specs.declared.Answer.{Answer}
-use mathlib.Core.List.{[]}
 
 -- bit t is set
 unfoldable pub isSet : List ℕ → ℕ → Bool

@@ -4,7 +4,7 @@ use native.Mathlib.Omega.{arith}
 use lib.ListN.{length, length-set}
 use borrow.Author.Needs.{needs}
 use Rattle.sums.specs.Words.{Added}
-use Rattle.sums.proofs.Words.{moved-bits, moved-lowest, added-none, added-more, added-all}
+use Rattle.sums.proofs.Words.{moved-bits, moved-lowest, added-more, added-all}
 use Rattle.sums.proofs.add_bits.Statement.{statement}
 use Rattle.sums.proofs.add_bits.Tie as tie
 

@@ -1,10 +1,10 @@
 use mathlib.Core.Path.{_≡_}
-use Prim.Native.Nat.{_+_, _-_, _*_, _≤_, _<_}
+use Prim.Native.Nat.{_-_, _*_, _≤_}
 use native.Mathlib.Omega.{arith}
 use lib.ListN.{length, length-set}
 use borrow.Author.Needs.{needs}
 use Rattle.sums.specs.Words.{Added}
-use Rattle.sums.proofs.Words.{moved-words, added-none, added-more, added-all}
+use Rattle.sums.proofs.Words.{moved-words, added-more, added-all}
 use Rattle.sums.proofs.add_words.Statement.{statement}
 use Rattle.sums.proofs.add_words.Tie as tie
 

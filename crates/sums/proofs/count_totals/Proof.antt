@@ -1,10 +1,10 @@
 use native.Mathlib.Numerals.{add-one}
 use mathlib.Core.Path.{_≡_, refl, ap, _∙_}
-use mathlib.Core.Bool.{Bool, true, false}
-use mir.Val.{boolByte}
-use Prim.Native.Nat.{_+_, _-_, _*_, _≤_, _<_}
+use Prim.Native.Nat.{_-_, _*_, _≤_}
 use native.Mathlib.Omega.{arith}
-use lib.ListN.{length, length-set}
+use mathlib.Core.Bool.{Bool, true, false}
+use lib.ListN.{length}
+use mir.Val.{boolByte}
 use borrow.Author.Needs.{needs}
 use Rattle.meaning.specs.Lists.{upTo, if}
 use Rattle.meaning.specs.Shares.{tally}

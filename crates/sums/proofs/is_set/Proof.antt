@@ -1,10 +1,6 @@
-use Prim.Native.Nat.{_+_, _-_, _*_, _≤_, _<_}
-use native.Mathlib.Omega.{arith}
-use lib.ListN.{length, length-set}
 use borrow.Author.Needs.{needs}
 use Rattle.meaning.specs.Sums.{bit}
 use Rattle.sums.specs.Words.{isSet}
-use borrow.Author.Needs.{needs}
 use Rattle.sums.proofs.is_set.Statement.{statement}
 use Rattle.sums.proofs.is_set.Tie as tie
 

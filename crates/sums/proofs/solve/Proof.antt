@@ -1,13 +1,11 @@
-use lib.ListN.{take}
+use mathlib.Core.Path.{_≡_, sym, _∙_}
+use Prim.Native.Nat.{_+_, _/_, _≤_}
+use lib.ListN.{take, length}
 use lib.Seq.{length-take-le}
+use borrow.Author.Needs.{needs}
 use Rattle.meaning.specs.Job.{jobOf}
 use Rattle.numbers.specs.Handed.{weightsHanded}
 use Rattle.sums.proofs.Meant.{small, roomy, solved}
-use mathlib.Core.Path.{_≡_, refl, sym, ap, _∙_}
-use Prim.Native.Nat.{ℕ, _+_, _*_, _/_, _≤_, _<_}
-use native.Mathlib.Omega.{arith}
-use lib.ListN.{length}
-use borrow.Author.Needs.{needs}
 use Rattle.sums.proofs.solve.Statement.{statement}
 use Rattle.sums.proofs.solve.Tie as tie
 

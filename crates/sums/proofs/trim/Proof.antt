@@ -1,10 +1,5 @@
-use mathlib.Core.Path.{refl}
-use Prim.Native.Nat.{_+_, _-_, _*_, _≤_, _<_}
-use native.Mathlib.Omega.{arith}
-use lib.ListN.{length, length-set}
 use borrow.Author.Needs.{needs}
 use Rattle.sums.proofs.Words.{trimmed}
-use borrow.Author.Needs.{needs}
 use Rattle.sums.proofs.trim.Statement.{statement}
 use Rattle.sums.proofs.trim.Tie as tie
 
@@ -33,7 +28,7 @@ same-length : tie.Need-same-length
 same-length c = search needs
 
 returns : tie.Need-returns
-returns c = let a = c .before .args in trimmed (a .words .now) (a .budget) (length (a .words .now)) refl (c .before .pre)
+returns c = let a = c .before .args in trimmed (a .words .now) (a .budget) (c .before .pre)
 
 pub trim-spec : {M : Type 1} → statement M
 trim-spec =
