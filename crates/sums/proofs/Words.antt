@@ -2,24 +2,25 @@
 -- Assumes nothing.
 use mathlib.Core.Path.{_≡_, ap, ap₂, sym, _∙_}
 use Prim.Native.Nat.{ℕ, _+_, _-_, _*_, _/_, _%_, _^_, _≤_, _<_, max}
-use native.Mathlib.Nat.{max-zero, zero-max}
+use native.Mathlib.Nat.{zero-add, max-zero, zero-max}
 use native.Mathlib.Omega.{arith}
 use mathlib.Core.List.{List}
 use lib.Bits.{bitOr}
 use lib.ListN.{length, set}
 use Rattle.meaning.specs.Lists.{at}
 use Rattle.meaning.specs.Sums.{bit}
+use Rattle.rows.specs.Rows.{Stored}
 use Rattle.rows.proofs.Stores.{by, at-same, at-other}
 use Rattle.sums.specs.Words.{NoLabels, Added, Trimmed}
 use Rattle.sums.proofs.Bits.{bitOf, bit-or, bit-above, bit-shr, bit-shl, bit-shl-low, cut-low, cut-high, bit-in, bit-same, stored-bit, other-bit}
 
 -- ---- no labels
 
--- one word more
-pub zeroed : (l : List ℕ) (m : ℕ) → 0 < m → m < length l → NoLabels l m → NoLabels (set l m 0) (m + 1)
-zeroed l m pos inside d = record {
-  lowest = at-other l m 0 0 (omega arith) ∙ d .lowest;
-  others = λ k p h. by k m (λ b. at-other l m 0 k (omega arith) ∙ d .others k p b) (λ b. at-same l m 0 k inside (omega arith));
+-- the words above the lowest are 0, and then the lowest is 1
+pub cleared : (s t : List ℕ) (len : ℕ) → 0 < length t → Stored s t 0 1 len (λ m. 0) → NoLabels (set t 0 1) len
+cleared s t len some d = record {
+  lowest = at-same t 0 1 0 some (omega arith);
+  others = λ m pos h. at-other t 0 1 m (omega arith) ∙ rw zero-add at (d .cells m pos h);
 }
 
 -- total 0 alone is reached

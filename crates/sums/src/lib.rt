@@ -22,12 +22,12 @@ fn clear(words: &mut [u64])
     requires { ⌜ 0 < length (now words) ⌝ }
     ensures { λ _. ⌜ NoLabels (now (words .exit)) (length (now (words .entry))) ⌝ }
 {
-    words[0] = 1;
     let mut m = 1;
     while m < words.len() {
         words[m] = 0;
         m += 1;
     }
+    words[0] = 1;
 }
 
 // A label that weighs q whole words: from the highest word down, so that it is used once.

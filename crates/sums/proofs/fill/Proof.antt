@@ -1,6 +1,6 @@
 use native.Mathlib.Numerals.{add-one}
 use mathlib.Core.Path.{_≡_, refl, _∙_}
-use Prim.Native.Nat.{ℕ, _-_, _≤_, _<_}
+use Prim.Native.Nat.{ℕ, _-_, _≤_}
 use native.Mathlib.Omega.{arith}
 use mathlib.Core.List.{List}
 use lib.ListN.{length}
@@ -24,10 +24,6 @@ entry c = c .before .before .before .before .before .before .before .before .bef
 abbrev weights : tie.Start Inv-loop μ-loop → List ℕ
 weights s = handed (s .args .weights .now) (s .args .wbytes .now)
 
--- label i is one of the labels
-inside : (c : tie.In-loop Inv-loop μ-loop) → c .before .loop .i < length (weights (entry (c .before)))
-inside c = omega (arith, c .before .before .list-length .ensures)
-
 clear-requires : tie.Need-clear-requires Inv-loop μ-loop
 clear-requires c κs = search needs
 
@@ -38,7 +34,7 @@ loop-holds : tie.Need-loop-holds Inv-loop μ-loop
 loop-holds c = let clear = c .before .before .before .clear in (omega arith, refl, rw (clear .kept .0) (none-yet (clear .ensures)))
 
 item-requires : tie.Need-item-requires Inv-loop μ-loop
-item-requires c κs = inside (c .before)
+item-requires c κs = omega (arith, c .before .before .before .list-length .ensures)
 
 add-label-requires : tie.Need-add-label-requires Inv-loop μ-loop
 add-label-requires c κs = search needs
