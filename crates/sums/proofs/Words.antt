@@ -1,8 +1,8 @@
 -- The words: those of no labels, one label more from the highest word down, and the last word cut off at the budget.
 -- Assumes nothing.
-use mathlib.Core.Path.{_≡_, ap, ap₂, sym, _∙_}
+use mathlib.Core.Path.{_≡_, ap, sym, _∙_}
 use Prim.Native.Nat.{ℕ, _+_, _-_, _*_, _/_, _%_, _^_, _≤_, _<_, max}
-use native.Mathlib.Nat.{zero-add, max-zero, zero-max}
+use native.Mathlib.Nat.{zero-add}
 use native.Mathlib.Omega.{arith}
 use mathlib.Core.List.{List}
 use lib.Bits.{bitOr}
@@ -39,67 +39,58 @@ other-unset l len u d pos h =
 
 -- ---- one label more
 
--- x is word m of the words s moved up by w
-pub record Moved (s : List ℕ) (w m x : ℕ) : Type 0 where
-  pub short : (k : ℕ) → k < 64 → 64 * m + k < w → bitOf x k ≡ 0
-  pub long : (k : ℕ) → k < 64 → w ≤ 64 * m + k → bitOf x k ≡ bit s (64 * m + k - w)
+-- y is word m of the words s with a label of weight w added
+pub record NewWord (s : List ℕ) (w m y : ℕ) : Type 0 where
+  pub short : (u : ℕ) → u / 64 ≡ m → u < w → bitOf y (u % 64) ≡ bit s u
+  pub long : (u : ℕ) → u / 64 ≡ m → w ≤ u → bitOf y (u % 64) ≡ max (bit s u) (bit s (u - w))
 
--- by whole words
-pub moved-words : (s : List ℕ) (q m : ℕ) → q ≤ m → Moved s (64 * q) m (at s (m - q))
-moved-words s q m h = record {
-  short = λ k b l. absurd (omega arith);
-  long = λ k b l. sym (bit-in s (m - q) k (64 * m + k - 64 * q) b (omega arith));
+-- moved up by whole words
+pub new-words : (s : List ℕ) (q m : ℕ) → q ≤ m → NewWord s (64 * q) m (bitOr (at s m) (at s (m - q)))
+new-words s q m h = record {
+  short = λ u e l. absurd (omega arith);
+  long = λ u e l.
+      let k = u % 64 in
+      omega (arith, bit-or (at s m) (at s (m - q)) k, bit-in s m k u (omega arith) (omega arith), bit-in s (m - q) k (u - 64 * q) (omega arith) (omega arith));
 }
 
 module _ (s : List ℕ) (q r : ℕ) (some : 0 < r) (few : r < 64) where
-  -- by words and bits: the bits of two words
-  pub moved-bits : (m : ℕ) → q < m → at s (m - q - 1) < 2 ^ 64 → Moved s (64 * q + r) m (bitOr (at s (m - q) * 2 ^ r % 2 ^ 64) (at s (m - q - 1) / 2 ^ (64 - r)))
-  moved-bits m h narrow =
+  -- moved up by words and bits: the bits of two words
+  pub new-bits : (m : ℕ) → q < m → at s (m - q - 1) < 2 ^ 64
+      → NewWord s (64 * q + r) m (bitOr (bitOr (at s m) (at s (m - q) * 2 ^ r % 2 ^ 64)) (at s (m - q - 1) / 2 ^ (64 - r)))
+  new-bits m h narrow =
       let high = at s (m - q) in
       let low = at s (m - q - 1) in
       let w = 64 * q + r in
       record {
-        short = λ k b l. absurd (omega arith);
-        long = λ k b l.
-            bit-or (high * 2 ^ r % 2 ^ 64) (low / 2 ^ (64 - r)) k
-            ∙ by k r
-            (λ c.
-            ap₂ max (bit-shl-low high r k c b) (bit-shr low (64 - r) k)
-            ∙ zero-max (bitOf low (64 - r + k))
-            ∙ sym (bit-in s (m - q - 1) (64 - r + k) (64 * m + k - w) (omega arith) (omega arith)))
-            (λ c.
-            ap₂ max (bit-shl high r k c b) (bit-shr low (64 - r) k ∙ bit-above low 64 (64 - r + k) narrow (omega arith))
-            ∙ max-zero (bitOf high (k - r))
-            ∙ sym (bit-in s (m - q) (k - r) (64 * m + k - w) (omega arith) (omega arith)));
+        short = λ u e l. absurd (omega arith);
+        long = λ u e l.
+            let k = u % 64 in
+            let three : bitOf (bitOr (bitOr (at s m) (high * 2 ^ r % 2 ^ 64)) (low / 2 ^ (64 - r))) k ≡ max (max (bit s u) (bitOf (high * 2 ^ r % 2 ^ 64) k)) (bitOf low (64 - r + k)) =
+            omega (arith, bit-or (bitOr (at s m) (high * 2 ^ r % 2 ^ 64)) (low / 2 ^ (64 - r)) k, bit-or (at s m) (high * 2 ^ r % 2 ^ 64) k, bit-in s m k u (omega arith) (omega arith), bit-shr low (64 - r) k) in
+            by k r
+            (λ b. omega (arith, three, bit-shl-low high r k b (omega arith), bit-in s (m - q - 1) (64 - r + k) (u - w) (omega arith) (omega arith)))
+            (λ b. omega (arith, three, bit-shl high r k b (omega arith), bit-above low 64 (64 - r + k) narrow (omega arith), bit-in s (m - q) (k - r) (u - w) (omega arith) (omega arith)));
       }
 
   -- the lowest word that is reached: the bits of one
-  pub moved-lowest : Moved s (64 * q + r) q (at s 0 * 2 ^ r % 2 ^ 64)
-  moved-lowest = record {
-    short = λ k b l. bit-shl-low (at s 0) r k (omega arith) b;
-    long = λ k b l. bit-shl (at s 0) r k (omega arith) b ∙ sym (bit-in s 0 (k - r) (64 * q + k - (64 * q + r)) (omega arith) (omega arith));
-  }
+  pub new-lowest : NewWord s (64 * q + r) q (bitOr (at s q) (at s 0 * 2 ^ r % 2 ^ 64))
+  new-lowest =
+      let both : (u : ℕ) → u / 64 ≡ q → bitOf (bitOr (at s q) (at s 0 * 2 ^ r % 2 ^ 64)) (u % 64) ≡ max (bit s u) (bitOf (at s 0 * 2 ^ r % 2 ^ 64) (u % 64)) =
+      λ u e. omega (arith, bit-or (at s q) (at s 0 * 2 ^ r % 2 ^ 64) (u % 64), bit-in s q (u % 64) u (omega arith) (omega arith)) in
+      record {
+        short = λ u e l. omega (arith, both u e, bit-shl-low (at s 0) r (u % 64) (omega arith) (omega arith));
+        long = λ u e l. omega (arith, both u e, bit-shl (at s 0) r (u % 64) (omega arith) (omega arith), bit-in s 0 (u % 64 - r) (u - (64 * q + r)) (omega arith) (omega arith));
+      }
 
 module _ (s : List ℕ) (w len : ℕ) where
-  -- one word more: it takes the bits that it is moved onto
-  pub added-more : (t : List ℕ) (n m x y : ℕ) → n ≡ m + 1 → m < length t → Added s t w n len → Moved s w m x → y ≡ bitOr (at s m) x → Added s (set t m y) w m len
-  added-more t n m x y e inside d moved taken =
-      let new : (u : ℕ) → 64 * m ≤ u → u < 64 * n → bit (set t m y) u ≡ max (bit s u) (bitOf x (u % 64)) =
-      λ u a b.
-      stored-bit t m y (u % 64) u inside (omega arith) (omega arith)
-      ∙ ap (λ (z : ℕ). bitOf z (u % 64)) taken
-      ∙ bit-or (at s m) x (u % 64)
-      ∙ ap (λ (z : ℕ). max z (bitOf x (u % 64))) (sym (bit-in s m (u % 64) u (omega arith) (omega arith))) in
-      let same : (u : ℕ) → 64 * n ≤ u → bit (set t m y) u ≡ bit t u = λ u a. other-bit t m y u (omega arith) in
+  -- one word more
+  pub added-more : (t : List ℕ) (n m y : ℕ) → n ≡ m + 1 → m < length t → Added s t w n len → NewWord s w m y → Added s (set t m y) w m len
+  added-more t n m y e inside d new =
+      let here : (u : ℕ) → 64 * m ≤ u → u < 64 * n → bit (set t m y) u ≡ bitOf y (u % 64) = λ u a b. stored-bit t m y (u % 64) u inside (omega arith) (omega arith) in
+      let other : (u : ℕ) → 64 * n ≤ u → bit (set t m y) u ≡ bit t u = λ u a. other-bit t m y u (omega arith) in
       record {
-        short = λ u a b l. by u (64 * n)
-            (λ c. omega (arith, new u a c, moved .short (u % 64) (omega arith) (omega arith)))
-            (λ c. same u c ∙ d .short u c b l);
-        long = λ u a b l. by u (64 * n)
-            (λ c.
-            let here : 64 * m + u % 64 ≡ u = omega arith in
-            new u a c ∙ ap (max (bit s u)) (moved .long (u % 64) (omega arith) (omega arith) ∙ ap (λ (v : ℕ). bit s (v - w)) here))
-            (λ c. same u c ∙ d .long u c b l);
+        short = λ u a b l. by u (64 * n) (λ c. here u a c ∙ new .short u (omega arith) l) (λ c. other u c ∙ d .short u c b l);
+        long = λ u a b l. by u (64 * n) (λ c. here u a c ∙ new .long u (omega arith) l) (λ c. other u c ∙ d .long u c b l);
         below = λ k h. at-other t m y k (omega arith) ∙ d .below k (omega arith);
       }
 

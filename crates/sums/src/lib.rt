@@ -41,7 +41,8 @@ fn add_words(words: &mut [u64], q: usize)
     }
 }
 
-// A label that weighs q words and r bits: each word takes the bits of two, the lowest that it reaches those of one.
+// A label that weighs q words and r bits: each word takes the bits of two, the lowest that it reaches those of one. The two are not
+// joined before the word takes them: only so does the loop run in vectors.
 fn add_bits(words: &mut [u64], q: usize, r: usize)
     requires { ⌜ (q < length (now words)) × ((0 < r) × (r < 64)) ⌝ }
     ensures { λ _. ⌜ Added (now (words .entry)) (now (words .exit)) (64 * q + r) 0 (length (now (words .entry))) ⌝ }
@@ -50,7 +51,7 @@ fn add_bits(words: &mut [u64], q: usize, r: usize)
     let mut m = words.len();
     while q + 1 < m {
         m -= 1;
-        words[m] = words[m] | ((words[m - q] << r) | (words[m - q - 1] >> back));
+        words[m] = words[m] | (words[m - q] << r) | (words[m - q - 1] >> back);
     }
     words[q] = words[q] | (words[0] << r);
 }

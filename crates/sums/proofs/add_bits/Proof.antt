@@ -4,7 +4,7 @@ use native.Mathlib.Omega.{arith}
 use lib.ListN.{length, length-set}
 use borrow.Author.Needs.{needs}
 use Rattle.sums.specs.Words.{Added}
-use Rattle.sums.proofs.Words.{moved-bits, moved-lowest, added-more, added-all}
+use Rattle.sums.proofs.Words.{new-bits, new-lowest, added-more, added-all}
 use Rattle.sums.proofs.add_bits.Statement.{statement}
 use Rattle.sums.proofs.add_bits.Tie as tie
 
@@ -78,9 +78,9 @@ loop-again c =
       omega arith,
       omega arith,
       simp length-set (l .inv .2),
-      added-more (a .words .now) (64 * a .q + a .r) (length (a .words .now)) (l .words) (l .m) (l .m - 1) _ _ (omega arith) (omega arith) (l .inv .3)
-          (moved-bits (a .words .now) (a .q) (a .r) (start .pre .1 .0) (start .pre .1 .1) (l .m - 1) (omega arith) (omega (arith, kept low (omega arith), c .slice-known3 .given low)))
-          (rw (kept (l .m - 1) (omega arith), kept (l .m - 1 - a .q) (omega arith), kept low (omega arith))),
+      added-more (a .words .now) (64 * a .q + a .r) (length (a .words .now)) (l .words) (l .m) (l .m - 1) _ (omega arith) (omega arith) (l .inv .3)
+          (rw (kept (l .m - 1) (omega arith), kept (l .m - 1 - a .q) (omega arith), kept low (omega arith))
+          (new-bits (a .words .now) (a .q) (a .r) (start .pre .1 .0) (start .pre .1 .1) (l .m - 1) (omega arith) (omega (arith, kept low (omega arith), c .slice-known3 .given low)))),
     )
 
 mul-words-5 : tie.Need-mul-words-5 Inv-loop μ-loop
@@ -111,9 +111,8 @@ returns c =
     let a = start .args in
     let kept = l .inv .3 .below in
     added-all (a .words .now) (64 * a .q + a .r) (length (a .words .now)) _ (a .q) (omega arith)
-    (added-more (a .words .now) (64 * a .q + a .r) (length (a .words .now)) (l .words) (l .m) (a .q) _ _ (omega arith) (omega arith) (l .inv .3)
-    (moved-lowest (a .words .now) (a .q) (a .r) (start .pre .1 .0) (start .pre .1 .1))
-    (rw (kept (a .q) (omega arith), kept 0 (omega arith))))
+    (added-more (a .words .now) (64 * a .q + a .r) (length (a .words .now)) (l .words) (l .m) (a .q) _ (omega arith) (omega arith) (l .inv .3)
+    (rw (kept (a .q) (omega arith), kept 0 (omega arith)) (new-lowest (a .words .now) (a .q) (a .r) (start .pre .1 .0) (start .pre .1 .1))))
 
 pub add-bits-spec : {M : Type 1} → statement M
 add-bits-spec =

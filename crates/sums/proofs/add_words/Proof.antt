@@ -4,7 +4,7 @@ use native.Mathlib.Omega.{arith}
 use lib.ListN.{length, length-set}
 use borrow.Author.Needs.{needs}
 use Rattle.sums.specs.Words.{Added}
-use Rattle.sums.proofs.Words.{moved-words, added-more, added-all}
+use Rattle.sums.proofs.Words.{new-words, added-more, added-all}
 use Rattle.sums.proofs.add_words.Statement.{statement}
 use Rattle.sums.proofs.add_words.Tie as tie
 
@@ -51,9 +51,8 @@ loop-again c =
     let kept = l .inv .2 .below in (
       omega arith,
       simp length-set (l .inv .1),
-      added-more (a .words .now) (64 * a .q) (length (a .words .now)) (l .words) (l .m) (l .m - 1) _ _ (omega arith) (omega arith) (l .inv .2)
-          (moved-words (a .words .now) (a .q) (l .m - 1) (omega arith))
-          (rw (kept (l .m - 1) (omega arith), kept (l .m - 1 - a .q) (omega arith))),
+      added-more (a .words .now) (64 * a .q) (length (a .words .now)) (l .words) (l .m) (l .m - 1) _ (omega arith) (omega arith) (l .inv .2)
+          (rw (kept (l .m - 1) (omega arith), kept (l .m - 1 - a .q) (omega arith)) (new-words (a .words .now) (a .q) (l .m - 1) (omega arith))),
     )
 
 same-length : tie.Need-same-length Inv-loop μ-loop
