@@ -47,6 +47,7 @@ module _ (j : Job) (i t : ℕ) where
   tells-with h (is-not none e) (is-so r e′) = is-so (subst (Reached j (suc i)) (omega arith) (reached-with j i (t - w) r)) (omega arith)
   tells-with h (is-not none e) (is-not none′ e′) = is-not (λ r. elim (reached-either j i t r) [ inl old ↦ none old | inr new ↦ none′ (new .1) ]) (omega arith)
 
+-- each bit tells whether its total is reached
 pub marked-tells : (j : Job) (len i : ℕ) (words : List ℕ) → Marked (j .weights) len i words → (t : ℕ) → t < 64 * len → Tells (Reached j i t) (bit words t)
 marked-tells j len zero words (none-yet d) t h =
     by 0 t
@@ -59,12 +60,14 @@ marked-tells j len (suc i) next (one-more {words = words} d more) t h =
     (λ b. rw (more .short t (omega arith) h b) (tells-without j i t b (before t h)))
     (λ b. rw (more .long t (omega arith) h b) (tells-with j i t b (before t h) (before (t - w) (omega arith))))
 
--- ---- and without those above the budget they are the table
+-- ---- without the totals above the budget they are the table
 
+-- a total within the budget
 tells-within : (j : Job) (n t : ℕ) {y : ℕ} → t ≤ j .budget → Tells (Reached j n t) y → Tells (ReachedWithin j n t) y
 tells-within j n t h (is-so r e) = is-so (record { reached = r; within = h }) e
 tells-within j n t h (is-not none e) = is-not (λ r. none (r .reached)) e
 
+-- the words of all labels, trimmed
 pub bit-table : (j : Job) (len : ℕ) (s words : List ℕ) → len ≡ j .budget / 64 + 1 → Marked (j .weights) len (labels j) s → Trimmed s words (j .budget) len
     → ((m : ℕ) → at words m < 2 ^ 64) → BitTable j words
 bit-table j len s words e d cut narrow = record {
@@ -76,6 +79,7 @@ bit-table j len s words e d cut narrow = record {
 
 -- ---- the answer is read off the table
 
+-- a bit that tells of something is set exactly if it is so
 tells-true : {P : Type 0} {y : ℕ} → Tells P y → T (eqb y 1) → P
 tells-true (is-so p e) s = p
 tells-true {y = y} (is-not none e) s = absurd (let one : y ≡ 1 = eqb-yes s in omega arith)
@@ -84,7 +88,7 @@ true-tells : {P : Type 0} {y : ℕ} → Tells P y → P → T (eqb y 1)
 true-tells (is-so _ e) p = rw e tt
 true-tells (is-not none e) p = absurd (none p)
 
--- within the budget, and at the budget itself
+-- the budget itself is within the budget
 tells-at : (j : Job) (n : ℕ) {y : ℕ} → Tells (ReachedWithin j n (j .budget)) y → Tells (Reached j n (j .budget)) (if (eqb y 1) 1 0)
 unfolding if
 tells-at j n (is-so r e) = is-so (r .reached) (rw e)
@@ -100,6 +104,7 @@ module _ (j : Job) (words : List ℕ) (len : ℕ) (long : len ≡ j .budget / 64
       (λ t m. tells-true (d .set t (omega (arith, upTo-out (64 * len) t (m .0)))) (m .1))
       (λ t r. let h : t < 64 * (j .budget / 64 + 1) = omega (arith, r .within) in (upTo-in (64 * len) t (omega arith), true-tells (d .set t h) r))
 
+  -- the answer
   pub tabled : (told : Bool) (totals : ℕ) → told ≡ isSet words (j .budget) → totals ≡ tally (isSet words) (upTo (64 * len)) → Tabled j (Says.Sums told totals) words
   unfolding YesOrNo isSet
   tabled told totals e₁ e₂ = record {

@@ -21,8 +21,8 @@ pub record NoLabels (words : List ℕ) (len : ℕ) : Type 0 where
   pub lowest : at words 0 ≡ 1
   pub others : (m : ℕ) → 0 < m → m < len → at words m ≡ 0
 
--- t is s with a label of weight w added in the words from lo to len - 1: each total there stays, and each that is reached with w more
--- is reached too. The words below lo are kept
+-- t is s with a label of weight w added in the words from lo to len - 1: a bit is set there if it was, or if the bit of w less was.
+-- The words below lo are kept
 pub record Added (s t : List ℕ) (w lo len : ℕ) : Type 0 where
   pub short : (u : ℕ) → 64 * lo ≤ u → u < 64 * len → u < w → bit t u ≡ bit s u
   pub long : (u : ℕ) → 64 * lo ≤ u → u < 64 * len → w ≤ u → bit t u ≡ max (bit s u) (bit s (u - w))

@@ -56,7 +56,7 @@ fn add_bits(words: &mut [u64], q: usize, r: usize)
     words[q] = words[q] | (words[0] << r);
 }
 
-// A label of weight w. One that weighs more than the last total changes nothing.
+// A label of weight w. One that would reach past the last word changes nothing.
 fn add_label(words: &mut [u64], w: u32)
     ensures { λ _. ⌜ Added (now (words .entry)) (now (words .exit)) w 0 (length (now (words .entry))) ⌝ }
 {
@@ -106,7 +106,7 @@ fn is_set(words: &[u64], t: usize) -> bool
     (words[t / 64] >> (t % 64)) % 2 == 1
 }
 
-// How many bits are set.
+// How many bits are set, bit by bit.
 fn count_totals(words: &[u64]) -> u32
     requires { ⌜ 64 * length (now words) ≤ mostBudget + 1 ⌝ }
     ensures { λ r. ⌜ r ≡ tally (isSet (now (words .entry))) (upTo (64 * length (now (words .entry)))) ⌝ }

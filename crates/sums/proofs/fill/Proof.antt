@@ -1,8 +1,7 @@
 use native.Mathlib.Numerals.{add-one}
 use mathlib.Core.Path.{_≡_, refl, _∙_}
-use Prim.Native.Nat.{ℕ, _-_, _≤_}
+use Prim.Native.Nat.{_-_, _≤_}
 use native.Mathlib.Omega.{arith}
-use mathlib.Core.List.{List}
 use lib.ListN.{length}
 use borrow.Author.Needs.{needs}
 use Rattle.numbers.specs.Handed.{handed}
@@ -15,14 +14,6 @@ Inv-loop weights wbytes words₀ n i₀ words i = (i ≤ n) × (length words ≡
 
 abbrev μ-loop : tie.MeasureT-loop
 μ-loop weights wbytes words₀ n i₀ words i = n - i
-
--- the function's entry, from the loop's head
-abbrev entry : tie.At-loop Inv-loop μ-loop → tie.Start Inv-loop μ-loop
-entry c = c .before .before .before .before .before .before .before .before .before
-
--- the weights that the function is handed
-abbrev weights : tie.Start Inv-loop μ-loop → List ℕ
-weights s = handed (s .args .weights .now) (s .args .wbytes .now)
 
 clear-requires : tie.Need-clear-requires Inv-loop μ-loop
 clear-requires c κs = search needs
@@ -57,9 +48,10 @@ same-length c = c .before .loop .inv .1 ∙ c .before .before .before .before .b
 
 returns : tie.Need-returns Inv-loop μ-loop
 returns c =
-    let head = c .before in
-    let all : head .loop .i ≡ length (weights (entry head)) = omega (arith, head .before .list-length .ensures) in
-    rw (← all, ← head .before .before .before .before .clear .kept .0) (head .loop .inv .2)
+    let l = c .before .loop in
+    let n = c .before .before .list-length in
+    let all : l .i ≡ n .result = omega arith in
+    rw (← n .ensures, ← all, ← c .before .before .before .before .before .clear .kept .0) (l .inv .2)
 
 pub fill-spec : {M : Type 1} → statement M
 fill-spec =

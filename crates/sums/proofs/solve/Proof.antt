@@ -3,7 +3,7 @@ use Prim.Native.Nat.{_+_, _/_, _≤_}
 use lib.ListN.{take, length}
 use lib.Seq.{length-take-le}
 use borrow.Author.Needs.{needs}
-use Rattle.meaning.specs.Job.{jobOf}
+use Rattle.meaning.specs.Job.{Job, jobOf}
 use Rattle.numbers.specs.Handed.{weightsHanded}
 use Rattle.sums.proofs.Meant.{small, roomy, solved}
 use Rattle.sums.proofs.solve.Statement.{statement}
@@ -15,10 +15,14 @@ add-needed c = search needs
 cast-needed : tie.Need-cast-needed
 cast-needed c = search needs
 
+-- the job
+abbrev job : tie.Start → Job
+job s = weightsHanded 4 (s .args .budget) (s .args .weights .now) (s .args .wbytes .now)
+
 -- the needed words are there
 room : (s : tie.Start) → s .args .budget / 64 + 1 ≤ length (s .args .words .now)
 unfolding jobOf
-room s = roomy (weightsHanded 4 (s .args .budget) (s .args .weights .now) (s .args .wbytes .now)) (s .args .words .now) (s .pre)
+room s = roomy (job s) (s .args .words .now) (s .pre)
 
 -- and are lent
 lent : (s : tie.Start) → length (take (s .args .budget / 64 + 1) (s .args .words .now)) ≡ s .args .budget / 64 + 1
@@ -34,7 +38,7 @@ table-requires : tie.Need-table-requires
 unfolding jobOf
 table-requires c κs =
     let s = c .before .before .before .before in
-    (small (weightsHanded 4 (s .args .budget) (s .args .weights .now) (s .args .wbytes .now)) (s .args .words .now) (s .pre), lent s)
+    (small (job s) (s .args .words .now) (s .pre), lent s)
 
 same-length : tie.Need-same-length
 same-length c = search needs
@@ -44,7 +48,7 @@ unfolding jobOf
 returns c =
     let table = c .before .before .table in
     let s = c .before .before .before .before .before .before .before in
-    solved (weightsHanded 4 (s .args .budget) (s .args .weights .now) (s .args .wbytes .now)) (table .result) (s .args .words .now) (table .last .1 .1 .1 .0)
+    solved (job s) (table .result) (s .args .words .now) (table .last .1 .1 .1 .0)
     (s .pre) (table .kept .1 .1 .1 .0 ∙ lent s) (table .ensures)
 
 pub solve-spec : {M : Type 1} → statement M
