@@ -1,0 +1,65 @@
+-- Kind 7: the starts and the shares, as lists with a number for each label.
+-- Assumes nothing.
+use mathlib.Core.Path.{_≡_, refl, sym, ap, _∙_}
+use Prim.Native.Nat.{ℕ, zero, suc, _+_, _*_, _/_, _%_, _≤_, _<_}
+use native.Mathlib.Nat.{div-le-of-le-mul, mul-le-mul-left, mul-comm}
+use native.Mathlib.Omega.{arith}
+use mathlib.Core.List.{List, [], _∷_, map}
+use lib.Dec.{ltb}
+use lib.ListN.{length, take}
+use lib.Seq.{ext-getD}
+use borrow.Author.Tests.{le-ltb}
+use Rattle.meaning.specs.Lists.{at, sum, upTo, if}
+use Rattle.meaning.specs.Job.{Job, labels}
+use Rattle.meaning.specs.Shares.{startOf, remainderOf, spareOf, rankOf, shareOf, sharesOf}
+use Rattle.meaning.proofs.UpTo.{made-at, made-length}
+use Rattle.meaning.proofs.Loops.{sum-more}
+use Rattle.meaning.proofs.SharesSum.{shares-sum}
+use Rattle.shares.specs.Borders.{Started}
+
+-- ---- lists
+
+-- the first members sum to no more than all
+pub front-within : (xs : List ℕ) (i : ℕ) → sum (take i xs) ≤ sum xs
+unfolding sum
+front-within xs zero = omega arith
+front-within [] (suc i) = omega arith
+front-within (x ∷ xs) (suc i) = omega (arith, front-within xs i)
+
+-- no member is more than the sum
+pub member-within : (xs : List ℕ) (i : ℕ) → i < length xs → at xs i ≤ sum xs
+member-within xs i h = omega (arith, sum-more xs i h, front-within xs (suc i))
+
+-- a list that holds a rule's number at each place
+made-of : (f : ℕ → ℕ) (n : ℕ) (xs : List ℕ) → length xs ≡ n → ((i : ℕ) → i < n → at xs i ≡ f i) → xs ≡ map f (upTo n)
+made-of f n xs long each = ext-getD 0 xs (map f (upTo n)) (long ∙ sym (made-length f n)) (λ i h. each i (omega arith) ∙ sym (made-at f n i (omega arith)))
+
+-- ---- starts
+
+-- the whole part of C times a claim over S is no more than C
+pub start-within : (budget claim claimed : ℕ) → claim ≤ claimed → budget * claim / claimed ≤ budget
+start-within budget claim claimed h = div-le-of-le-mul claimed (omega (arith, mul-le-mul-left budget h, mul-comm budget claimed))
+
+module _ (j : Job) where
+  -- every start
+  abbrev pub starts : List ℕ
+  starts = map (startOf j) (upTo (labels j))
+
+  -- ---- shares
+
+  -- a share is no more than C
+  pub share-within : 0 < sum (j .weights) → (i : ℕ) → i < labels j → shareOf j i ≤ j .budget
+  unfolding sharesOf
+  share-within pos i h =
+      omega (arith, member-within (sharesOf j) i (omega (arith, made-length (shareOf j) (labels j))), shares-sum j pos, made-at (shareOf j) (labels j) i h)
+
+  pub shares-made : (xs : List ℕ) → length xs ≡ labels j → ((i : ℕ) → i < labels j → at xs i ≡ shareOf j i) → xs ≡ sharesOf j
+  unfolding sharesOf
+  shares-made = made-of (shareOf j) (labels j)
+
+  -- with no unit to give, the starts are the shares
+  pub none-spare : (claimed : ℕ) (xs : List ℕ) → spareOf j ≡ 0 → Started j claimed xs → xs ≡ sharesOf j
+  unfolding shareOf if
+  none-spare claimed xs none s =
+      shares-made xs (s .long)
+      (λ i h. s .each i h ∙ rw (le-ltb (rankOf j i) (spareOf j) (omega arith)) (omega arith))

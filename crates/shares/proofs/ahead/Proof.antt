@@ -1,0 +1,24 @@
+use borrow.Author.Needs.{needs}
+use Rattle.shares.proofs.ahead.Statement.{statement}
+use Rattle.shares.proofs.ahead.Tie as tie
+use Rattle.shares.proofs.ahead.Reads as reads
+use Rattle.shares.proofs.ahead.Lts as lts
+
+-- src/lib.rt:84:25
+sub-result : tie.Need-sub-result
+sub-result c = search needs
+
+-- src/lib.rt:84:25
+sub-result-2 : tie.Need-sub-result-2
+sub-result-2 c = search needs
+
+-- src/lib.rt:84:9
+returns : tie.Need-returns
+returns c = ?
+
+-- src/lib.rt:79:1
+returns-2 : tie.Need-returns-2
+returns-2 c = ?
+
+pub ahead-spec : {M : Type 1} → statement M
+ahead-spec = tie.close (tie.spec sub-result sub-result-2 returns returns-2)

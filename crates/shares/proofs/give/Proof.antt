@@ -1,0 +1,83 @@
+use Rattle.shares.proofs.give.Statement.{statement}
+use Rattle.shares.proofs.give.Tie as tie
+use Rattle.shares.proofs.give.Reads as reads
+use Rattle.shares.proofs.give.Lts as lts
+use Rattle.shares.proofs.stands.Reads as stands-reads
+
+abbrev Inv-loop : tie.InvT-loop
+Inv-loop budget weights wbytes claimed shares₀ border turn n i₀ shares i = ?
+
+abbrev μ-loop : tie.MeasureT-loop
+μ-loop budget weights wbytes claimed shares₀ border turn n i₀ shares i = ?
+
+-- src/lib.rt:162:5
+loop-holds : tie.Need-loop-holds Inv-loop μ-loop
+loop-holds c = ?
+
+-- src/lib.rt:163:21
+mul-start : tie.Need-mul-start Inv-loop μ-loop
+mul-start c = ?
+
+-- src/lib.rt:163:21
+slice-read-start : tie.Need-slice-read-start Inv-loop μ-loop
+slice-read-start c = ?
+
+-- src/lib.rt:164:29
+stands-requires : tie.Need-stands-requires Inv-loop μ-loop
+stands-requires c κs = ?
+
+-- src/lib.rt:164:29
+cast-shares : tie.Need-cast-shares Inv-loop μ-loop
+cast-shares c = ?
+
+-- src/lib.rt:164:21
+add-shares : tie.Need-add-shares Inv-loop μ-loop
+add-shares c = ?
+
+-- src/lib.rt:164:9
+mul-shares : tie.Need-mul-shares Inv-loop μ-loop
+mul-shares c = ?
+
+-- src/lib.rt:164:9
+slice-write-shares : tie.Need-slice-write-shares Inv-loop μ-loop
+slice-write-shares c = ?
+
+-- src/lib.rt:165:9
+add-i : tie.Need-add-i Inv-loop μ-loop
+add-i c = ?
+
+-- src/lib.rt:162:5
+loop-less : tie.Need-loop-less Inv-loop μ-loop
+loop-less c = ?
+
+-- src/lib.rt:162:5
+loop-again : tie.Need-loop-again Inv-loop μ-loop
+loop-again c = ?
+
+-- src/lib.rt:155:1
+same-length : tie.Need-same-length Inv-loop μ-loop
+same-length c = ?
+
+-- src/lib.rt:155:1
+returns : tie.Need-returns Inv-loop μ-loop
+returns c = ?
+
+pub give-spec : {M : Type 1} → statement M
+give-spec =
+    tie.close
+    (tie.spec
+    Inv-loop
+    μ-loop
+    loop-holds
+    mul-start
+    slice-read-start
+    stands-requires
+    cast-shares
+    add-shares
+    mul-shares
+    slice-write-shares
+    add-i
+    loop-less
+    loop-again
+    same-length
+    returns)

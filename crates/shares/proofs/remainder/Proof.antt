@@ -1,0 +1,19 @@
+use Rattle.shares.proofs.remainder.Statement.{statement}
+use Rattle.shares.proofs.remainder.Tie as tie
+use Rattle.shares.proofs.remainder.Reads as reads
+use Rattle.shares.proofs.remainder.Lts as lts
+
+-- src/lib.rt:55:15
+mul-result : tie.Need-mul-result
+mul-result c = ?
+
+-- src/lib.rt:55:5
+sub-result : tie.Need-sub-result
+sub-result c = ?
+
+-- src/lib.rt:51:1
+returns : tie.Need-returns
+returns c = ?
+
+pub remainder-spec : {M : Type 1} → statement M
+remainder-spec = tie.close (tie.spec mul-result sub-result returns)
