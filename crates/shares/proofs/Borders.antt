@@ -2,14 +2,14 @@
 -- Assumes nothing.
 use mathlib.Core.Path.{_≡_, refl, sym}
 use mathlib.Core.Logic.{_⊎_, inl, inr}
-use Prim.Native.Nat.{ℕ, _+_, _-_, _≤_, _<_}
+use Prim.Native.Nat.{ℕ, _+_, _-_, _*_, _≤_, _<_}
 use native.Mathlib.Nat.{mod-lt}
 use native.Mathlib.Omega.{arith}
 use mathlib.Core.Bool.{Bool, true, false}
 use lib.Dec.{T, leb, ltb, eqb}
 use mir.Facts.{ltb-yes, leb-yes, yes-ltb, yes-leb}
 use borrow.Author.Tests.{eqb-true, eq-eqb, ne-eqb, lt-ltb, le-ltb}
-use Rattle.meaning.specs.Lists.{sum, upTo, if}
+use Rattle.meaning.specs.Lists.{at, sum, upTo, if}
 use Rattle.meaning.specs.Job.{Job, labels}
 use Rattle.meaning.specs.Shares.{remainderOf, spareOf, precedes, tally, rankOf}
 use Rattle.meaning.proofs.UpTo.{upTo-length}
@@ -57,18 +57,18 @@ module _ (j : Job) where
 
   -- who stands at a border or before it goes before one that does not
   ahead-before : (border turn i m : ℕ) → ¬ T (aheadIn j border turn i) → T (aheadIn j border turn m) → T (precedes j m i)
-  ahead-before border turn i m no a =
+  ahead-before border turn i m not-i a =
       precedes-in j m i (by (rem i) (rem m)
       (λ less. inl less)
       (λ ge. by border (rem i)
-      (λ less. absurd (no (ahead-in (rem i) n i border turn (inl less))))
+      (λ less. absurd (not-i (ahead-in (rem i) n i border turn (inl less))))
       (λ le. inr (same le ge (ahead-out (rem m) n m border turn a)))))
     where
       same : rem i ≤ border → rem m ≤ rem i → (border < rem m) ⊎ ((border ≡ rem m) × (turn ≤ n - 1 - m)) → (rem m ≡ rem i) × (m < i)
       same le ge (inl x) = absurd (omega arith)
       same le ge (inr x) =
           (omega arith,
-          by m i (λ less. less) (λ more. absurd (no (ahead-in (rem i) n i border turn (inr (omega arith, omega arith))))))
+          by m i (λ less. less) (λ more. absurd (not-i (ahead-in (rem i) n i border turn (inr (omega arith, omega arith))))))
 
   -- ---- counts
 

@@ -2,7 +2,7 @@
 -- Assumes nothing.
 use mathlib.Core.Path.{_≡_, refl, sym, ap, _∙_}
 use Prim.Native.Nat.{ℕ, zero, suc, _+_, _*_, _/_, _%_, _≤_, _<_}
-use native.Mathlib.Nat.{div-le-of-le-mul, mul-le-mul-left, mul-comm}
+use native.Mathlib.Nat.{div-add-mod', div-le-of-le-mul, mul-le-mul-left, mul-comm}
 use native.Mathlib.Omega.{arith}
 use mathlib.Core.List.{List, [], _∷_, map}
 use lib.Dec.{ltb}
@@ -39,6 +39,20 @@ made-of f n xs long each = ext-getD 0 xs (map f (upTo n)) (long ∙ sym (made-le
 -- the whole part of C times a claim over S is no more than C
 pub start-within : (budget claim claimed : ℕ) → claim ≤ claimed → budget * claim / claimed ≤ budget
 start-within budget claim claimed h = div-le-of-le-mul claimed (omega (arith, mul-le-mul-left budget h, mul-comm budget claimed))
+
+-- the division by the start that is kept: what is left is the remainder
+pub whole : (product start claimed : ℕ) → start ≡ product / claimed → start * claimed + product % claimed ≡ product
+whole product start claimed e = ap (λ (x : ℕ). x * claimed + product % claimed) e ∙ div-add-mod' product claimed
+
+-- the product of C and claim i over S
+module _ (j : Job) (i product claim claimed : ℕ) (made : product ≡ j .budget * claim) (read : claim ≡ at (j .weights) i) (summed : claimed ≡ sum (j .weights)) where
+  pub kept-start : product / claimed ≡ startOf j i
+  unfolding startOf
+  kept-start = rw (made, read, summed)
+
+  pub kept-remainder : product % claimed ≡ remainderOf j i
+  unfolding remainderOf
+  kept-remainder = rw (made, read, summed)
 
 module _ (j : Job) where
   -- every start

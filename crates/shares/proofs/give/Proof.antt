@@ -1,3 +1,14 @@
+use mathlib.Core.Path.{_≡_}
+use Prim.Native.Nat.{_+_, _-_, _≤_}
+use native.Mathlib.Omega.{arith}
+use lib.ListN.{length, take}
+use Rattle.meaning.specs.Lists.{sum, upTo}
+use Rattle.meaning.specs.Shares.{startOf, shareOf, tally}
+use Rattle.numbers.specs.Handed.{weightsHanded}
+use Rattle.rows.specs.Rows.{Stored}
+use Rattle.shares.specs.Borders.{aheadIn}
+use Rattle.shares.proofs.Starts.{starts}
+use borrow.Author.Needs.{needs}
 use Rattle.shares.proofs.give.Statement.{statement}
 use Rattle.shares.proofs.give.Tie as tie
 use Rattle.shares.proofs.give.Reads as reads
@@ -5,10 +16,10 @@ use Rattle.shares.proofs.give.Lts as lts
 use Rattle.shares.proofs.stands.Reads as stands-reads
 
 abbrev Inv-loop : tie.InvT-loop
-Inv-loop budget weights wbytes claimed shares₀ border turn n i₀ shares i = ?
+Inv-loop budget weights wbytes claimed shares₀ border turn n i₀ shares i = (i ≤ n) × (length shares ≡ length shares₀) × Stored shares₀ shares 0 0 i (shareOf (weightsHanded 7 budget weights wbytes))
 
 abbrev μ-loop : tie.MeasureT-loop
-μ-loop budget weights wbytes claimed shares₀ border turn n i₀ shares i = ?
+μ-loop budget weights wbytes claimed shares₀ border turn n i₀ shares i = n - i
 
 -- src/lib.rt:162:5
 loop-holds : tie.Need-loop-holds Inv-loop μ-loop
@@ -16,11 +27,11 @@ loop-holds c = ?
 
 -- src/lib.rt:163:21
 mul-start : tie.Need-mul-start Inv-loop μ-loop
-mul-start c = ?
+mul-start c = search needs
 
 -- src/lib.rt:163:21
 slice-read-start : tie.Need-slice-read-start Inv-loop μ-loop
-slice-read-start c = ?
+slice-read-start c = search needs
 
 -- src/lib.rt:164:29
 stands-requires : tie.Need-stands-requires Inv-loop μ-loop
@@ -36,19 +47,19 @@ add-shares c = ?
 
 -- src/lib.rt:164:9
 mul-shares : tie.Need-mul-shares Inv-loop μ-loop
-mul-shares c = ?
+mul-shares c = search needs
 
 -- src/lib.rt:164:9
 slice-write-shares : tie.Need-slice-write-shares Inv-loop μ-loop
-slice-write-shares c = ?
+slice-write-shares c = search needs
 
 -- src/lib.rt:165:9
 add-i : tie.Need-add-i Inv-loop μ-loop
-add-i c = ?
+add-i c = search needs
 
 -- src/lib.rt:162:5
 loop-less : tie.Need-loop-less Inv-loop μ-loop
-loop-less c = ?
+loop-less c = search needs
 
 -- src/lib.rt:162:5
 loop-again : tie.Need-loop-again Inv-loop μ-loop
@@ -56,7 +67,7 @@ loop-again c = ?
 
 -- src/lib.rt:155:1
 same-length : tie.Need-same-length Inv-loop μ-loop
-same-length c = ?
+same-length c = search needs
 
 -- src/lib.rt:155:1
 returns : tie.Need-returns Inv-loop μ-loop

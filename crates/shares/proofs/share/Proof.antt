@@ -1,0 +1,60 @@
+use borrow.Author.Needs.{needs}
+use Rattle.shares.proofs.share.Statement.{statement}
+use Rattle.shares.proofs.share.Tie as tie
+use Rattle.shares.proofs.share.Reads as reads
+use Rattle.shares.proofs.share.Lts as lts
+use Rattle.shares.proofs.border_remainder.Reads as border-remainder-reads
+use Rattle.shares.proofs.border_turn.Reads as border-turn-reads
+use Rattle.shares.proofs.claims_sum.Reads as claims-sum-reads
+use Rattle.shares.proofs.give.Reads as give-reads
+use Rattle.shares.proofs.write_starts.Reads as write-starts-reads
+
+-- src/lib.rt:177:9
+claims-sum-requires : tie.Need-claims-sum-requires
+claims-sum-requires c κs = search needs
+
+-- src/lib.rt:178:9
+write-starts-requires : tie.Need-write-starts-requires
+write-starts-requires c κs = search needs
+
+-- src/lib.rt:180:9
+same-length : tie.Need-same-length
+same-length c = search needs
+
+-- src/lib.rt:180:9
+returns : tie.Need-returns
+returns c = ?
+
+-- src/lib.rt:182:9
+border-remainder-requires : tie.Need-border-remainder-requires
+border-remainder-requires c κs = search needs
+
+-- src/lib.rt:183:9
+border-turn-requires : tie.Need-border-turn-requires
+border-turn-requires c κs = search needs
+
+-- src/lib.rt:184:5
+give-requires : tie.Need-give-requires
+give-requires c κs = search needs
+
+-- src/lib.rt:172:1
+same-length-2 : tie.Need-same-length-2
+same-length-2 c = search needs
+
+-- src/lib.rt:172:1
+returns-2 : tie.Need-returns-2
+returns-2 c = search needs
+
+pub share-spec : {M : Type 1} → statement M
+share-spec =
+    tie.close
+    (tie.spec
+    claims-sum-requires
+    write-starts-requires
+    same-length
+    returns
+    border-remainder-requires
+    border-turn-requires
+    give-requires
+    same-length-2
+    returns-2)
