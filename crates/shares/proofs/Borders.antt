@@ -4,20 +4,32 @@ use mathlib.Core.Path.{_≡_, refl, sym}
 use mathlib.Core.Logic.{_⊎_, inl, inr}
 use Prim.Native.Nat.{ℕ, _+_, _-_, _*_, _≤_, _<_}
 use native.Mathlib.Nat.{mod-lt}
+use native.Mathlib.Numerals.{add-one}
 use native.Mathlib.Omega.{arith}
 use mathlib.Core.Bool.{Bool, true, false}
 use lib.Dec.{T, leb, ltb, eqb}
+use mir.Val.{boolByte}
 use mir.Facts.{ltb-yes, leb-yes, yes-ltb, yes-leb}
 use borrow.Author.Tests.{eqb-true, eq-eqb, ne-eqb, lt-ltb, le-ltb}
 use Rattle.meaning.specs.Lists.{at, sum, upTo, if}
 use Rattle.meaning.specs.Job.{Job, labels}
 use Rattle.meaning.specs.Shares.{remainderOf, spareOf, precedes, tally, rankOf}
 use Rattle.meaning.proofs.UpTo.{upTo-length}
-use Rattle.meaning.proofs.Tally.{tally-le, all-tally, tally-below}
+use Rattle.meaning.proofs.Tally.{tally-le, all-tally, tally-step, tally-below}
 use Rattle.meaning.proofs.Ranks.{precedes-out, precedes-in}
 use Rattle.meaning.proofs.SharesSum.{sumOver, spare-few}
 use Rattle.rows.proofs.Stores.{by}
 use Rattle.shares.specs.Borders.{aheadOf, aheadIn, countOf, Between}
+use Rattle.shares.proofs.Starts.{one-or-none}
+
+-- a test counts for one at most
+pub bit-small : (b : Bool) → boolByte b ≤ 1
+bit-small true = omega arith
+bit-small false = omega arith
+
+-- a label more is counted
+pub tally-more : (f : ℕ → Bool) (i count : ℕ) (b : Bool) → b ≡ f i → count ≡ tally f (upTo i) → count + boolByte b ≡ tally f (upTo (i + 1))
+tally-more f i count b e c = rw add-one (rw (one-or-none b, e, c, tally-step))
 
 -- ---- the order: what stands at a border or before it. Nothing below looks at the text of `aheadOf`
 
@@ -115,6 +127,14 @@ module _ (j : Job) where
   between-turns border b =
       let some : 0 < n = omega (arith, count-most border 0) in
       (record { none-left = b .none-left; some-left = omega (arith, count-past border some) }, some)
+
+  -- a count at a border between the two says on which side of it the units run out
+  module _ (low low-turn high high-turn border turn spare count : ℕ) (b : Between j low low-turn high high-turn) (whole : spare ≡ spareOf j) (counted : count ≡ countOf j border turn) where
+    pub raise-low : spare ≤ count → Between j border turn high high-turn
+    raise-low h = record { none-left = omega arith; some-left = b .some-left }
+
+    pub lower-high : count < spare → Between j low low-turn border turn
+    lower-high h = record { none-left = b .none-left; some-left = omega arith }
 
   -- the labels at the border or before it are those that get a unit
   pub ahead-served : (border turn : ℕ) → Between j border turn border (turn + 1) → (i : ℕ) → i < n → aheadIn j border turn i ≡ ltb (rankOf j i) (spareOf j)

@@ -1,11 +1,14 @@
 -- Kind 7: the starts and the shares, as lists with a number for each label.
 -- Assumes nothing.
 use mathlib.Core.Path.{_≡_, refl, sym, ap, _∙_}
-use Prim.Native.Nat.{ℕ, zero, suc, _+_, _*_, _/_, _%_, _≤_, _<_}
-use native.Mathlib.Nat.{div-add-mod', div-le-of-le-mul, mul-le-mul-left, mul-comm}
+use Prim.Native.Nat.{ℕ, zero, suc, _+_, _-_, _*_, _/_, _%_, _≤_, _<_}
+use native.Mathlib.Nat.{div-add-mod', div-le-of-le-mul, mul-le-mul-left, mul-comm, zero-add}
+use native.Mathlib.Numerals.{add-one}
 use native.Mathlib.Omega.{arith}
 use mathlib.Core.List.{List, [], _∷_, map}
+use mathlib.Core.Bool.{Bool, true, false}
 use lib.Dec.{ltb}
+use mir.Val.{boolByte}
 use lib.ListN.{length, take}
 use lib.Seq.{ext-getD}
 use borrow.Author.Tests.{le-ltb}
@@ -13,9 +16,16 @@ use Rattle.meaning.specs.Lists.{at, sum, upTo, if}
 use Rattle.meaning.specs.Job.{Job, labels}
 use Rattle.meaning.specs.Shares.{startOf, remainderOf, spareOf, rankOf, shareOf, sharesOf}
 use Rattle.meaning.proofs.UpTo.{made-at, made-length}
-use Rattle.meaning.proofs.Loops.{sum-more}
-use Rattle.meaning.proofs.SharesSum.{shares-sum}
+use Rattle.meaning.proofs.Loops.{sum-more, sum-done}
+use Rattle.meaning.proofs.SharesSum.{sumOver, starts-within, shares-sum}
+use Rattle.rows.specs.Rows.{Stored}
 use Rattle.shares.specs.Borders.{Started}
+
+-- a test as a number
+pub one-or-none : (b : Bool) → boolByte b ≡ if b 1 0
+unfolding if
+one-or-none true = refl
+one-or-none false = refl
 
 -- ---- lists
 
@@ -54,10 +64,29 @@ module _ (j : Job) (i product claim claimed : ℕ) (made : product ≡ j .budget
   unfolding remainderOf
   kept-remainder = rw (made, read, summed)
 
+-- the places that a loop stored, from the first on
+pub stored-each : (s t : List ℕ) (n : ℕ) (rule : ℕ → ℕ) → Stored s t 0 0 n rule → (i : ℕ) → i < n → at t i ≡ rule i
+stored-each s t n rule d i h = ap (at t) (sym (zero-add i)) ∙ d .cells i (omega arith) h
+
 module _ (j : Job) where
   -- every start
   abbrev pub starts : List ℕ
   starts = map (startOf j) (upTo (labels j))
+
+  -- one start less
+  pub spare-step : 0 < sum (j .weights) → (i start spare : ℕ) → i < labels j → start ≡ startOf j i → spare + sum (take i starts) ≡ j .budget
+      → (start ≤ spare) × (spare - start + sum (take (i + 1) starts) ≡ j .budget)
+  unfolding sumOver labels
+  spare-step pos i start spare h e rest =
+      let more : sum (take (i + 1) starts) ≡ sum (take i starts) + start =
+      rw add-one (sum-more starts i (omega (arith, made-length (startOf j) (labels j))) ∙ omega (arith, made-at (startOf j) (labels j) i h)) in
+      let fits : start ≤ spare = omega (arith, front-within starts (i + 1), starts-within j pos) in
+      (fits, omega arith)
+
+  -- every start less
+  pub spare-done : (i spare : ℕ) → labels j ≤ i → spare + sum (take i starts) ≡ j .budget → spare ≡ spareOf j
+  unfolding spareOf
+  spare-done i spare h rest = omega (arith, sum-done starts (sum (take i starts)) i (omega (arith, made-length (startOf j) (labels j))) refl)
 
   -- ---- shares
 
@@ -77,3 +106,8 @@ module _ (j : Job) where
   none-spare claimed xs none s =
       shares-made xs (s .long)
       (λ i h. s .each i h ∙ rw (le-ltb (rankOf j i) (spareOf j) (omega arith)) (omega arith))
+
+  -- a start, and a unit where the label gets one
+  pub share-given : (i start : ℕ) (b : Bool) → start ≡ startOf j i → b ≡ ltb (rankOf j i) (spareOf j) → start + boolByte b ≡ shareOf j i
+  unfolding shareOf
+  share-given i start b e f = rw (one-or-none b, f, e)

@@ -1,14 +1,13 @@
-use mathlib.Core.Path.{_≡_}
-use Prim.Native.Nat.{_+_, _-_, _≤_}
+use mathlib.Core.Path.{_≡_, ap, _∙_}
+use Prim.Native.Nat.{ℕ, _-_, _≤_}
 use native.Mathlib.Omega.{arith}
-use lib.ListN.{length, take}
-use Rattle.meaning.specs.Lists.{sum, upTo}
-use Rattle.meaning.specs.Shares.{startOf, shareOf, tally}
-use Rattle.numbers.specs.Handed.{weightsHanded}
-use Rattle.rows.specs.Rows.{Stored}
-use Rattle.shares.specs.Borders.{aheadIn}
-use Rattle.shares.proofs.Starts.{starts}
 use borrow.Author.Needs.{needs}
+use Rattle.meaning.specs.Lists.{upTo}
+use Rattle.meaning.specs.Job.{Job, jobOf, labels}
+use Rattle.meaning.specs.Shares.{tally}
+use Rattle.numbers.specs.Handed.{weightsHanded}
+use Rattle.shares.specs.Borders.{aheadIn, countOf}
+use Rattle.shares.proofs.Borders.{tally-more, bit-small}
 use Rattle.shares.proofs.count_ahead.Statement.{statement}
 use Rattle.shares.proofs.count_ahead.Tie as tie
 use Rattle.shares.proofs.count_ahead.Reads as reads
@@ -20,6 +19,9 @@ Inv-loop budget weights wbytes claimed starts border turn n count₀ i₀ count 
 
 abbrev μ-loop : tie.MeasureT-loop
 μ-loop budget weights wbytes claimed starts border turn n count₀ i₀ count i = n - i
+
+abbrev job : tie.Start Inv-loop μ-loop → Job
+job s = weightsHanded 7 (s .args .budget) (s .args .weights .now) (s .args .wbytes .now)
 
 -- src/lib.rt:108:5
 loop-holds : tie.Need-loop-holds Inv-loop μ-loop
@@ -36,15 +38,19 @@ shared-slice-read-start c = search needs
 
 -- src/lib.rt:110:18
 stands-requires : tie.Need-stands-requires Inv-loop μ-loop
-stands-requires c κs = ?
+unfolding jobOf labels
+stands-requires c κs =
+    let s = c .before .before .before .before .before .before in
+    let i = c .before .before .loop .i in
+    ((s .pre .summed, (s .pre .long, omega arith)), s .pre .each i (omega (arith, s .pre .long)))
 
 -- src/lib.rt:110:18
 cast-count : tie.Need-cast-count Inv-loop μ-loop
-cast-count c = ?
+cast-count c = tt
 
 -- src/lib.rt:110:9
 add-count : tie.Need-add-count Inv-loop μ-loop
-add-count c = ?
+add-count c = omega (arith, bit-small (c .stands .result))
 
 -- src/lib.rt:111:9
 add-i : tie.Need-add-i Inv-loop μ-loop
@@ -56,11 +62,19 @@ loop-less c = search needs
 
 -- src/lib.rt:108:5
 loop-again : tie.Need-loop-again Inv-loop μ-loop
-loop-again c = ?
+loop-again c =
+    let l = c .before .before .before .loop in
+    let s = c .before .before .before .before .before .before .before in
+    (omega arith, omega (arith, bit-small (c .stands .result)), tally-more (aheadIn (job s) (s .args .border) (s .args .turn)) (l .i) (l .count) (c .stands .result) (c .stands .ensures) (l .inv .2))
 
 -- src/lib.rt:101:1
 returns : tie.Need-returns Inv-loop μ-loop
-returns c = ?
+unfolding countOf
+returns c =
+    let s = c .before .before .before .before .before in
+    let l = c .before .loop in
+    let all : l .i ≡ labels (job s) = omega (arith, s .pre .long) in
+    l .inv .2 ∙ ap (λ (k : ℕ). tally (aheadIn (job s) (s .args .border) (s .args .turn)) (upTo k)) all
 
 pub count-ahead-spec : {M : Type 1} → statement M
 count-ahead-spec =

@@ -1,14 +1,17 @@
-use mathlib.Core.Path.{_≡_}
+use mathlib.Core.Path.{_≡_, refl, _∙_}
 use Prim.Native.Nat.{_+_, _-_, _≤_}
 use native.Mathlib.Omega.{arith}
-use lib.ListN.{length, take}
-use Rattle.meaning.specs.Lists.{sum, upTo}
-use Rattle.meaning.specs.Shares.{startOf, shareOf, tally}
+use lib.ListN.{length, length-set}
+use mir.Val.{boolByte}
+use borrow.Author.Needs.{needs}
+use Rattle.meaning.specs.Lists.{at}
+use Rattle.meaning.specs.Job.{Job, jobOf, labels}
+use Rattle.meaning.specs.Shares.{shareOf}
 use Rattle.numbers.specs.Handed.{weightsHanded}
 use Rattle.rows.specs.Rows.{Stored}
-use Rattle.shares.specs.Borders.{aheadIn}
-use Rattle.shares.proofs.Starts.{starts}
-use borrow.Author.Needs.{needs}
+use Rattle.rows.proofs.Stores.{stored-none, stored-up}
+use Rattle.shares.proofs.Starts.{stored-each, share-within, share-given, shares-made}
+use Rattle.shares.proofs.Borders.{ahead-served}
 use Rattle.shares.proofs.give.Statement.{statement}
 use Rattle.shares.proofs.give.Tie as tie
 use Rattle.shares.proofs.give.Reads as reads
@@ -21,9 +24,12 @@ Inv-loop budget weights wbytes claimed shares₀ border turn n i₀ shares i = (
 abbrev μ-loop : tie.MeasureT-loop
 μ-loop budget weights wbytes claimed shares₀ border turn n i₀ shares i = n - i
 
+abbrev job : tie.Start Inv-loop μ-loop → Job
+job s = weightsHanded 7 (s .args .budget) (s .args .weights .now) (s .args .wbytes .now)
+
 -- src/lib.rt:162:5
 loop-holds : tie.Need-loop-holds Inv-loop μ-loop
-loop-holds c = ?
+loop-holds c = let s = c .before .before .before in (omega arith, refl, stored-none (s .args .shares .now) 0 0 0 (shareOf (job s)) (omega arith))
 
 -- src/lib.rt:163:21
 mul-start : tie.Need-mul-start Inv-loop μ-loop
@@ -35,11 +41,15 @@ slice-read-start c = search needs
 
 -- src/lib.rt:164:29
 stands-requires : tie.Need-stands-requires Inv-loop μ-loop
-stands-requires c κs = ?
+unfolding jobOf labels
+stands-requires c κs =
+    let s = c .before .before .before .before .before .before in
+    let l = c .before .before .loop in
+    ((s .pre .0 .summed, (s .pre .0 .long, omega arith)), l .inv .2 .past (l .i) (omega arith) ∙ s .pre .0 .each (l .i) (omega (arith, s .pre .0 .long)))
 
 -- src/lib.rt:164:29
 cast-shares : tie.Need-cast-shares Inv-loop μ-loop
-cast-shares c = ?
+cast-shares c = tt
 
 -- src/lib.rt:164:21
 add-shares : tie.Need-add-shares Inv-loop μ-loop

@@ -1,14 +1,15 @@
-use mathlib.Core.Path.{_≡_}
-use Prim.Native.Nat.{_+_, _-_, _≤_}
+use mathlib.Core.Path.{_≡_, sym, ap, _∙_}
+use Prim.Native.Nat.{ℕ, _+_, _-_, _≤_, _<_}
 use native.Mathlib.Omega.{arith}
-use lib.ListN.{length, take}
-use Rattle.meaning.specs.Lists.{sum, upTo}
-use Rattle.meaning.specs.Shares.{startOf, shareOf, tally}
-use Rattle.numbers.specs.Handed.{weightsHanded}
-use Rattle.rows.specs.Rows.{Stored}
-use Rattle.shares.specs.Borders.{aheadIn}
-use Rattle.shares.proofs.Starts.{starts}
+use lib.ListN.{length, take, length-set}
 use borrow.Author.Needs.{needs}
+use Rattle.meaning.specs.Lists.{sum}
+use Rattle.meaning.specs.Job.{Job, jobOf, labels}
+use Rattle.meaning.specs.Shares.{startOf}
+use Rattle.numbers.specs.Handed.{handed, weightsHanded}
+use Rattle.rows.specs.Rows.{Stored}
+use Rattle.rows.proofs.Stores.{stored-none, stored-up}
+use Rattle.shares.proofs.Starts.{starts, member-within, start-within, kept-start, stored-each, spare-step, spare-done}
 use Rattle.shares.proofs.write_starts.Statement.{statement}
 use Rattle.shares.proofs.write_starts.Tie as tie
 use Rattle.shares.proofs.write_starts.Reads as reads
@@ -22,6 +23,28 @@ Inv-loop budget weights wbytes claimed shares₀ spare₀ i₀ shares spare i = 
 
 abbrev μ-loop : tie.MeasureT-loop
 μ-loop budget weights wbytes claimed shares₀ spare₀ i₀ shares spare i = length shares₀ - i
+
+abbrev job : tie.Start Inv-loop μ-loop → Job
+job s = weightsHanded 7 (s .args .budget) (s .args .weights .now) (s .args .wbytes .now)
+
+-- what the call of `start` leaves
+module _ (c : tie.After-start Inv-loop μ-loop) where
+  abbrev entry : tie.Start Inv-loop μ-loop
+  entry = c .before .before .before .before .before .before .before .before
+
+  started : c .start .result ≡ startOf (job entry) (c .before .before .before .before .loop .i)
+  unfolding jobOf
+  started =
+      c .start .ensures
+      ∙ kept-start (job entry) (c .before .before .before .before .loop .i) (c .before .wide-product .result) (c .before .before .item .result) (entry .args .claimed)
+      (c .before .wide-product .ensures) (c .before .before .item .ensures) (entry .pre .0 .0)
+
+  abbrev l : _
+  l = c .before .before .before .before .loop
+
+  step : (c .start .result ≤ l .spare) × (l .spare - c .start .result + sum (take (l .i + 1) (starts (job entry))) ≡ entry .args .budget)
+  unfolding jobOf labels
+  step = spare-step (job entry) (omega (arith, entry .pre .0)) (l .i) (c .start .result) (l .spare) (omega (arith, entry .pre .1)) started (l .inv .3)
 
 -- src/lib.rt:66:5
 loop-holds : tie.Need-loop-holds Inv-loop μ-loop
@@ -38,7 +61,14 @@ wide-product-requires c κs = search needs
 
 -- src/lib.rt:68:13
 start-requires : tie.Need-start-requires Inv-loop μ-loop
-start-requires c κs = ?
+unfolding jobOf
+start-requires c κs =
+    let s = c .before .before .before .before .before .before .before in
+    let a = s .args in
+    let i = c .before .before .before .loop .i in
+    let light = member-within (handed (a .weights .now) (a .wbytes .now)) i (omega (arith, s .pre .1)) in
+    let fits = start-within (a .budget) (c .before .item .result) (a .claimed) (omega (arith, light, c .before .item .ensures, s .pre .0 .0)) in
+    (s .pre .0 .1, rw (c .wide-product .ensures) (omega (arith, fits)))
 
 -- src/lib.rt:69:9
 mul-shares : tie.Need-mul-shares Inv-loop μ-loop
@@ -50,7 +80,8 @@ slice-write-shares c = search needs
 
 -- src/lib.rt:70:9
 sub-spare : tie.Need-sub-spare Inv-loop μ-loop
-sub-spare c = ?
+unfolding jobOf labels
+sub-spare c = step c .0
 
 -- src/lib.rt:71:9
 add-i : tie.Need-add-i Inv-loop μ-loop
@@ -62,7 +93,11 @@ loop-less c = search needs
 
 -- src/lib.rt:66:5
 loop-again : tie.Need-loop-again Inv-loop μ-loop
-loop-again c = ?
+unfolding jobOf labels
+loop-again c =
+    let l = c .before .before .before .before .loop in
+    let s = entry c in
+    (omega arith, simp length-set (l .inv .1), stored-up (s .args .shares .now) 0 0 (l .i) (startOf (job s)) (l .shares) (l .i) (c .start .result) (omega arith) (l .inv .2) (omega arith) (omega arith) (started c), step c .1)
 
 -- src/lib.rt:59:1
 same-length : tie.Need-same-length Inv-loop μ-loop
@@ -70,7 +105,17 @@ same-length c = search needs
 
 -- src/lib.rt:59:1
 returns : tie.Need-returns Inv-loop μ-loop
-returns c = ?
+unfolding jobOf labels
+returns c =
+    let s = c .before .before .before .before .before in
+    let l = c .before .loop in
+    let all : l .i ≡ labels (job s) = omega (arith, s .pre .1) in
+    (record {
+      summed = s .pre .0 .0;
+      positive = s .pre .0 .1;
+      long = omega (arith, s .pre .1);
+      each = λ i h. stored-each (s .args .shares .now) (l .shares) (l .i) (startOf (job s)) (l .inv .2) i (omega arith);
+    }, spare-done (job s) (l .i) (l .spare) (omega arith) (l .inv .3))
 
 pub write-starts-spec : {M : Type 1} → statement M
 write-starts-spec =
