@@ -1,5 +1,5 @@
 use mathlib.Core.Path.{_≡_, refl, _∙_}
-use Prim.Native.Nat.{_+_, _-_, _≤_}
+use Prim.Native.Nat.{_+_, _-_, _≤_, _<_}
 use native.Mathlib.Omega.{arith}
 use lib.ListN.{length, length-set}
 use mir.Val.{boolByte}
@@ -27,6 +27,19 @@ abbrev μ-loop : tie.MeasureT-loop
 abbrev job : tie.Start Inv-loop μ-loop → Job
 job s = weightsHanded 7 (s .args .budget) (s .args .weights .now) (s .args .wbytes .now)
 
+-- the start of label i, with the unit that it gets or not
+given : (c : tie.After-stands Inv-loop μ-loop) →
+    let l = c .before .before .before .loop in
+    let s = c .before .before .before .before .before .before .before in
+    at (l .shares) (l .i) + boolByte (c .stands .result) ≡ shareOf (job s) (l .i)
+given c =
+    let l = c .before .before .before .loop in
+    let s = c .before .before .before .before .before .before .before in
+    let inside : l .i < labels (job s) = omega (arith, s .pre .0 .long) in
+    share-given (job s) (l .i) (at (l .shares) (l .i)) (c .stands .result)
+    (l .inv .2 .past (l .i) (omega arith) ∙ s .pre .0 .each (l .i) inside)
+    (c .stands .ensures ∙ ahead-served (job s) (s .args .border) (s .args .turn) (s .pre .1) (l .i) inside)
+
 -- src/lib.rt:162:5
 loop-holds : tie.Need-loop-holds Inv-loop μ-loop
 loop-holds c = let s = c .before .before .before in (omega arith, refl, stored-none (s .args .shares .now) 0 0 0 (shareOf (job s)) (omega arith))
@@ -53,7 +66,11 @@ cast-shares c = tt
 
 -- src/lib.rt:164:21
 add-shares : tie.Need-add-shares Inv-loop μ-loop
-add-shares c = ?
+unfolding jobOf labels
+add-shares c =
+    let l = c .before .before .before .loop in
+    let s = c .before .before .before .before .before .before .before in
+    omega (arith, given c, share-within (job s) (omega (arith, s .pre .0 .summed, s .pre .0 .positive)) (l .i) (omega (arith, s .pre .0 .long)))
 
 -- src/lib.rt:164:9
 mul-shares : tie.Need-mul-shares Inv-loop μ-loop
@@ -73,7 +90,11 @@ loop-less c = search needs
 
 -- src/lib.rt:162:5
 loop-again : tie.Need-loop-again Inv-loop μ-loop
-loop-again c = ?
+loop-again c =
+    let l = c .before .before .before .loop in
+    let s = c .before .before .before .before .before .before .before in
+    let share = at (l .shares) (l .i) + boolByte (c .stands .result) in
+    (omega arith, simp length-set (l .inv .1), stored-up (s .args .shares .now) 0 0 (l .i) (shareOf (job s)) (l .shares) (l .i) share (omega arith) (l .inv .2) (omega arith) (omega arith) (given c))
 
 -- src/lib.rt:155:1
 same-length : tie.Need-same-length Inv-loop μ-loop
@@ -81,7 +102,10 @@ same-length c = search needs
 
 -- src/lib.rt:155:1
 returns : tie.Need-returns Inv-loop μ-loop
-returns c = ?
+returns c =
+    let l = c .before .loop in
+    let s = c .before .before .before .before .before in
+    shares-made (job s) (l .shares) (l .inv .1 ∙ s .pre .0 .long) (λ i h. stored-each (s .args .shares .now) (l .shares) (l .i) (shareOf (job s)) (l .inv .2) i (omega (arith, s .pre .0 .long)))
 
 pub give-spec : {M : Type 1} → statement M
 give-spec =

@@ -1,4 +1,10 @@
+use mathlib.Core.Path.{_≡_, sym}
+use native.Mathlib.Omega.{arith}
 use borrow.Author.Needs.{needs}
+use Rattle.meaning.specs.Job.{Job}
+use Rattle.meaning.specs.Shares.{spareOf}
+use Rattle.numbers.specs.Handed.{weightsHanded}
+use Rattle.shares.proofs.Starts.{none-spare}
 use Rattle.shares.proofs.share.Statement.{statement}
 use Rattle.shares.proofs.share.Tie as tie
 use Rattle.shares.proofs.share.Reads as reads
@@ -8,6 +14,9 @@ use Rattle.shares.proofs.border_turn.Reads as border-turn-reads
 use Rattle.shares.proofs.claims_sum.Reads as claims-sum-reads
 use Rattle.shares.proofs.give.Reads as give-reads
 use Rattle.shares.proofs.write_starts.Reads as write-starts-reads
+
+abbrev job : tie.Start → Job
+job s = weightsHanded 7 (s .args .budget) (s .args .weights .now) (s .args .wbytes .now)
 
 -- src/lib.rt:177:9
 claims-sum-requires : tie.Need-claims-sum-requires
@@ -23,7 +32,11 @@ same-length c = search needs
 
 -- src/lib.rt:180:9
 returns : tie.Need-returns
-returns c = ?
+returns c =
+    let s = c .before .before .before .before .before .before .before .before .before in
+    let w = c .before .before .before .write-starts in
+    let none : spareOf (job s) ≡ 0 = omega (arith, w .ensures .1) in
+    (none-spare (job s) (c .before .before .before .before .before .claims-sum .result) (w .last .1 .1 .1 .1 .0) none (w .ensures .0), sym none)
 
 -- src/lib.rt:182:9
 border-remainder-requires : tie.Need-border-remainder-requires

@@ -39,12 +39,9 @@ module _ (c : tie.After-start Inv-loop μ-loop) where
       ∙ kept-start (job entry) (c .before .before .before .before .loop .i) (c .before .wide-product .result) (c .before .before .item .result) (entry .args .claimed)
       (c .before .wide-product .ensures) (c .before .before .item .ensures) (entry .pre .0 .0)
 
-  abbrev l : _
-  l = c .before .before .before .before .loop
-
-  step : (c .start .result ≤ l .spare) × (l .spare - c .start .result + sum (take (l .i + 1) (starts (job entry))) ≡ entry .args .budget)
+  step : let l = c .before .before .before .before .loop in (c .start .result ≤ l .spare) × (l .spare - c .start .result + sum (take (l .i + 1) (starts (job entry))) ≡ entry .args .budget)
   unfolding jobOf labels
-  step = spare-step (job entry) (omega (arith, entry .pre .0)) (l .i) (c .start .result) (l .spare) (omega (arith, entry .pre .1)) started (l .inv .3)
+  step = let l = c .before .before .before .before .loop in spare-step (job entry) (omega (arith, entry .pre .0)) (l .i) (c .start .result) (l .spare) (omega (arith, entry .pre .1)) started (l .inv .3)
 
 -- src/lib.rt:66:5
 loop-holds : tie.Need-loop-holds Inv-loop μ-loop
