@@ -22,10 +22,9 @@ use Rattle.rows.proofs.Stores.{by}
 use Rattle.shares.specs.Borders.{aheadOf, aheadIn, countOf, Between}
 use Rattle.shares.proofs.Starts.{one-or-none}
 
--- a test counts for one at most
-pub bit-small : (b : Bool) → boolByte b ≤ 1
-bit-small true = omega arith
-bit-small false = omega arith
+-- no more are counted than there are
+pub tally-most : (f : ℕ → Bool) (n : ℕ) → tally f (upTo n) ≤ n
+tally-most f n = omega (arith, tally-le f (λ i. true) (upTo n) (λ i t. tt), all-tally (upTo n), upTo-length n)
 
 -- a label more is counted
 pub tally-more : (f : ℕ → Bool) (i count : ℕ) (b : Bool) → b ≡ f i → count ≡ tally f (upTo i) → count + boolByte b ≡ tally f (upTo (i + 1))
@@ -78,16 +77,12 @@ module _ (j : Job) where
     where
       same : rem i ≤ border → rem m ≤ rem i → (border < rem m) ⊎ ((border ≡ rem m) × (turn ≤ n - 1 - m)) → (rem m ≡ rem i) × (m < i)
       same le ge (inl x) = absurd (omega arith)
-      same le ge (inr x) =
-          (omega arith,
-          by m i (λ less. less) (λ more. absurd (not-i (ahead-in (rem i) n i border turn (inr (omega arith, omega arith))))))
+      same le ge (inr x) = (
+        omega arith,
+        by m i (λ less. less) (λ more. absurd (not-i (ahead-in (rem i) n i border turn (inr (omega arith, omega arith))))),
+      )
 
   -- ---- counts
-
-  -- no more stand at a border than there are labels
-  count-most : (border turn : ℕ) → countOf j border turn ≤ n
-  unfolding countOf
-  count-most border turn = omega (arith, tally-le (aheadIn j border turn) (λ i. true) (upTo n) (λ i t. tt), all-tally (upTo n), upTo-length n)
 
   -- all stand at the lowest border or before it
   count-all : n ≤ countOf j 0 0
@@ -120,21 +115,22 @@ module _ (j : Job) where
   -- where there are units to give, the remainder at which they run out is below S
   pub between-remainders : 0 < sum (j .weights) → 0 < spareOf j → Between j 0 0 (sum (j .weights)) 0
   unfolding spareOf sumOver labels
-  between-remainders pos some = record { none-left = omega (arith, spare-few j pos, count-all); some-left = omega (arith, count-none pos) }
+  between-remainders pos some = record { enough = omega (arith, spare-few j pos, count-all); too-few = omega (arith, count-none pos) }
 
   -- and the turn is below n
   pub between-turns : (border : ℕ) → Between j border 0 (border + 1) 0 → Between j border 0 border n × (0 < n)
+  unfolding countOf
   between-turns border b =
-      let some : 0 < n = omega (arith, count-most border 0) in
-      (record { none-left = b .none-left; some-left = omega (arith, count-past border some) }, some)
+      let some : 0 < n = omega (arith, tally-most (aheadIn j border 0) n) in
+      (record { enough = b .enough; too-few = omega (arith, count-past border some) }, some)
 
   -- a count at a border between the two says on which side of it the units run out
   module _ (low low-turn high high-turn border turn spare count : ℕ) (b : Between j low low-turn high high-turn) (whole : spare ≡ spareOf j) (counted : count ≡ countOf j border turn) where
     pub raise-low : spare ≤ count → Between j border turn high high-turn
-    raise-low h = record { none-left = omega arith; some-left = b .some-left }
+    raise-low h = record { enough = omega arith; too-few = b .too-few }
 
     pub lower-high : count < spare → Between j low low-turn border turn
-    lower-high h = record { none-left = b .none-left; some-left = omega arith }
+    lower-high h = record { enough = b .enough; too-few = omega arith }
 
   -- the labels at the border or before it are those that get a unit
   pub ahead-served : (border turn : ℕ) → Between j border turn border (turn + 1) → (i : ℕ) → i < n → aheadIn j border turn i ≡ ltb (rankOf j i) (spareOf j)
@@ -144,7 +140,7 @@ module _ (j : Job) where
       go : (e : Bool) → aheadIn j border turn i ≡ e → e ≡ ltb (rankOf j i) (spareOf j)
       go true e =
           sym (lt-ltb (rankOf j i) (spareOf j)
-          (omega (arith, b .some-left, tally-le (λ m. precedes j m i) (aheadIn j border (turn + 1)) (upTo n) (λ m p. before-ahead border turn i m inside (rw e tt) p))))
+          (omega (arith, b .too-few, tally-le (λ m. precedes j m i) (aheadIn j border (turn + 1)) (upTo n) (λ m p. before-ahead border turn i m inside (rw e tt) p))))
       go false e =
           sym (le-ltb (rankOf j i) (spareOf j)
-          (omega (arith, b .none-left, tally-le (aheadIn j border turn) (λ m. precedes j m i) (upTo n) (λ m a. ahead-before border turn i m (λ t. rw e at t) a))))
+          (omega (arith, b .enough, tally-le (aheadIn j border turn) (λ m. precedes j m i) (upTo n) (λ m a. ahead-before border turn i m (λ t. rw e at t) a))))

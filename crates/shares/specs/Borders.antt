@@ -17,12 +17,12 @@ pub record Started (j : Job) (claimed : ℕ) (starts : List ℕ) : Type 0 where
   pub long : length starts ≡ labels j
   pub each : (i : ℕ) → i < labels j → at starts i ≡ startOf j i
 
--- a border is a remainder and a turn; of n labels the last has turn 0, and the first has the highest.
--- Label i, which has this remainder, stands at the border or before it
+-- label i of n, which has this remainder, stands at a border or before it. A border is a remainder and a turn: of n labels the last has
+-- turn 0, and the first the highest
 unfoldable pub aheadOf : ℕ → ℕ → ℕ → ℕ → ℕ → Bool
 aheadOf remainder n i border turn = if (eqb remainder border) (leb turn (n - 1 - i)) (ltb border remainder)
 
--- label i of a job stands at the border or before it
+-- label i of a job stands at a border or before it
 abbrev pub aheadIn : Job → ℕ → ℕ → ℕ → Bool
 aheadIn j border turn i = aheadOf (remainderOf j i) (labels j) i border turn
 
@@ -30,8 +30,7 @@ aheadIn j border turn i = aheadOf (remainderOf j i) (labels j) i border turn
 unfoldable pub countOf : Job → ℕ → ℕ → ℕ
 countOf j border turn = tally (aheadIn j border turn) (upTo (labels j))
 
--- the units run out between two borders: there is no unit left after those at the lower or before it, and one after those at the
--- higher or before it
+-- the units run out between two borders: as many labels as there are units, or more, stand at the one or before it, and fewer at the other
 pub record Between (j : Job) (low low-turn high high-turn : ℕ) : Type 0 where
-  pub none-left : spareOf j ≤ countOf j low low-turn
-  pub some-left : countOf j high high-turn < spareOf j
+  pub enough : spareOf j ≤ countOf j low low-turn
+  pub too-few : countOf j high high-turn < spareOf j

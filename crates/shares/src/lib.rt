@@ -56,7 +56,13 @@ fn remainder(product: u64, start: u32, claimed: u64) -> u64
 }
 
 // Every start into its place. Gives the spare, which is the budget less each start in turn.
-fn write_starts(budget: u32, weights: &[u32], wbytes: &[u8], claimed: u64, shares: &mut [u32]) -> u32
+fn write_starts(
+    budget: u32,
+    weights: &[u32],
+    wbytes: &[u8],
+    claimed: u64,
+    shares: &mut [u32],
+) -> u32
     requires { ⌜ (claimed ≡ sum (handed (now weights) (now wbytes))) × (0 < claimed) ⌝ }
     requires { ⌜ length (now shares) ≡ length (handed (now weights) (now wbytes)) ⌝ }
     ensures { λ r. ⌜ Started (weightsHanded 7 budget (now (weights .entry)) (now (wbytes .entry))) claimed (now (shares .exit)) × (r ≡ spareOf (weightsHanded 7 budget (now (weights .entry)) (now (wbytes .entry)))) ⌝ }
@@ -87,7 +93,17 @@ fn ahead(remainder: u64, n: usize, i: usize, border: u64, turn: u64) -> bool
 }
 
 // The same of a label of the job, whose start is kept.
-fn stands(budget: u32, weights: &[u32], wbytes: &[u8], claimed: u64, n: usize, i: usize, start: u32, border: u64, turn: u64) -> bool
+fn stands(
+    budget: u32,
+    weights: &[u32],
+    wbytes: &[u8],
+    claimed: u64,
+    n: usize,
+    i: usize,
+    start: u32,
+    border: u64,
+    turn: u64,
+) -> bool
     requires { ⌜ (claimed ≡ sum (handed (now weights) (now wbytes))) × ((n ≡ length (handed (now weights) (now wbytes))) × (i < n)) ⌝ }
     requires { ⌜ start ≡ startOf (weightsHanded 7 budget (now weights) (now wbytes)) i ⌝ }
     ensures { λ r. ⌜ r ≡ aheadIn (weightsHanded 7 budget (now (weights .entry)) (now (wbytes .entry))) border turn i ⌝ }
@@ -98,7 +114,15 @@ fn stands(budget: u32, weights: &[u32], wbytes: &[u8], claimed: u64, n: usize, i
 }
 
 // How many labels stand at a border or before it.
-fn count_ahead(budget: u32, weights: &[u32], wbytes: &[u8], claimed: u64, starts: &[u32], border: u64, turn: u64) -> usize
+fn count_ahead(
+    budget: u32,
+    weights: &[u32],
+    wbytes: &[u8],
+    claimed: u64,
+    starts: &[u32],
+    border: u64,
+    turn: u64,
+) -> usize
     requires { ⌜ Started (weightsHanded 7 budget (now weights) (now wbytes)) claimed (now starts) ⌝ }
     ensures { λ r. ⌜ r ≡ countOf (weightsHanded 7 budget (now (weights .entry)) (now (wbytes .entry))) border turn ⌝ }
 {
@@ -114,7 +138,14 @@ fn count_ahead(budget: u32, weights: &[u32], wbytes: &[u8], claimed: u64, starts
 }
 
 // The remainder at which the units run out, by halving.
-fn border_remainder(budget: u32, weights: &[u32], wbytes: &[u8], claimed: u64, starts: &[u32], spare: u32) -> u64
+fn border_remainder(
+    budget: u32,
+    weights: &[u32],
+    wbytes: &[u8],
+    claimed: u64,
+    starts: &[u32],
+    spare: u32,
+) -> u64
     requires { ⌜ Started (weightsHanded 7 budget (now weights) (now wbytes)) claimed (now starts) ⌝ }
     requires { ⌜ (spare ≡ spareOf (weightsHanded 7 budget (now weights) (now wbytes))) × (0 < spare) ⌝ }
     ensures { λ r. ⌜ Between (weightsHanded 7 budget (now (weights .entry)) (now (wbytes .entry))) r 0 (r + 1) 0 ⌝ }
@@ -133,7 +164,15 @@ fn border_remainder(budget: u32, weights: &[u32], wbytes: &[u8], claimed: u64, s
 }
 
 // The turn at which they run out among the labels with that remainder, by halving.
-fn border_turn(budget: u32, weights: &[u32], wbytes: &[u8], claimed: u64, starts: &[u32], spare: u32, border: u64) -> u64
+fn border_turn(
+    budget: u32,
+    weights: &[u32],
+    wbytes: &[u8],
+    claimed: u64,
+    starts: &[u32],
+    spare: u32,
+    border: u64,
+) -> u64
     requires { ⌜ Started (weightsHanded 7 budget (now weights) (now wbytes)) claimed (now starts) ⌝ }
     requires { ⌜ (spare ≡ spareOf (weightsHanded 7 budget (now weights) (now wbytes))) × Between (weightsHanded 7 budget (now weights) (now wbytes)) border 0 (border + 1) 0 ⌝ }
     ensures { λ r. ⌜ Between (weightsHanded 7 budget (now (weights .entry)) (now (wbytes .entry))) border r border (r + 1) ⌝ }
@@ -152,7 +191,15 @@ fn border_turn(budget: u32, weights: &[u32], wbytes: &[u8], claimed: u64, starts
 }
 
 // One unit to each label at the border or before it, in place: a label's start is read before it is raised.
-fn give(budget: u32, weights: &[u32], wbytes: &[u8], claimed: u64, shares: &mut [u32], border: u64, turn: u64)
+fn give(
+    budget: u32,
+    weights: &[u32],
+    wbytes: &[u8],
+    claimed: u64,
+    shares: &mut [u32],
+    border: u64,
+    turn: u64,
+)
     requires { ⌜ Started (weightsHanded 7 budget (now weights) (now wbytes)) claimed (now shares) ⌝ }
     requires { ⌜ Between (weightsHanded 7 budget (now weights) (now wbytes)) border turn border (turn + 1) ⌝ }
     ensures { λ _. ⌜ now (shares .exit) ≡ sharesOf (weightsHanded 7 budget (now (weights .entry)) (now (wbytes .entry))) ⌝ }
@@ -161,7 +208,8 @@ fn give(budget: u32, weights: &[u32], wbytes: &[u8], claimed: u64, shares: &mut 
     let mut i = 0;
     while i < n {
         let start = shares[i];
-        shares[i] = start + stands(budget, weights, wbytes, claimed, n, i, start, border, turn) as u32;
+        shares[i] = start
+            + stands(budget, weights, wbytes, claimed, n, i, start, border, turn) as u32;
         i += 1;
     }
 }

@@ -1,17 +1,13 @@
 use mathlib.Core.Path.{_≡_}
 use Prim.Native.Nat.{_+_, _-_, _/_, _≤_, _<_}
 use native.Mathlib.Omega.{arith}
-use lib.ListN.{length}
 use borrow.Author.Needs.{needs}
-use Rattle.meaning.specs.Job.{Job, jobOf, labels}
+use Rattle.meaning.specs.Job.{Job, jobOf}
 use Rattle.numbers.specs.Handed.{weightsHanded}
 use Rattle.shares.specs.Borders.{Between}
 use Rattle.shares.proofs.Borders.{between-remainders, raise-low, lower-high}
 use Rattle.shares.proofs.border_remainder.Statement.{statement}
 use Rattle.shares.proofs.border_remainder.Tie as tie
-use Rattle.shares.proofs.border_remainder.Reads as reads
-use Rattle.shares.proofs.border_remainder.Lts as lts
-use Rattle.shares.proofs.count_ahead.Reads as count-ahead-reads
 
 abbrev Inv-loop : tie.InvT-loop
 Inv-loop budget weights wbytes claimed starts spare low₀ high₀ low high = (low < high) × (high ≤ claimed) × Between (weightsHanded 7 budget weights wbytes) low 0 high 0
@@ -22,34 +18,27 @@ abbrev μ-loop : tie.MeasureT-loop
 abbrev job : tie.Start Inv-loop μ-loop → Job
 job s = weightsHanded 7 (s .args .budget) (s .args .weights .now) (s .args .wbytes .now)
 
--- src/lib.rt:124:5
 loop-holds : tie.Need-loop-holds Inv-loop μ-loop
 unfolding jobOf
 loop-holds c =
     let s = c .before .before .before in
     (s .pre .0 .positive, omega arith, rw (s .pre .0 .summed) (between-remainders (job s) (omega (arith, s .pre .0 .summed, s .pre .0 .positive)) (omega (arith, s .pre .1))))
 
--- src/lib.rt:124:15
 sub-loop : tie.Need-sub-loop Inv-loop μ-loop
 sub-loop c = search needs
 
--- src/lib.rt:125:29
 sub-middle : tie.Need-sub-middle Inv-loop μ-loop
 sub-middle c = search needs
 
--- src/lib.rt:125:22
 add-middle : tie.Need-add-middle Inv-loop μ-loop
 add-middle c = omega arith
 
--- src/lib.rt:126:30
 count-ahead-requires : tie.Need-count-ahead-requires Inv-loop μ-loop
 count-ahead-requires c κs = search needs
 
--- src/lib.rt:124:5
 loop-less : tie.Need-loop-less Inv-loop μ-loop
 loop-less c = search needs
 
--- src/lib.rt:124:5
 loop-again : tie.Need-loop-again Inv-loop μ-loop
 loop-again c =
     let s = c .before .before .before .before .before .before .before in
@@ -57,11 +46,9 @@ loop-again c =
     let count = c .before .count-ahead in
     (omega arith, l .inv .1, raise-low (job s) (l .low) 0 (l .high) 0 (l .low + (l .high - l .low) / 2) 0 (s .args .spare) (count .result) (l .inv .2) (s .pre .1 .0) (count .ensures) (omega arith))
 
--- src/lib.rt:124:5
 loop-less-2 : tie.Need-loop-less-2 Inv-loop μ-loop
 loop-less-2 c = search needs
 
--- src/lib.rt:124:5
 loop-again-2 : tie.Need-loop-again-2 Inv-loop μ-loop
 loop-again-2 c =
     let s = c .before .before .before .before .before .before .before in
@@ -69,7 +56,6 @@ loop-again-2 c =
     let count = c .before .count-ahead in
     (omega arith, omega arith, lower-high (job s) (l .low) 0 (l .high) 0 (l .low + (l .high - l .low) / 2) 0 (s .args .spare) (count .result) (l .inv .2) (s .pre .1 .0) (count .ensures) (omega arith))
 
--- src/lib.rt:117:1
 returns : tie.Need-returns Inv-loop μ-loop
 returns c =
     let l = c .before .loop in

@@ -3,15 +3,12 @@ use Prim.Native.Nat.{_+_, _-_, _/_, _≤_, _<_}
 use native.Mathlib.Omega.{arith}
 use lib.ListN.{length}
 use borrow.Author.Needs.{needs}
-use Rattle.meaning.specs.Job.{Job, jobOf, labels}
+use Rattle.meaning.specs.Job.{Job}
 use Rattle.numbers.specs.Handed.{weightsHanded}
 use Rattle.shares.specs.Borders.{Between}
 use Rattle.shares.proofs.Borders.{between-turns, raise-low, lower-high}
 use Rattle.shares.proofs.border_turn.Statement.{statement}
 use Rattle.shares.proofs.border_turn.Tie as tie
-use Rattle.shares.proofs.border_turn.Reads as reads
-use Rattle.shares.proofs.border_turn.Lts as lts
-use Rattle.shares.proofs.count_ahead.Reads as count-ahead-reads
 
 abbrev Inv-loop : tie.InvT-loop
 Inv-loop budget weights wbytes claimed starts spare border low₀ high₀ low high = (low < high) × (high ≤ length starts) × Between (weightsHanded 7 budget weights wbytes) border low border high
@@ -22,34 +19,27 @@ abbrev μ-loop : tie.MeasureT-loop
 abbrev job : tie.Start Inv-loop μ-loop → Job
 job s = weightsHanded 7 (s .args .budget) (s .args .weights .now) (s .args .wbytes .now)
 
--- src/lib.rt:143:5
 loop-holds : tie.Need-loop-holds Inv-loop μ-loop
 loop-holds c =
     let s = c .before .before .before in
     let (b, some) = between-turns (job s) (s .args .border) (s .pre .1 .1) in
     (omega (arith, s .pre .0 .long), omega arith, rw (s .pre .0 .long) b)
 
--- src/lib.rt:143:15
 sub-loop : tie.Need-sub-loop Inv-loop μ-loop
 sub-loop c = search needs
 
--- src/lib.rt:144:29
 sub-middle : tie.Need-sub-middle Inv-loop μ-loop
 sub-middle c = search needs
 
--- src/lib.rt:144:22
 add-middle : tie.Need-add-middle Inv-loop μ-loop
 add-middle c = omega arith
 
--- src/lib.rt:145:30
 count-ahead-requires : tie.Need-count-ahead-requires Inv-loop μ-loop
 count-ahead-requires c κs = search needs
 
--- src/lib.rt:143:5
 loop-less : tie.Need-loop-less Inv-loop μ-loop
 loop-less c = search needs
 
--- src/lib.rt:143:5
 loop-again : tie.Need-loop-again Inv-loop μ-loop
 loop-again c =
     let s = c .before .before .before .before .before .before .before in
@@ -57,11 +47,9 @@ loop-again c =
     let count = c .before .count-ahead in
     (omega arith, l .inv .1, raise-low (job s) (s .args .border) (l .low) (s .args .border) (l .high) (s .args .border) (l .low + (l .high - l .low) / 2) (s .args .spare) (count .result) (l .inv .2) (s .pre .1 .0) (count .ensures) (omega arith))
 
--- src/lib.rt:143:5
 loop-less-2 : tie.Need-loop-less-2 Inv-loop μ-loop
 loop-less-2 c = search needs
 
--- src/lib.rt:143:5
 loop-again-2 : tie.Need-loop-again-2 Inv-loop μ-loop
 loop-again-2 c =
     let s = c .before .before .before .before .before .before .before in
@@ -69,7 +57,6 @@ loop-again-2 c =
     let count = c .before .count-ahead in
     (omega arith, omega arith, lower-high (job s) (s .args .border) (l .low) (s .args .border) (l .high) (s .args .border) (l .low + (l .high - l .low) / 2) (s .args .spare) (count .result) (l .inv .2) (s .pre .1 .0) (count .ensures) (omega arith))
 
--- src/lib.rt:136:1
 returns : tie.Need-returns Inv-loop μ-loop
 returns c =
     let l = c .before .loop in

@@ -9,10 +9,6 @@ use Rattle.meaning.proofs.Loops.{sum-step, sum-done}
 use Rattle.numbers.specs.Handed.{handed}
 use Rattle.shares.proofs.claims_sum.Statement.{statement}
 use Rattle.shares.proofs.claims_sum.Tie as tie
-use Rattle.shares.proofs.claims_sum.Reads as reads
-use Rattle.shares.proofs.claims_sum.Lts as lts
-use Rattle.numbers.proofs.item.Reads as item-reads
-use Rattle.numbers.proofs.list_length.Reads as list-length-reads
 
 abbrev Inv-loop : tie.InvT-loop
 Inv-loop weights wbytes n sum₀ i₀ acc i = (i ≤ n) × (acc ≡ sum (take i (handed weights wbytes))) × (acc ≤ i * 4_294_967_295)
@@ -20,44 +16,35 @@ Inv-loop weights wbytes n sum₀ i₀ acc i = (i ≤ n) × (acc ≡ sum (take i 
 abbrev μ-loop : tie.MeasureT-loop
 μ-loop weights wbytes n sum₀ i₀ sum i = n - i
 
--- src/lib.rt:32:9
 list-length-requires : tie.Need-list-length-requires Inv-loop μ-loop
 list-length-requires c κs = search needs
 
--- src/lib.rt:35:5
 loop-holds : tie.Need-loop-holds Inv-loop μ-loop
 unfolding sum
 loop-holds c = search needs
 
--- src/lib.rt:36:16
 item-requires : tie.Need-item-requires Inv-loop μ-loop
 item-requires c κs = search needs
 
--- src/lib.rt:36:16
 cast-sum : tie.Need-cast-sum Inv-loop μ-loop
 cast-sum c = search needs
 
--- src/lib.rt:36:9
 add-sum : tie.Need-add-sum Inv-loop μ-loop
 unfolding mostClaims
 add-sum c = omega (arith, c .before .before .before .list-length .ensures)
 
--- src/lib.rt:37:9
 add-i : tie.Need-add-i Inv-loop μ-loop
 add-i c = search needs
 
--- src/lib.rt:35:5
 loop-less : tie.Need-loop-less Inv-loop μ-loop
 loop-less c = search needs
 
--- src/lib.rt:35:5
 loop-again : tie.Need-loop-again Inv-loop μ-loop
 loop-again c =
     let l = c .before .before .loop in
     let a = c .before .before .before .before .before .before .args in
     (omega arith, rw (c .item .ensures) (sum-step (handed (a .weights .now) (a .wbytes .now)) (l .sum) (l .i) (omega (arith, c .before .before .before .list-length .ensures)) (l .inv .1)), omega arith)
 
--- src/lib.rt:28:1
 returns : tie.Need-returns Inv-loop μ-loop
 returns c =
     let l = c .before .loop in

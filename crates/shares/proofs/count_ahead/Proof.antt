@@ -1,21 +1,19 @@
 use mathlib.Core.Path.{_≡_, ap, _∙_}
-use Prim.Native.Nat.{ℕ, _-_, _≤_}
+use Prim.Native.Nat.{ℕ, _+_, _-_, _≤_}
 use native.Mathlib.Omega.{arith}
+use mir.Val.{boolByte}
 use borrow.Author.Needs.{needs}
 use Rattle.meaning.specs.Lists.{upTo}
 use Rattle.meaning.specs.Job.{Job, jobOf, labels}
 use Rattle.meaning.specs.Shares.{tally}
 use Rattle.numbers.specs.Handed.{weightsHanded}
 use Rattle.shares.specs.Borders.{aheadIn, countOf}
-use Rattle.shares.proofs.Borders.{tally-more, bit-small}
+use Rattle.shares.proofs.Borders.{tally-more, tally-most}
 use Rattle.shares.proofs.count_ahead.Statement.{statement}
 use Rattle.shares.proofs.count_ahead.Tie as tie
-use Rattle.shares.proofs.count_ahead.Reads as reads
-use Rattle.shares.proofs.count_ahead.Lts as lts
-use Rattle.shares.proofs.stands.Reads as stands-reads
 
 abbrev Inv-loop : tie.InvT-loop
-Inv-loop budget weights wbytes claimed starts border turn n count₀ i₀ count i = (i ≤ n) × (count ≤ i) × (count ≡ tally (aheadIn (weightsHanded 7 budget weights wbytes) border turn) (upTo i))
+Inv-loop budget weights wbytes claimed starts border turn n count₀ i₀ count i = (i ≤ n) × (count ≡ tally (aheadIn (weightsHanded 7 budget weights wbytes) border turn) (upTo i))
 
 abbrev μ-loop : tie.MeasureT-loop
 μ-loop budget weights wbytes claimed starts border turn n count₀ i₀ count i = n - i
@@ -23,20 +21,26 @@ abbrev μ-loop : tie.MeasureT-loop
 abbrev job : tie.Start Inv-loop μ-loop → Job
 job s = weightsHanded 7 (s .args .budget) (s .args .weights .now) (s .args .wbytes .now)
 
--- src/lib.rt:108:5
+-- the count with label i
+more : (c : tie.After-stands Inv-loop μ-loop) →
+    let l = c .before .before .before .loop in
+    let s = c .before .before .before .before .before .before .before in
+    l .count + boolByte (c .stands .result) ≡ tally (aheadIn (job s) (s .args .border) (s .args .turn)) (upTo (l .i + 1))
+more c =
+    let l = c .before .before .before .loop in
+    let s = c .before .before .before .before .before .before .before in
+    tally-more (aheadIn (job s) (s .args .border) (s .args .turn)) (l .i) (l .count) (c .stands .result) (c .stands .ensures) (l .inv .1)
+
 loop-holds : tie.Need-loop-holds Inv-loop μ-loop
 unfolding tally upTo
 loop-holds c = search needs
 
--- src/lib.rt:109:21
 mul-start : tie.Need-mul-start Inv-loop μ-loop
 mul-start c = search needs
 
--- src/lib.rt:109:21
 shared-slice-read-start : tie.Need-shared-slice-read-start Inv-loop μ-loop
 shared-slice-read-start c = search needs
 
--- src/lib.rt:110:18
 stands-requires : tie.Need-stands-requires Inv-loop μ-loop
 unfolding jobOf labels
 stands-requires c κs =
@@ -44,37 +48,30 @@ stands-requires c κs =
     let i = c .before .before .loop .i in
     ((s .pre .summed, (s .pre .long, omega arith)), s .pre .each i (omega (arith, s .pre .long)))
 
--- src/lib.rt:110:18
 cast-count : tie.Need-cast-count Inv-loop μ-loop
 cast-count c = tt
 
--- src/lib.rt:110:9
 add-count : tie.Need-add-count Inv-loop μ-loop
-add-count c = omega (arith, bit-small (c .stands .result))
+add-count c =
+    let s = c .before .before .before .before .before .before .before in
+    omega (arith, more c, tally-most (aheadIn (job s) (s .args .border) (s .args .turn)) (c .before .before .before .loop .i + 1))
 
--- src/lib.rt:111:9
 add-i : tie.Need-add-i Inv-loop μ-loop
 add-i c = search needs
 
--- src/lib.rt:108:5
 loop-less : tie.Need-loop-less Inv-loop μ-loop
 loop-less c = search needs
 
--- src/lib.rt:108:5
 loop-again : tie.Need-loop-again Inv-loop μ-loop
-loop-again c =
-    let l = c .before .before .before .loop in
-    let s = c .before .before .before .before .before .before .before in
-    (omega arith, omega (arith, bit-small (c .stands .result)), tally-more (aheadIn (job s) (s .args .border) (s .args .turn)) (l .i) (l .count) (c .stands .result) (c .stands .ensures) (l .inv .2))
+loop-again c = (omega arith, more c)
 
--- src/lib.rt:101:1
 returns : tie.Need-returns Inv-loop μ-loop
 unfolding countOf
 returns c =
     let s = c .before .before .before .before .before in
     let l = c .before .loop in
     let all : l .i ≡ labels (job s) = omega (arith, s .pre .long) in
-    l .inv .2 ∙ ap (λ (k : ℕ). tally (aheadIn (job s) (s .args .border) (s .args .turn)) (upTo k)) all
+    l .inv .1 ∙ ap (λ (k : ℕ). tally (aheadIn (job s) (s .args .border) (s .args .turn)) (upTo k)) all
 
 pub count-ahead-spec : {M : Type 1} → statement M
 count-ahead-spec =

@@ -14,9 +14,6 @@ use Rattle.shares.proofs.Starts.{stored-each, share-within, share-given
 use Rattle.shares.proofs.Borders.{ahead-served}
 use Rattle.shares.proofs.give.Statement.{statement}
 use Rattle.shares.proofs.give.Tie as tie
-use Rattle.shares.proofs.give.Reads as reads
-use Rattle.shares.proofs.give.Lts as lts
-use Rattle.shares.proofs.stands.Reads as stands-reads
 
 abbrev Inv-loop : tie.InvT-loop
 Inv-loop budget weights wbytes claimed shares₀ border turn n i₀ shares i = (i ≤ n) × (length shares ≡ length shares₀) × Stored shares₀ shares 0 0 i (shareOf (weightsHanded 7 budget weights wbytes))
@@ -37,22 +34,18 @@ given c =
     let s = c .before .before .before .before .before .before .before in
     let inside : l .i < labels (job s) = omega (arith, s .pre .0 .long) in
     share-given (job s) (l .i) (at (l .shares) (l .i)) (c .stands .result)
-    (l .inv .2 .past (l .i) (omega arith) ∙ s .pre .0 .each (l .i) inside)
+    (omega (arith, l .inv .2 .past (l .i) (omega arith), s .pre .0 .each (l .i) inside))
     (c .stands .ensures ∙ ahead-served (job s) (s .args .border) (s .args .turn) (s .pre .1) (l .i) inside)
 
--- src/lib.rt:162:5
 loop-holds : tie.Need-loop-holds Inv-loop μ-loop
 loop-holds c = let s = c .before .before .before in (omega arith, refl, stored-none (s .args .shares .now) 0 0 0 (shareOf (job s)) (omega arith))
 
--- src/lib.rt:163:21
 mul-start : tie.Need-mul-start Inv-loop μ-loop
 mul-start c = search needs
 
--- src/lib.rt:163:21
 slice-read-start : tie.Need-slice-read-start Inv-loop μ-loop
 slice-read-start c = search needs
 
--- src/lib.rt:164:29
 stands-requires : tie.Need-stands-requires Inv-loop μ-loop
 unfolding jobOf labels
 stands-requires c κs =
@@ -60,11 +53,9 @@ stands-requires c κs =
     let l = c .before .before .loop in
     ((s .pre .0 .summed, (s .pre .0 .long, omega arith)), l .inv .2 .past (l .i) (omega arith) ∙ s .pre .0 .each (l .i) (omega (arith, s .pre .0 .long)))
 
--- src/lib.rt:164:29
 cast-shares : tie.Need-cast-shares Inv-loop μ-loop
 cast-shares c = tt
 
--- src/lib.rt:164:21
 add-shares : tie.Need-add-shares Inv-loop μ-loop
 unfolding jobOf labels
 add-shares c =
@@ -72,23 +63,18 @@ add-shares c =
     let s = c .before .before .before .before .before .before .before in
     omega (arith, given c, share-within (job s) (omega (arith, s .pre .0 .summed, s .pre .0 .positive)) (l .i) (omega (arith, s .pre .0 .long)))
 
--- src/lib.rt:164:9
 mul-shares : tie.Need-mul-shares Inv-loop μ-loop
 mul-shares c = search needs
 
--- src/lib.rt:164:9
 slice-write-shares : tie.Need-slice-write-shares Inv-loop μ-loop
 slice-write-shares c = search needs
 
--- src/lib.rt:165:9
 add-i : tie.Need-add-i Inv-loop μ-loop
 add-i c = search needs
 
--- src/lib.rt:162:5
 loop-less : tie.Need-loop-less Inv-loop μ-loop
 loop-less c = search needs
 
--- src/lib.rt:162:5
 loop-again : tie.Need-loop-again Inv-loop μ-loop
 loop-again c =
     let l = c .before .before .before .loop in
@@ -96,11 +82,9 @@ loop-again c =
     let share = at (l .shares) (l .i) + boolByte (c .stands .result) in
     (omega arith, simp length-set (l .inv .1), stored-up (s .args .shares .now) 0 0 (l .i) (shareOf (job s)) (l .shares) (l .i) share (omega arith) (l .inv .2) (omega arith) (omega arith) (given c))
 
--- src/lib.rt:155:1
 same-length : tie.Need-same-length Inv-loop μ-loop
 same-length c = search needs
 
--- src/lib.rt:155:1
 returns : tie.Need-returns Inv-loop μ-loop
 returns c =
     let l = c .before .loop in

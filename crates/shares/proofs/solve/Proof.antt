@@ -8,10 +8,6 @@ use Rattle.numbers.specs.Handed.{weightsHanded}
 use Rattle.shares.proofs.Doors.{Ready, ready, shared}
 use Rattle.shares.proofs.solve.Statement.{statement}
 use Rattle.shares.proofs.solve.Tie as tie
-use Rattle.shares.proofs.solve.Reads as reads
-use Rattle.shares.proofs.solve.Lts as lts
-use Rattle.numbers.proofs.list_length.Reads as list-length-reads
-use Rattle.shares.proofs.share.Reads as share-reads
 
 abbrev job : tie.Start → Job
 job s = weightsHanded 7 (s .args .budget) (s .args .weights .now) (s .args .wbytes .now)
@@ -26,29 +22,23 @@ cut c =
     let s = c .before .before .before .before .before in
     length-take-le (c .before .list-length .result) (s .args .picks .now) (omega (arith, c .before .list-length .ensures, keeps s .room))
 
--- src/lib.rt:193:9
 list-length-requires : tie.Need-list-length-requires
 list-length-requires c κs = search needs
 
--- src/lib.rt:194:48
 slice-relend-prefix-share : tie.Need-slice-relend-prefix-share
 unfolding jobOf labels
 slice-relend-prefix-share c = let s = c .before .before .before .before in omega (arith, c .list-length .ensures, keeps s .room)
 
--- src/lib.rt:194:48
 slice-aggregate-share : tie.Need-slice-aggregate-share
 slice-aggregate-share c = sym (cut c)
 
--- src/lib.rt:194:9
 share-requires : tie.Need-share-requires
 unfolding jobOf labels
 share-requires c κs = let s = c .before .before .before .before .before in ((keeps s .few, keeps s .claims), cut c ∙ c .before .list-length .ensures)
 
--- src/lib.rt:189:1
 same-length : tie.Need-same-length
 same-length c = search needs
 
--- src/lib.rt:189:1
 returns : tie.Need-returns
 unfolding jobOf labels
 returns c =

@@ -1,5 +1,5 @@
-use mathlib.Core.Path.{_≡_, sym, ap, _∙_}
-use Prim.Native.Nat.{ℕ, _+_, _-_, _≤_, _<_}
+use mathlib.Core.Path.{_≡_, _∙_}
+use Prim.Native.Nat.{_+_, _-_, _≤_}
 use native.Mathlib.Omega.{arith}
 use lib.ListN.{length, take, length-set}
 use borrow.Author.Needs.{needs}
@@ -8,15 +8,10 @@ use Rattle.meaning.specs.Job.{Job, jobOf, labels}
 use Rattle.meaning.specs.Shares.{startOf}
 use Rattle.numbers.specs.Handed.{handed, weightsHanded}
 use Rattle.rows.specs.Rows.{Stored}
-use Rattle.rows.proofs.Stores.{stored-none, stored-up}
+use Rattle.rows.proofs.Stores.{stored-up}
 use Rattle.shares.proofs.Starts.{starts, member-within, start-within, kept-start, stored-each, spare-step, spare-done}
 use Rattle.shares.proofs.write_starts.Statement.{statement}
 use Rattle.shares.proofs.write_starts.Tie as tie
-use Rattle.shares.proofs.write_starts.Reads as reads
-use Rattle.shares.proofs.write_starts.Lts as lts
-use Rattle.numbers.proofs.item.Reads as item-reads
-use Rattle.shares.proofs.start.Reads as start-reads
-use Rattle.shares.proofs.wide_product.Reads as wide-product-reads
 
 abbrev Inv-loop : tie.InvT-loop
 Inv-loop budget weights wbytes claimed shares₀ spare₀ i₀ shares spare i = (i ≤ length shares₀) × (length shares ≡ length shares₀) × Stored shares₀ shares 0 0 i (startOf (weightsHanded 7 budget weights wbytes)) × (spare + sum (take i (starts (weightsHanded 7 budget weights wbytes))) ≡ budget)
@@ -43,20 +38,16 @@ module _ (c : tie.After-start Inv-loop μ-loop) where
   unfolding jobOf labels
   step = let l = c .before .before .before .before .loop in spare-step (job entry) (omega (arith, entry .pre .0)) (l .i) (c .start .result) (l .spare) (omega (arith, entry .pre .1)) started (l .inv .3)
 
--- src/lib.rt:66:5
 loop-holds : tie.Need-loop-holds Inv-loop μ-loop
 unfolding sum
 loop-holds c = search needs
 
--- src/lib.rt:67:13
 item-requires : tie.Need-item-requires Inv-loop μ-loop
 item-requires c κs = search needs
 
--- src/lib.rt:68:27
 wide-product-requires : tie.Need-wide-product-requires Inv-loop μ-loop
 wide-product-requires c κs = search needs
 
--- src/lib.rt:68:13
 start-requires : tie.Need-start-requires Inv-loop μ-loop
 unfolding jobOf
 start-requires c κs =
@@ -67,28 +58,22 @@ start-requires c κs =
     let fits = start-within (a .budget) (c .before .item .result) (a .claimed) (omega (arith, light, c .before .item .ensures, s .pre .0 .0)) in
     (s .pre .0 .1, rw (c .wide-product .ensures) (omega (arith, fits)))
 
--- src/lib.rt:69:9
 mul-shares : tie.Need-mul-shares Inv-loop μ-loop
 mul-shares c = search needs
 
--- src/lib.rt:69:9
 slice-write-shares : tie.Need-slice-write-shares Inv-loop μ-loop
 slice-write-shares c = search needs
 
--- src/lib.rt:70:9
 sub-spare : tie.Need-sub-spare Inv-loop μ-loop
 unfolding jobOf labels
 sub-spare c = step c .0
 
--- src/lib.rt:71:9
 add-i : tie.Need-add-i Inv-loop μ-loop
 add-i c = search needs
 
--- src/lib.rt:66:5
 loop-less : tie.Need-loop-less Inv-loop μ-loop
 loop-less c = search needs
 
--- src/lib.rt:66:5
 loop-again : tie.Need-loop-again Inv-loop μ-loop
 unfolding jobOf labels
 loop-again c =
@@ -96,23 +81,23 @@ loop-again c =
     let s = entry c in
     (omega arith, simp length-set (l .inv .1), stored-up (s .args .shares .now) 0 0 (l .i) (startOf (job s)) (l .shares) (l .i) (c .start .result) (omega arith) (l .inv .2) (omega arith) (omega arith) (started c), step c .1)
 
--- src/lib.rt:59:1
 same-length : tie.Need-same-length Inv-loop μ-loop
 same-length c = search needs
 
--- src/lib.rt:59:1
 returns : tie.Need-returns Inv-loop μ-loop
 unfolding jobOf labels
 returns c =
     let s = c .before .before .before .before .before in
     let l = c .before .loop in
-    let all : l .i ≡ labels (job s) = omega (arith, s .pre .1) in
-    (record {
-      summed = s .pre .0 .0;
-      positive = s .pre .0 .1;
-      long = omega (arith, s .pre .1);
-      each = λ i h. stored-each (s .args .shares .now) (l .shares) (l .i) (startOf (job s)) (l .inv .2) i (omega arith);
-    }, spare-done (job s) (l .i) (l .spare) (omega arith) (l .inv .3))
+    let all : l .i ≡ labels (job s) = omega (arith, s .pre .1) in (
+      record {
+        summed = s .pre .0 .0;
+        positive = s .pre .0 .1;
+        long = omega (arith, s .pre .1);
+        each = λ i h. stored-each (s .args .shares .now) (l .shares) (l .i) (startOf (job s)) (l .inv .2) i (omega arith);
+      },
+      spare-done (job s) (l .i) (l .spare) (omega arith) (l .inv .3),
+    )
 
 pub write-starts-spec : {M : Type 1} → statement M
 write-starts-spec =
