@@ -1,4 +1,4 @@
--- Kind 7: the border. Those at it or before it are the labels that get a unit.
+-- Kind 7: the border. The labels at it or before it are those that get a unit.
 -- Assumes nothing.
 use mathlib.Core.Path.{_≡_, refl, sym}
 use mathlib.Core.Logic.{_⊎_, inl, inr}
@@ -30,23 +30,26 @@ tally-most f n = omega (arith, tally-le f (λ i. true) (upTo n) (λ i t. tt), al
 pub tally-more : (f : ℕ → Bool) (i count : ℕ) (b : Bool) → b ≡ f i → count ≡ tally f (upTo i) → count + boolByte b ≡ tally f (upTo (i + 1))
 tally-more f i count b e c = rw add-one (rw (one-or-none b, e, c, tally-step))
 
--- ---- the order: what stands at a border or before it. Nothing below looks at the text of `aheadOf`
+-- ---- the order: five laws that `aheadOf` must have, and nothing below looks at its text
+
+-- what the test says: the remainder is larger, or equal and the turn no lower
+data Stands (r n i border turn : ℕ) : Type 0 where
+  larger : border < r → Stands r n i border turn
+  equal : border ≡ r → turn ≤ n - 1 - i → Stands r n i border turn
 
 module _ (r n i border turn : ℕ) where
-  -- what the test says
-  ahead-out : T (aheadOf r n i border turn) → (border < r) ⊎ ((border ≡ r) × (turn ≤ n - 1 - i))
+  ahead-out : T (aheadOf r n i border turn) → Stands r n i border turn
   unfolding aheadOf if
   ahead-out h = go (eqb r border) refl h
     where
-      go : (e : Bool) → eqb r border ≡ e → T (if e (leb turn (n - 1 - i)) (ltb border r)) → (border < r) ⊎ ((border ≡ r) × (turn ≤ n - 1 - i))
-      go true e t = inr (sym (eqb-true r border e), leb-yes t)
-      go false e t = inl (ltb-yes t)
+      go : (e : Bool) → eqb r border ≡ e → T (if e (leb turn (n - 1 - i)) (ltb border r)) → Stands r n i border turn
+      go true e t = equal (sym (eqb-true r border e)) (leb-yes t)
+      go false e t = larger (ltb-yes t)
 
-  -- and back
-  ahead-in : (border < r) ⊎ ((border ≡ r) × (turn ≤ n - 1 - i)) → T (aheadOf r n i border turn)
+  ahead-in : Stands r n i border turn → T (aheadOf r n i border turn)
   unfolding aheadOf if
-  ahead-in (inl a) = rw (ne-eqb r border (λ e. omega arith)) (yes-ltb a)
-  ahead-in (inr b) = rw (eq-eqb r border (sym (b .0))) (yes-leb (b .1))
+  ahead-in (larger l) = rw (ne-eqb r border (λ e. omega arith)) (yes-ltb l)
+  ahead-in (equal e l) = rw (eq-eqb r border (sym e)) (yes-leb l)
 
 module _ (j : Job) where
   abbrev rem : ℕ → ℕ
@@ -55,76 +58,71 @@ module _ (j : Job) where
   abbrev n : ℕ
   n = labels j
 
-  -- who goes before one that stands at a border or before it stands at the next border or before it
+  abbrev S : ℕ
+  S = sum (j .weights)
+
+  -- first law: who goes before one that stands at a border or before it stands at the next border or before it
   before-ahead : (border turn i m : ℕ) → i < n → T (aheadIn j border turn i) → T (precedes j m i) → T (aheadIn j border (turn + 1) m)
   before-ahead border turn i m inside a p = ahead-in (rem m) n m border (turn + 1) (join (ahead-out (rem i) n i border turn a) (precedes-out j m i p))
     where
-      join : (border < rem i) ⊎ ((border ≡ rem i) × (turn ≤ n - 1 - i)) → (rem i < rem m) ⊎ ((rem m ≡ rem i) × (m < i))
-          → (border < rem m) ⊎ ((border ≡ rem m) × (turn + 1 ≤ n - 1 - m))
-      join (inl x) (inl y) = inl (omega arith)
-      join (inl x) (inr y) = inl (omega arith)
-      join (inr x) (inl y) = inl (omega arith)
-      join (inr x) (inr y) = inr (omega arith, omega arith)
+      join : Stands (rem i) n i border turn → (rem i < rem m) ⊎ ((rem m ≡ rem i) × (m < i)) → Stands (rem m) n m border (turn + 1)
+      join (larger l) (inl y) = larger (omega arith)
+      join (larger l) (inr y) = larger (omega arith)
+      join (equal e l) (inl y) = larger (omega arith)
+      join (equal e l) (inr y) = equal (omega arith) (omega arith)
 
-  -- who stands at a border or before it goes before one that does not
+  -- second law: who stands at a border or before it goes before one that does not
   ahead-before : (border turn i m : ℕ) → ¬ T (aheadIn j border turn i) → T (aheadIn j border turn m) → T (precedes j m i)
-  ahead-before border turn i m not-i a =
-      precedes-in j m i (by (rem i) (rem m)
-      (λ less. inl less)
-      (λ ge. by border (rem i)
-      (λ less. absurd (not-i (ahead-in (rem i) n i border turn (inl less))))
-      (λ le. inr (same le ge (ahead-out (rem m) n m border turn a)))))
+  ahead-before border turn i m not-i a = precedes-in j m i (by (rem i) (rem m) inl (λ ge. inr (same ge (ahead-out (rem m) n m border turn a))))
     where
-      same : rem i ≤ border → rem m ≤ rem i → (border < rem m) ⊎ ((border ≡ rem m) × (turn ≤ n - 1 - m)) → (rem m ≡ rem i) × (m < i)
-      same le ge (inl x) = absurd (omega arith)
-      same le ge (inr x) = (
-        omega arith,
-        by m i (λ less. less) (λ more. absurd (not-i (ahead-in (rem i) n i border turn (inr (omega arith, omega arith))))),
-      )
+      never : {C : Type 0} → Stands (rem i) n i border turn → C
+      never s = absurd (not-i (ahead-in (rem i) n i border turn s))
 
-  -- ---- counts
+      same : rem m ≤ rem i → Stands (rem m) n m border turn → (rem m ≡ rem i) × (m < i)
+      same ge (larger l) = never (larger (omega arith))
+      same ge (equal e l) =
+          by border (rem i) (λ less. never (larger less))
+          (λ le. (omega arith, by m i (λ less. less) (λ more. never (equal (omega arith) (omega arith)))))
 
-  -- all stand at the lowest border or before it
-  count-all : n ≤ countOf j 0 0
-  unfolding countOf
-  count-all = omega (arith, tally-le (λ i. true) (aheadIn j 0 0) (upTo n) (λ i t. ahead-in (rem i) n i 0 0 (lowest (rem i) i)), all-tally (upTo n), upTo-length n)
+  -- third law: every label stands at the lowest border or before it
+  all-ahead : (i : ℕ) → T (aheadIn j 0 0 i)
+  all-ahead i = ahead-in (rem i) n i 0 0 (by 0 (rem i) larger (λ le. equal (omega arith) (omega arith)))
+
+  -- fourth law: no remainder is as much as S
+  none-ahead : 0 < S → (i : ℕ) → T (aheadIn j S 0 i) → ⊥
+  unfolding remainderOf
+  none-ahead pos i t = high (ahead-out (rem i) n i S 0 t)
     where
-      lowest : (r i : ℕ) → (0 < r) ⊎ ((0 ≡ r) × (0 ≤ n - 1 - i))
-      lowest r i = by 0 r inl (λ e. inr (omega arith, omega arith))
+      high : Stands (rem i) n i S 0 → ⊥
+      high (larger l) = omega (arith, mod-lt (j .budget * at (j .weights) i) pos)
+      high (equal e l) = omega (arith, mod-lt (j .budget * at (j .weights) i) pos)
 
-  -- no remainder is as much as S
-  count-none : 0 < sum (j .weights) → countOf j (sum (j .weights)) 0 ≡ 0
-  unfolding countOf remainderOf
-  count-none pos = omega (arith, tally-le (aheadIn j (sum (j .weights)) 0) (λ i. ltb i 0) (upTo n) (λ i t. absurd (high i (ahead-out (rem i) n i (sum (j .weights)) 0 t))), tally-below n 0)
+  -- fifth law: past the highest turn comes the next remainder
+  past-ahead : 0 < n → (border i : ℕ) → T (aheadIn j border n i) → T (aheadIn j (border + 1) 0 i)
+  past-ahead some border i t = ahead-in (rem i) n i (border + 1) 0 (next (ahead-out (rem i) n i border n t))
     where
-      high : (i : ℕ) → (sum (j .weights) < rem i) ⊎ ((sum (j .weights) ≡ rem i) × (0 ≤ n - 1 - i)) → ⊥
-      high i (inl x) = omega (arith, mod-lt (j .budget * at (j .weights) i) pos)
-      high i (inr x) = omega (arith, mod-lt (j .budget * at (j .weights) i) pos)
+      next : Stands (rem i) n i border n → Stands (rem i) n i (border + 1) 0
+      next (larger l) = by (border + 1) (rem i) larger (λ le. equal (omega arith) (omega arith))
+      next (equal e l) = absurd (omega arith)
 
-  -- past the highest turn comes the next remainder
-  count-past : (border : ℕ) → 0 < n → countOf j border n ≤ countOf j (border + 1) 0
-  unfolding countOf
-  count-past border some = tally-le (aheadIn j border n) (aheadIn j (border + 1) 0) (upTo n) (λ i t. ahead-in (rem i) n i (border + 1) 0 (next (rem i) i (ahead-out (rem i) n i border n t)))
-    where
-      next : (r i : ℕ) → (border < r) ⊎ ((border ≡ r) × (n ≤ n - 1 - i)) → (border + 1 < r) ⊎ ((border + 1 ≡ r) × (0 ≤ n - 1 - i))
-      next r i (inl x) = by (border + 1) r inl (λ e. inr (omega arith, omega arith))
-      next r i (inr x) = absurd (omega arith)
+  -- ---- where the units run out
 
-  -- ---- the border
+  -- where there are units to give, they run out at a remainder below S
+  pub between-remainders : 0 < S → 0 < spareOf j → Between j 0 0 S 0
+  unfolding spareOf sumOver labels countOf
+  between-remainders pos some = record {
+    enough = omega (arith, spare-few j pos, tally-le (λ i. true) (aheadIn j 0 0) (upTo n) (λ i t. all-ahead i), all-tally (upTo n), upTo-length n);
+    too-few = omega (arith, tally-le (aheadIn j S 0) (λ i. ltb i 0) (upTo n) (λ i t. absurd (none-ahead pos i t)), tally-below n 0);
+  }
 
-  -- where there are units to give, the remainder at which they run out is below S
-  pub between-remainders : 0 < sum (j .weights) → 0 < spareOf j → Between j 0 0 (sum (j .weights)) 0
-  unfolding spareOf sumOver labels
-  between-remainders pos some = record { enough = omega (arith, spare-few j pos, count-all); too-few = omega (arith, count-none pos) }
-
-  -- and the turn is below n
+  -- and at a turn below n
   pub between-turns : (border : ℕ) → Between j border 0 (border + 1) 0 → Between j border 0 border n × (0 < n)
   unfolding countOf
   between-turns border b =
       let some : 0 < n = omega (arith, tally-most (aheadIn j border 0) n) in
-      (record { enough = b .enough; too-few = omega (arith, count-past border some) }, some)
+      (record { enough = b .enough; too-few = omega (arith, b .too-few, tally-le (aheadIn j border n) (aheadIn j (border + 1) 0) (upTo n) (past-ahead some border)) }, some)
 
-  -- a count at a border between the two says on which side of it the units run out
+  -- a count at another border says on which side of it they do
   module _ (low low-turn high high-turn border turn spare count : ℕ) (b : Between j low low-turn high high-turn) (whole : spare ≡ spareOf j) (counted : count ≡ countOf j border turn) where
     pub raise-low : spare ≤ count → Between j border turn high high-turn
     raise-low h = record { enough = omega arith; too-few = b .too-few }

@@ -35,7 +35,7 @@ given c =
     let inside : l .i < labels (job s) = omega (arith, s .pre .0 .long) in
     share-given (job s) (l .i) (at (l .shares) (l .i)) (c .stands .result)
     (omega (arith, l .inv .2 .past (l .i) (omega arith), s .pre .0 .each (l .i) inside))
-    (c .stands .ensures ∙ ahead-served (job s) (s .args .border) (s .args .turn) (s .pre .1) (l .i) inside)
+    (rw (ahead-served (job s) (s .args .border) (s .args .turn) (s .pre .1) (l .i) inside) at (c .stands .ensures))
 
 loop-holds : tie.Need-loop-holds Inv-loop μ-loop
 loop-holds c = let s = c .before .before .before in (omega arith, refl, stored-none (s .args .shares .now) 0 0 0 (shareOf (job s)) (omega arith))
