@@ -30,7 +30,7 @@ one-or-none false = refl
 -- ---- lists
 
 -- the first members sum to no more than all
-pub front-within : (xs : List ℕ) (i : ℕ) → sum (take i xs) ≤ sum xs
+front-within : (xs : List ℕ) (i : ℕ) → sum (take i xs) ≤ sum xs
 unfolding sum
 front-within xs zero = omega arith
 front-within [] (suc i) = omega arith
