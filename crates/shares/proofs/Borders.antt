@@ -1,0 +1,144 @@
+-- Kind 7: the border. The labels at it or before it are those that get a unit.
+-- Assumes nothing.
+use mathlib.Core.Path.{_≡_, refl, sym}
+use mathlib.Core.Logic.{_⊎_, inl, inr}
+use Prim.Native.Nat.{ℕ, _+_, _-_, _*_, _≤_, _<_}
+use native.Mathlib.Nat.{mod-lt}
+use native.Mathlib.Numerals.{add-one}
+use native.Mathlib.Omega.{arith}
+use mathlib.Core.Bool.{Bool, true, false}
+use lib.Dec.{T, leb, ltb, eqb}
+use mir.Val.{boolByte}
+use mir.Facts.{ltb-yes, leb-yes, yes-ltb, yes-leb}
+use borrow.Author.Tests.{eqb-true, eq-eqb, ne-eqb, lt-ltb, le-ltb}
+use Rattle.meaning.specs.Lists.{at, sum, upTo, if}
+use Rattle.meaning.specs.Job.{Job, labels}
+use Rattle.meaning.specs.Shares.{remainderOf, spareOf, precedes, tally, rankOf}
+use Rattle.meaning.proofs.UpTo.{upTo-length}
+use Rattle.meaning.proofs.Tally.{tally-le, all-tally, tally-step, tally-below}
+use Rattle.meaning.proofs.Ranks.{precedes-out, precedes-in}
+use Rattle.meaning.proofs.SharesSum.{sumOver, spare-few}
+use Rattle.rows.proofs.Stores.{by}
+use Rattle.shares.specs.Borders.{aheadOf, aheadIn, countOf, Between}
+use Rattle.shares.proofs.Starts.{one-or-none}
+
+-- no more are counted than there are
+pub tally-most : (f : ℕ → Bool) (n : ℕ) → tally f (upTo n) ≤ n
+tally-most f n = omega (arith, tally-le f (λ i. true) (upTo n) (λ i t. tt), all-tally (upTo n), upTo-length n)
+
+-- a label more is counted
+pub tally-more : (f : ℕ → Bool) (i count : ℕ) (b : Bool) → b ≡ f i → count ≡ tally f (upTo i) → count + boolByte b ≡ tally f (upTo (i + 1))
+tally-more f i count b e c = rw add-one (rw (one-or-none b, e, c, tally-step))
+
+-- ---- the order: five laws that `aheadOf` must have, and nothing below looks at its text
+
+-- what the test says: the remainder is larger, or equal and the turn no lower
+data Stands (r n i border turn : ℕ) : Type 0 where
+  larger : border < r → Stands r n i border turn
+  equal : border ≡ r → turn ≤ n - 1 - i → Stands r n i border turn
+
+module _ (r n i border turn : ℕ) where
+  ahead-out : T (aheadOf r n i border turn) → Stands r n i border turn
+  unfolding aheadOf if
+  ahead-out h = go (eqb r border) refl h
+    where
+      go : (e : Bool) → eqb r border ≡ e → T (if e (leb turn (n - 1 - i)) (ltb border r)) → Stands r n i border turn
+      go true e t = equal (sym (eqb-true r border e)) (leb-yes t)
+      go false e t = larger (ltb-yes t)
+
+  ahead-in : Stands r n i border turn → T (aheadOf r n i border turn)
+  unfolding aheadOf if
+  ahead-in (larger l) = rw (ne-eqb r border (λ e. omega arith)) (yes-ltb l)
+  ahead-in (equal e l) = rw (eq-eqb r border (sym e)) (yes-leb l)
+
+module _ (j : Job) where
+  abbrev rem : ℕ → ℕ
+  rem = remainderOf j
+
+  abbrev n : ℕ
+  n = labels j
+
+  abbrev S : ℕ
+  S = sum (j .weights)
+
+  -- first law: who goes before one that stands at a border or before it stands at the next border or before it
+  before-ahead : (border turn i m : ℕ) → i < n → T (aheadIn j border turn i) → T (precedes j m i) → T (aheadIn j border (turn + 1) m)
+  before-ahead border turn i m inside a p = ahead-in (rem m) n m border (turn + 1) (join (ahead-out (rem i) n i border turn a) (precedes-out j m i p))
+    where
+      join : Stands (rem i) n i border turn → (rem i < rem m) ⊎ ((rem m ≡ rem i) × (m < i)) → Stands (rem m) n m border (turn + 1)
+      join (larger l) (inl y) = larger (omega arith)
+      join (larger l) (inr y) = larger (omega arith)
+      join (equal e l) (inl y) = larger (omega arith)
+      join (equal e l) (inr y) = equal (omega arith) (omega arith)
+
+  -- second law: who stands at a border or before it goes before one that does not
+  ahead-before : (border turn i m : ℕ) → ¬ T (aheadIn j border turn i) → T (aheadIn j border turn m) → T (precedes j m i)
+  ahead-before border turn i m not-i a = precedes-in j m i (by (rem i) (rem m) inl (λ ge. inr (same ge (ahead-out (rem m) n m border turn a))))
+    where
+      never : {C : Type 0} → Stands (rem i) n i border turn → C
+      never s = absurd (not-i (ahead-in (rem i) n i border turn s))
+
+      same : rem m ≤ rem i → Stands (rem m) n m border turn → (rem m ≡ rem i) × (m < i)
+      same ge (larger l) = never (larger (omega arith))
+      same ge (equal e l) =
+          by border (rem i) (λ less. never (larger less))
+          (λ le. (omega arith, by m i (λ less. less) (λ more. never (equal (omega arith) (omega arith)))))
+
+  -- third law: every label stands at the lowest border or before it
+  all-ahead : (i : ℕ) → T (aheadIn j 0 0 i)
+  all-ahead i = ahead-in (rem i) n i 0 0 (by 0 (rem i) larger (λ le. equal (omega arith) (omega arith)))
+
+  -- fourth law: no remainder is as much as S
+  none-ahead : 0 < S → (i : ℕ) → T (aheadIn j S 0 i) → ⊥
+  unfolding remainderOf
+  none-ahead pos i t = high (ahead-out (rem i) n i S 0 t)
+    where
+      high : Stands (rem i) n i S 0 → ⊥
+      high (larger l) = omega (arith, mod-lt (j .budget * at (j .weights) i) pos)
+      high (equal e l) = omega (arith, mod-lt (j .budget * at (j .weights) i) pos)
+
+  -- fifth law: past the highest turn comes the next remainder
+  past-ahead : 0 < n → (border i : ℕ) → T (aheadIn j border n i) → T (aheadIn j (border + 1) 0 i)
+  past-ahead some border i t = ahead-in (rem i) n i (border + 1) 0 (next (ahead-out (rem i) n i border n t))
+    where
+      next : Stands (rem i) n i border n → Stands (rem i) n i (border + 1) 0
+      next (larger l) = by (border + 1) (rem i) larger (λ le. equal (omega arith) (omega arith))
+      next (equal e l) = absurd (omega arith)
+
+  -- ---- where the units run out
+
+  -- where there are units to give, they run out at a remainder below S
+  pub between-remainders : 0 < S → 0 < spareOf j → Between j 0 0 S 0
+  unfolding spareOf sumOver labels countOf
+  between-remainders pos some = record {
+    enough = omega (arith, spare-few j pos, tally-le (λ i. true) (aheadIn j 0 0) (upTo n) (λ i t. all-ahead i), all-tally (upTo n), upTo-length n);
+    too-few = omega (arith, tally-le (aheadIn j S 0) (λ i. ltb i 0) (upTo n) (λ i t. absurd (none-ahead pos i t)), tally-below n 0);
+  }
+
+  -- and at a turn below n
+  pub between-turns : (border : ℕ) → Between j border 0 (border + 1) 0 → Between j border 0 border n × (0 < n)
+  unfolding countOf
+  between-turns border b =
+      let some : 0 < n = omega (arith, tally-most (aheadIn j border 0) n) in
+      (record { enough = b .enough; too-few = omega (arith, b .too-few, tally-le (aheadIn j border n) (aheadIn j (border + 1) 0) (upTo n) (past-ahead some border)) }, some)
+
+  -- a count at another border says on which side of it they do
+  module _ (low low-turn high high-turn border turn spare count : ℕ) (b : Between j low low-turn high high-turn) (whole : spare ≡ spareOf j) (counted : count ≡ countOf j border turn) where
+    pub raise-low : spare ≤ count → Between j border turn high high-turn
+    raise-low h = record { enough = omega arith; too-few = b .too-few }
+
+    pub lower-high : count < spare → Between j low low-turn border turn
+    lower-high h = record { enough = b .enough; too-few = omega arith }
+
+  -- the labels at the border or before it are those that get a unit
+  pub ahead-served : (border turn : ℕ) → Between j border turn border (turn + 1) → (i : ℕ) → i < n → aheadIn j border turn i ≡ ltb (rankOf j i) (spareOf j)
+  unfolding rankOf countOf
+  ahead-served border turn b i inside = go (aheadIn j border turn i) refl
+    where
+      go : (e : Bool) → aheadIn j border turn i ≡ e → e ≡ ltb (rankOf j i) (spareOf j)
+      go true e =
+          sym (lt-ltb (rankOf j i) (spareOf j)
+          (omega (arith, b .too-few, tally-le (λ m. precedes j m i) (aheadIn j border (turn + 1)) (upTo n) (λ m p. before-ahead border turn i m inside (rw e tt) p))))
+      go false e =
+          sym (le-ltb (rankOf j i) (spareOf j)
+          (omega (arith, b .enough, tally-le (aheadIn j border turn) (λ m. precedes j m i) (upTo n) (λ m a. ahead-before border turn i m (λ t. rw e at t) a))))

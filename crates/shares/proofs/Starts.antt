@@ -1,0 +1,113 @@
+-- Kind 7: the starts and the shares, as lists with a number for each label.
+-- Assumes nothing.
+use mathlib.Core.Path.{_≡_, refl, sym, ap, _∙_}
+use Prim.Native.Nat.{ℕ, zero, suc, _+_, _-_, _*_, _/_, _%_, _≤_, _<_}
+use native.Mathlib.Nat.{div-add-mod', div-le-of-le-mul, mul-le-mul-left, mul-comm, zero-add}
+use native.Mathlib.Numerals.{add-one}
+use native.Mathlib.Omega.{arith}
+use mathlib.Core.List.{List, [], _∷_, map}
+use mathlib.Core.Bool.{Bool, true, false}
+use lib.Dec.{ltb}
+use mir.Val.{boolByte}
+use lib.ListN.{length, take}
+use lib.Seq.{ext-getD}
+use borrow.Author.Tests.{le-ltb}
+use Rattle.meaning.specs.Lists.{at, sum, upTo, if}
+use Rattle.meaning.specs.Job.{Job, labels}
+use Rattle.meaning.specs.Shares.{startOf, remainderOf, spareOf, rankOf, shareOf, sharesOf}
+use Rattle.meaning.proofs.UpTo.{made-at, made-length}
+use Rattle.meaning.proofs.Loops.{sum-more, sum-done}
+use Rattle.meaning.proofs.SharesSum.{sumOver, starts-within, shares-sum}
+use Rattle.rows.specs.Rows.{Stored}
+use Rattle.shares.specs.Borders.{Started}
+
+-- a test as a number
+pub one-or-none : (b : Bool) → boolByte b ≡ if b 1 0
+unfolding if
+one-or-none true = refl
+one-or-none false = refl
+
+-- ---- lists
+
+-- the first members sum to no more than all
+front-within : (xs : List ℕ) (i : ℕ) → sum (take i xs) ≤ sum xs
+unfolding sum
+front-within xs zero = omega arith
+front-within [] (suc i) = omega arith
+front-within (x ∷ xs) (suc i) = omega (arith, front-within xs i)
+
+-- no member is more than the sum
+pub member-within : (xs : List ℕ) (i : ℕ) → i < length xs → at xs i ≤ sum xs
+member-within xs i h = omega (arith, sum-more xs i h, front-within xs (suc i))
+
+-- a list that holds a rule's number at each place
+made-of : (f : ℕ → ℕ) (n : ℕ) (xs : List ℕ) → length xs ≡ n → ((i : ℕ) → i < n → at xs i ≡ f i) → xs ≡ map f (upTo n)
+made-of f n xs long each = ext-getD 0 xs (map f (upTo n)) (long ∙ sym (made-length f n)) (λ i h. each i (omega arith) ∙ sym (made-at f n i (omega arith)))
+
+-- ---- starts
+
+-- the whole part of C times a claim over S is no more than C
+pub start-within : (budget claim claimed : ℕ) → claim ≤ claimed → budget * claim / claimed ≤ budget
+start-within budget claim claimed h = div-le-of-le-mul claimed (omega (arith, mul-le-mul-left budget h, mul-comm budget claimed))
+
+-- the division by the start that is kept: what is left is the remainder
+pub whole : (product start claimed : ℕ) → start ≡ product / claimed → start * claimed + product % claimed ≡ product
+whole product start claimed e = ap (λ (x : ℕ). x * claimed + product % claimed) e ∙ div-add-mod' product claimed
+
+-- the product of C and claim i over S
+module _ (j : Job) (i product claim claimed : ℕ) (made : product ≡ j .budget * claim) (read : claim ≡ at (j .weights) i) (summed : claimed ≡ sum (j .weights)) where
+  pub kept-start : product / claimed ≡ startOf j i
+  unfolding startOf
+  kept-start = rw (made, read, summed)
+
+  pub kept-remainder : product % claimed ≡ remainderOf j i
+  unfolding remainderOf
+  kept-remainder = rw (made, read, summed)
+
+-- the places that a loop stored, from the first on
+pub stored-each : (s t : List ℕ) (n : ℕ) (rule : ℕ → ℕ) → Stored s t 0 0 n rule → (i : ℕ) → i < n → at t i ≡ rule i
+stored-each s t n rule d i h = ap (at t) (sym (zero-add i)) ∙ d .cells i (omega arith) h
+
+module _ (j : Job) where
+  -- every start
+  abbrev pub starts : List ℕ
+  starts = map (startOf j) (upTo (labels j))
+
+  -- one start less
+  pub spare-step : 0 < sum (j .weights) → (i start spare : ℕ) → i < labels j → start ≡ startOf j i → spare + sum (take i starts) ≡ j .budget
+      → (start ≤ spare) × (spare - start + sum (take (i + 1) starts) ≡ j .budget)
+  unfolding sumOver labels
+  spare-step pos i start spare h e rest =
+      let more : sum (take (i + 1) starts) ≡ sum (take i starts) + start =
+      rw add-one (sum-more starts i (omega (arith, made-length (startOf j) (labels j))) ∙ omega (arith, made-at (startOf j) (labels j) i h)) in
+      let fits : start ≤ spare = omega (arith, front-within starts (i + 1), starts-within j pos) in
+      (fits, omega arith)
+
+  -- every start less
+  pub spare-done : (i spare : ℕ) → labels j ≤ i → spare + sum (take i starts) ≡ j .budget → spare ≡ spareOf j
+  unfolding spareOf
+  spare-done i spare h rest = omega (arith, sum-done starts (sum (take i starts)) i (omega (arith, made-length (startOf j) (labels j))) refl)
+
+  -- ---- shares
+
+  -- a share is no more than C
+  pub share-within : 0 < sum (j .weights) → (i : ℕ) → i < labels j → shareOf j i ≤ j .budget
+  unfolding sharesOf
+  share-within pos i h =
+      omega (arith, member-within (sharesOf j) i (omega (arith, made-length (shareOf j) (labels j))), shares-sum j pos, made-at (shareOf j) (labels j) i h)
+
+  pub shares-made : (xs : List ℕ) → length xs ≡ labels j → ((i : ℕ) → i < labels j → at xs i ≡ shareOf j i) → xs ≡ sharesOf j
+  unfolding sharesOf
+  shares-made = made-of (shareOf j) (labels j)
+
+  -- with no unit to give, the starts are the shares
+  pub none-spare : (claimed : ℕ) (xs : List ℕ) → spareOf j ≡ 0 → Started j claimed xs → xs ≡ sharesOf j
+  unfolding shareOf if
+  none-spare claimed xs none s =
+      shares-made xs (s .long)
+      (λ i h. s .each i h ∙ rw (le-ltb (rankOf j i) (spareOf j) (omega arith)) (omega arith))
+
+  -- a start, and a unit where the label gets one
+  pub share-given : (i start : ℕ) (b : Bool) → start ≡ startOf j i → b ≡ ltb (rankOf j i) (spareOf j) → start + boolByte b ≡ shareOf j i
+  unfolding shareOf
+  share-given i start b e f = rw (one-or-none b, f, e)

@@ -1,0 +1,81 @@
+use mathlib.Core.Path.{_≡_}
+use Prim.Native.Nat.{_+_, _-_, _/_, _≤_, _<_}
+use native.Mathlib.Omega.{arith}
+use lib.ListN.{length}
+use borrow.Author.Needs.{needs}
+use Rattle.meaning.specs.Job.{Job}
+use Rattle.numbers.specs.Handed.{weightsHanded}
+use Rattle.shares.specs.Borders.{Between}
+use Rattle.shares.proofs.Borders.{between-turns, raise-low, lower-high}
+use Rattle.shares.proofs.border_turn.Statement.{statement}
+use Rattle.shares.proofs.border_turn.Tie as tie
+
+abbrev Inv-loop : tie.InvT-loop
+Inv-loop budget weights wbytes claimed starts spare border low₀ high₀ low high = (low < high) × (high ≤ length starts) × Between (weightsHanded 7 budget weights wbytes) border low border high
+
+abbrev μ-loop : tie.MeasureT-loop
+μ-loop budget weights wbytes claimed starts spare border low₀ high₀ low high = high - low
+
+abbrev job : tie.Start Inv-loop μ-loop → Job
+job s = weightsHanded 7 (s .args .budget) (s .args .weights .now) (s .args .wbytes .now)
+
+loop-holds : tie.Need-loop-holds Inv-loop μ-loop
+loop-holds c =
+    let s = c .before .before .before in
+    let (b, some) = between-turns (job s) (s .args .border) (s .pre .1 .1) in
+    (omega (arith, s .pre .0 .long), omega arith, rw (s .pre .0 .long) b)
+
+sub-loop : tie.Need-sub-loop Inv-loop μ-loop
+sub-loop c = search needs
+
+sub-middle : tie.Need-sub-middle Inv-loop μ-loop
+sub-middle c = search needs
+
+add-middle : tie.Need-add-middle Inv-loop μ-loop
+add-middle c = omega arith
+
+count-ahead-requires : tie.Need-count-ahead-requires Inv-loop μ-loop
+count-ahead-requires c κs = search needs
+
+loop-less : tie.Need-loop-less Inv-loop μ-loop
+loop-less c = search needs
+
+loop-again : tie.Need-loop-again Inv-loop μ-loop
+loop-again c =
+    let s = c .before .before .before .before .before .before .before in
+    let l = c .before .before .before .loop in
+    let count = c .before .count-ahead in
+    (omega arith, l .inv .1, raise-low (job s) (s .args .border) (l .low) (s .args .border) (l .high) (s .args .border) (l .low + (l .high - l .low) / 2) (s .args .spare) (count .result) (l .inv .2) (s .pre .1 .0) (count .ensures) (omega arith))
+
+loop-less-2 : tie.Need-loop-less-2 Inv-loop μ-loop
+loop-less-2 c = search needs
+
+loop-again-2 : tie.Need-loop-again-2 Inv-loop μ-loop
+loop-again-2 c =
+    let s = c .before .before .before .before .before .before .before in
+    let l = c .before .before .before .loop in
+    let count = c .before .count-ahead in
+    (omega arith, omega arith, lower-high (job s) (s .args .border) (l .low) (s .args .border) (l .high) (s .args .border) (l .low + (l .high - l .low) / 2) (s .args .spare) (count .result) (l .inv .2) (s .pre .1 .0) (count .ensures) (omega arith))
+
+returns : tie.Need-returns Inv-loop μ-loop
+returns c =
+    let l = c .before .loop in
+    let end : l .high ≡ l .low + 1 = omega arith in
+    rw end at (l .inv .2)
+
+pub border-turn-spec : {M : Type 1} → statement M
+border-turn-spec =
+    tie.close
+    (tie.spec
+    Inv-loop
+    μ-loop
+    loop-holds
+    sub-loop
+    sub-middle
+    add-middle
+    count-ahead-requires
+    loop-less
+    loop-again
+    loop-less-2
+    loop-again-2
+    returns)

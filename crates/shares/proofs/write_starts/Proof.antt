@@ -1,0 +1,119 @@
+use mathlib.Core.Path.{_≡_, _∙_}
+use Prim.Native.Nat.{_+_, _-_, _≤_}
+use native.Mathlib.Omega.{arith}
+use lib.ListN.{length, take, length-set}
+use borrow.Author.Needs.{needs}
+use Rattle.meaning.specs.Lists.{sum}
+use Rattle.meaning.specs.Job.{Job, jobOf, labels}
+use Rattle.meaning.specs.Shares.{startOf}
+use Rattle.numbers.specs.Handed.{handed, weightsHanded}
+use Rattle.rows.specs.Rows.{Stored}
+use Rattle.rows.proofs.Stores.{stored-up}
+use Rattle.shares.proofs.Starts.{starts, member-within, start-within, kept-start, stored-each, spare-step, spare-done}
+use Rattle.shares.proofs.write_starts.Statement.{statement}
+use Rattle.shares.proofs.write_starts.Tie as tie
+
+abbrev Inv-loop : tie.InvT-loop
+Inv-loop budget weights wbytes claimed shares₀ spare₀ i₀ shares spare i = (i ≤ length shares₀) × (length shares ≡ length shares₀) × Stored shares₀ shares 0 0 i (startOf (weightsHanded 7 budget weights wbytes)) × (spare + sum (take i (starts (weightsHanded 7 budget weights wbytes))) ≡ budget)
+
+abbrev μ-loop : tie.MeasureT-loop
+μ-loop budget weights wbytes claimed shares₀ spare₀ i₀ shares spare i = length shares₀ - i
+
+abbrev job : tie.Start Inv-loop μ-loop → Job
+job s = weightsHanded 7 (s .args .budget) (s .args .weights .now) (s .args .wbytes .now)
+
+-- what the call of `start` leaves
+module _ (c : tie.After-start Inv-loop μ-loop) where
+  abbrev entry : tie.Start Inv-loop μ-loop
+  entry = c .before .before .before .before .before .before .before .before
+
+  started : c .start .result ≡ startOf (job entry) (c .before .before .before .before .loop .i)
+  unfolding jobOf
+  started =
+      c .start .ensures
+      ∙ kept-start (job entry) (c .before .before .before .before .loop .i) (c .before .wide-product .result) (c .before .before .item .result) (entry .args .claimed)
+      (c .before .wide-product .ensures) (c .before .before .item .ensures) (entry .pre .0 .0)
+
+  step : let l = c .before .before .before .before .loop in (c .start .result ≤ l .spare) × (l .spare - c .start .result + sum (take (l .i + 1) (starts (job entry))) ≡ entry .args .budget)
+  unfolding jobOf labels
+  step = let l = c .before .before .before .before .loop in spare-step (job entry) (omega (arith, entry .pre .0)) (l .i) (c .start .result) (l .spare) (omega (arith, entry .pre .1)) started (l .inv .3)
+
+loop-holds : tie.Need-loop-holds Inv-loop μ-loop
+unfolding sum
+loop-holds c = search needs
+
+item-requires : tie.Need-item-requires Inv-loop μ-loop
+item-requires c κs = search needs
+
+wide-product-requires : tie.Need-wide-product-requires Inv-loop μ-loop
+wide-product-requires c κs = search needs
+
+start-requires : tie.Need-start-requires Inv-loop μ-loop
+unfolding jobOf
+start-requires c κs =
+    let s = c .before .before .before .before .before .before .before in
+    let a = s .args in
+    let i = c .before .before .before .loop .i in
+    let light = member-within (handed (a .weights .now) (a .wbytes .now)) i (omega (arith, s .pre .1)) in
+    let fits = start-within (a .budget) (c .before .item .result) (a .claimed) (omega (arith, light, c .before .item .ensures, s .pre .0 .0)) in
+    (s .pre .0 .1, rw (c .wide-product .ensures) (omega (arith, fits)))
+
+mul-shares : tie.Need-mul-shares Inv-loop μ-loop
+mul-shares c = search needs
+
+slice-write-shares : tie.Need-slice-write-shares Inv-loop μ-loop
+slice-write-shares c = search needs
+
+sub-spare : tie.Need-sub-spare Inv-loop μ-loop
+unfolding jobOf labels
+sub-spare c = step c .0
+
+add-i : tie.Need-add-i Inv-loop μ-loop
+add-i c = search needs
+
+loop-less : tie.Need-loop-less Inv-loop μ-loop
+loop-less c = search needs
+
+loop-again : tie.Need-loop-again Inv-loop μ-loop
+unfolding jobOf labels
+loop-again c =
+    let l = c .before .before .before .before .loop in
+    let s = entry c in
+    (omega arith, simp length-set (l .inv .1), stored-up (s .args .shares .now) 0 0 (l .i) (startOf (job s)) (l .shares) (l .i) (c .start .result) (omega arith) (l .inv .2) (omega arith) (omega arith) (started c), step c .1)
+
+same-length : tie.Need-same-length Inv-loop μ-loop
+same-length c = search needs
+
+returns : tie.Need-returns Inv-loop μ-loop
+unfolding jobOf labels
+returns c =
+    let s = c .before .before .before .before .before in
+    let l = c .before .loop in
+    let all : l .i ≡ labels (job s) = omega (arith, s .pre .1) in (
+      record {
+        summed = s .pre .0 .0;
+        positive = s .pre .0 .1;
+        long = omega (arith, s .pre .1);
+        each = λ i h. stored-each (s .args .shares .now) (l .shares) (l .i) (startOf (job s)) (l .inv .2) i (omega arith);
+      },
+      spare-done (job s) (l .i) (l .spare) (omega arith) (l .inv .3),
+    )
+
+pub write-starts-spec : {M : Type 1} → statement M
+write-starts-spec =
+    tie.close
+    (tie.spec
+    Inv-loop
+    μ-loop
+    loop-holds
+    item-requires
+    wide-product-requires
+    start-requires
+    mul-shares
+    slice-write-shares
+    sub-spare
+    add-i
+    loop-less
+    loop-again
+    same-length
+    returns)
