@@ -1,13 +1,13 @@
 -- `unfolding opens` unfolds every definition of specs/ that computes: for proofs on closed jobs.
 -- Assumes nothing.
-use Rattle.meaning.specs.Lists.{sum, total, every, upTo, if}
+use Rattle.meaning.specs.Lists.{sum, total, every, upTo, if, tally}
 use Rattle.meaning.specs.Job.{jobOf, budgetsOf, labels, allKinds, kindOf}
 use Rattle.meaning.specs.Lent.{lentOf, roomOf, cellCount, roomFor}
 use Rattle.meaning.specs.Refusals.{mostLabels, mostSizes, mostClaims, mostBudget, mostShared, mostValue, mostCopies, leastCopies, positive, ascendingFrom, anything, eachWithin, hasCopies, leastValue, knapsackRules, weightRules, rulesOf, listsFit, boundsFit, numbersFit, roomFits, claimsFit, jobRefusal, kindRefusal}
 use Rattle.meaning.specs.Bytes.{numberAt, numbersIn, between, isNeeded, wholeSection, readSection, withSection, atEnd, readJob, bytesOf, bytesOfAll, sectionBytes, jobBytes}
 use Rattle.meaning.specs.Knapsacks.{orderOf, cellNumber}
 use Rattle.meaning.specs.Blocks.{blockOrder, tooMany}
-use Rattle.meaning.specs.Shares.{startOf, remainderOf, spareOf, precedes, tally, rankOf, shareOf, sharesOf}
+use Rattle.meaning.specs.Shares.{startOf, remainderOf, spareOf, precedes, rankOf, shareOf, sharesOf}
 use Rattle.meaning.specs.Answers.{saidOf, judgedOf, wroteOf}
 use Rattle.meaning.specs.Solved.{waysAnswer}
 use Rattle.meaning.specs.Certificates.{orElse, first, someCount, mostPicks, cellAt, belowWith, tooLow, overPicked, overweight, lowCell, misvalued, unlessFound, verdictOnCells, certificateBroken, verdictOnCertificate, certifiedSort, certifiedAs, certifiedRefusal, unlessRefused, verdictOnJob, verdictOf}

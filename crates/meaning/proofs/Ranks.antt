@@ -11,10 +11,10 @@ use mathlib.Core.List.{List, List·Memᴰ, List·Memᴰ·eq-of-singleton, List·
 use lib.Dec.{T, eqb, ltb}
 use lib.ListN.{length-map}
 use mir.Facts.{and-yes, eqb-yes, ltb-yes, or-yes, yes-and, yes-eqb, yes-ltb}
-use Rattle.meaning.specs.Lists.{upTo}
+use Rattle.meaning.specs.Lists.{upTo, tally}
 use Rattle.meaning.specs.Counting.{Distinct}
 use Rattle.meaning.specs.Job.{Job, labels}
-use Rattle.meaning.specs.Shares.{precedes, rankOf, remainderOf, tally}
+use Rattle.meaning.specs.Shares.{precedes, rankOf, remainderOf}
 use Rattle.meaning.proofs.UpTo.{upTo-in, upTo-length, upTo-out}
 use Rattle.meaning.proofs.Tests.{or-left, or-right}
 use Rattle.meaning.proofs.Counting.{distinct-append, distinct-map, fills}

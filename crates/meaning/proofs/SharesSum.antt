@@ -8,9 +8,9 @@ use mathlib.Core.Bool.{Bool}
 use mathlib.Core.List.{List, [], _∷_, map, map-append}
 use lib.Dec.{ltb}
 use lib.ListN.{length, take}
-use Rattle.meaning.specs.Lists.{at, if, sum, upTo}
+use Rattle.meaning.specs.Lists.{at, if, sum, upTo, tally}
 use Rattle.meaning.specs.Job.{Job, labels}
-use Rattle.meaning.specs.Shares.{rankOf, remainderOf, shareOf, sharesOf, spareOf, startOf, tally}
+use Rattle.meaning.specs.Shares.{rankOf, remainderOf, shareOf, sharesOf, spareOf, startOf}
 use Rattle.meaning.proofs.Loops.{sum-all, sum-more, sum-snoc}
 use Rattle.meaning.proofs.Tally.{tally-step}
 use Rattle.meaning.proofs.Ranks.{served}

@@ -11,9 +11,8 @@ use mathlib.Core.List.{List, List·Memᴰ, List·Memᴰ·cases-cons, List·Mem�
 use lib.Dec.{T, ltb}
 use lib.ListN.{length}
 use borrow.Author.Tests.{le-ltb, lt-ltb}
-use Rattle.meaning.specs.Lists.{if, upTo}
+use Rattle.meaning.specs.Lists.{if, upTo, tally}
 use Rattle.meaning.specs.Counting.{Counted, Distinct}
-use Rattle.meaning.specs.Shares.{tally}
 use Rattle.meaning.proofs.Counting.{counted-iff, counted-unique}
 
 one-le : (b c : Bool) → (T b → T c) → if b 1 0 ≤ if c 1 0

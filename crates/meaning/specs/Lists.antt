@@ -34,3 +34,8 @@ upTo (suc n) = upTo n ++ (n ∷ [])
 unfoldable pub if : {A : Type 0} → Bool → A → A → A
 if true one other = one
 if false one other = other
+
+-- how many members pass the test
+unfoldable pub tally : (ℕ → Bool) → List ℕ → ℕ
+tally test [] = 0
+tally test (x ∷ xs) = if (test x) 1 0 + tally test xs

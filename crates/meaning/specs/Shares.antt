@@ -2,9 +2,9 @@
 -- Assumes nothing.
 use Prim.Native.Nat.{ℕ, _+_, _-_, _*_, _/_, _%_}
 use mathlib.Core.Bool.{Bool, _&&_, _||_}
-use mathlib.Core.List.{List, [], _∷_, map}
+use mathlib.Core.List.{List, map}
 use lib.Dec.{ltb, eqb}
-use Rattle.meaning.specs.Lists.{at, sum, upTo, if}
+use Rattle.meaning.specs.Lists.{at, sum, tally, upTo, if}
 use Rattle.meaning.specs.Job.{Job, labels}
 
 -- share i starts as the whole part of C times claim i over S
@@ -22,11 +22,6 @@ spareOf j = j .budget - sum (map (startOf j) (upTo (labels j)))
 -- label i goes before label m: its remainder is larger, or equal and its number lower
 unfoldable pub precedes : Job → ℕ → ℕ → Bool
 precedes j i m = ltb (remainderOf j m) (remainderOf j i) || (eqb (remainderOf j i) (remainderOf j m) && ltb i m)
-
--- how many members pass the test
-unfoldable pub tally : (ℕ → Bool) → List ℕ → ℕ
-tally test [] = 0
-tally test (x ∷ xs) = if (test x) 1 0 + tally test xs
 
 -- how many labels go before label m
 unfoldable pub rankOf : Job → ℕ → ℕ

@@ -11,9 +11,9 @@ use lib.Dec.{T, leb, ltb, eqb}
 use mir.Val.{boolByte}
 use mir.Facts.{ltb-yes, leb-yes, yes-ltb, yes-leb}
 use borrow.Author.Tests.{eqb-true, eq-eqb, ne-eqb, lt-ltb, le-ltb}
-use Rattle.meaning.specs.Lists.{at, sum, upTo, if}
+use Rattle.meaning.specs.Lists.{at, sum, upTo, if, tally}
 use Rattle.meaning.specs.Job.{Job, labels}
-use Rattle.meaning.specs.Shares.{remainderOf, spareOf, precedes, tally, rankOf}
+use Rattle.meaning.specs.Shares.{remainderOf, spareOf, precedes, rankOf}
 use Rattle.meaning.proofs.UpTo.{upTo-length}
 use Rattle.meaning.proofs.Tally.{tally-le, all-tally, tally-step, tally-below}
 use Rattle.meaning.proofs.Ranks.{precedes-out, precedes-in}

@@ -6,9 +6,9 @@ use mathlib.Core.Bool.{Bool}
 use mathlib.Core.List.{List}
 use lib.Dec.{leb, ltb, eqb}
 use lib.ListN.{length}
-use Rattle.meaning.specs.Lists.{at, sum, upTo, if}
+use Rattle.meaning.specs.Lists.{at, sum, upTo, if, tally}
 use Rattle.meaning.specs.Job.{Job, labels}
-use Rattle.meaning.specs.Shares.{startOf, remainderOf, spareOf, tally}
+use Rattle.meaning.specs.Shares.{startOf, remainderOf, spareOf}
 
 -- what a border is found by: `claimed` is S, which is positive, and `starts` holds each label's start
 pub record Started (j : Job) (claimed : ℕ) (starts : List ℕ) : Type 0 where

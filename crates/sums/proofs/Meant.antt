@@ -11,11 +11,10 @@ use lib.ListN.{length, drop}
 use mir.Facts.{eqb-yes}
 use Rattle.meaning.specs.declared.Answer.{Answer}
 use Rattle.meaning.specs.declared.Answer.the-variants as Says
-use Rattle.meaning.specs.Lists.{at, if, upTo}
+use Rattle.meaning.specs.Lists.{at, if, upTo, tally}
 use Rattle.meaning.specs.Job.{Job, labels, subset-sums}
 use Rattle.meaning.specs.Lent.{lentOf, roomFor, roomOf}
 use Rattle.meaning.specs.Refusals.{mostBudget, rulesOf, weightRules}
-use Rattle.meaning.specs.Shares.{tally}
 use Rattle.meaning.specs.Sums.{Reached, ReachedWithin, Tells, is-so, is-not, bit, BitTable, YesOrNo, TotalCount}
 use Rattle.meaning.specs.Solved.{Unrefused, Gives, TableHolds}
 use Rattle.meaning.specs.Doors.{SolvedInWords}

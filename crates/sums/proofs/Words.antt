@@ -2,40 +2,32 @@
 -- Assumes nothing.
 use mathlib.Core.Path.{_≡_, ap, sym, _∙_}
 use Prim.Native.Nat.{ℕ, _+_, _-_, _*_, _/_, _%_, _^_, _≤_, _<_, max}
-use native.Mathlib.Nat.{zero-add}
 use native.Mathlib.Omega.{arith}
 use mathlib.Core.List.{List}
 use lib.Bits.{bitOr}
 use lib.ListN.{length, set}
 use Rattle.meaning.specs.Lists.{at}
 use Rattle.meaning.specs.Sums.{bit}
-use Rattle.rows.specs.Rows.{Stored}
-use Rattle.rows.proofs.Stores.{by, at-same, at-other}
-use Rattle.sums.specs.Words.{NoLabels, Added, Trimmed}
+use Rattle.rows.specs.Rows.{FirstAlone}
+use Rattle.rows.proofs.Stores.{by, at-other}
+use Rattle.sums.specs.Words.{Added, Trimmed}
 use Rattle.sums.proofs.Bits.{bitOf, bit-or, bit-above, bit-shr, bit-shl, bit-shl-low, cut-low, cut-high, bit-in, bit-same, stored-bit, other-bit}
 
 -- ---- no labels
 
--- the words above the lowest are 0, and then the lowest is 1
-pub cleared : (s t : List ℕ) (len : ℕ) → 0 < length t → Stored s t 0 1 len (λ m. 0) → NoLabels (set t 0 1) len
-cleared s t len some d = record {
-  lowest = at-same t 0 1 0 some (omega arith);
-  others = λ m pos h. at-other t 0 1 m (omega arith) ∙ rw zero-add at (d .cells m pos h);
-}
-
 -- total 0 alone is reached
-pub total-0-set : (l : List ℕ) (len : ℕ) → NoLabels l len → bit l 0 ≡ 1
+pub total-0-set : (l : List ℕ) (len : ℕ) → FirstAlone len l → bit l 0 ≡ 1
 unfolding bitOf
-total-0-set l len d = bit-in l 0 0 0 (omega arith) (omega arith) ∙ ap (λ (x : ℕ). bitOf x 0) (d .lowest)
+total-0-set l len d = bit-in l 0 0 0 (omega arith) (omega arith) ∙ ap (λ (x : ℕ). bitOf x 0) (d .one)
 
-pub other-unset : (l : List ℕ) (len u : ℕ) → NoLabels l len → 0 < u → u < 64 * len → bit l u ≡ 0
+pub other-unset : (l : List ℕ) (len u : ℕ) → FirstAlone len l → 0 < u → u < 64 * len → bit l u ≡ 0
 other-unset l len u d pos h =
     bit-in l (u / 64) (u % 64) u (omega arith) (omega arith)
     ∙ by 0 (u / 64)
     (λ b. bit-above (at l (u / 64)) 0 (u % 64) (omega (arith, d .others (u / 64) b (omega arith))) (omega arith))
     (λ b.
     let first : u / 64 ≡ 0 = omega arith in
-    rw first (bit-above (at l 0) 1 (u % 64) (omega (arith, d .lowest)) (omega arith)))
+    rw first (bit-above (at l 0) 1 (u % 64) (omega (arith, d .one)) (omega arith)))
 
 -- ---- one label more
 

@@ -11,15 +11,11 @@ use Rattle.meaning.specs.Job.{Job}
 use Rattle.meaning.specs.Sums.{bit, BitTable}
 use Rattle.meaning.specs.Answers.{saidOf}
 use Rattle.meaning.specs.Solved.{Summed}
+use Rattle.rows.specs.Rows.{FirstAlone}
 
 -- bit t is set
 unfoldable pub isSet : List ℕ → ℕ → Bool
 isSet words t = eqb (bit words t) 1
-
--- the first `len` words say that there are no labels: total 0 alone is reached
-pub record NoLabels (words : List ℕ) (len : ℕ) : Type 0 where
-  pub lowest : at words 0 ≡ 1
-  pub others : (m : ℕ) → 0 < m → m < len → at words m ≡ 0
 
 -- t is s with a label of weight w added in the words from lo to len - 1: a bit is set there if it was, or if the bit of w less was.
 -- The words below lo are kept
@@ -28,9 +24,9 @@ pub record Added (s t : List ℕ) (w lo len : ℕ) : Type 0 where
   pub long : (u : ℕ) → 64 * lo ≤ u → u < 64 * len → w ≤ u → bit t u ≡ max (bit s u) (bit s (u - w))
   pub below : (m : ℕ) → m < lo → at t m ≡ at s m
 
--- the `len` words after the first i labels
+-- the `len` words after the first i labels; with none, total 0 alone is reached, which is the lowest bit
 pub data Marked (weights : List ℕ) (len : ℕ) : ℕ → List ℕ → Type 0 where
-  none-yet : {words : List ℕ} → NoLabels words len → Marked weights len 0 words
+  none-yet : {words : List ℕ} → FirstAlone len words → Marked weights len 0 words
   one-more : {i : ℕ} {words next : List ℕ} → Marked weights len i words → Added words next (at weights i) 0 len → Marked weights len (suc i) next
 
 -- t is s without the totals above the budget

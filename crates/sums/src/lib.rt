@@ -5,30 +5,16 @@ ghost use mathlib.Core.Path.{_≡_};
 ghost use mathlib.Core.List.{[]};
 ghost use Prim.Native.Nat.{_+_, _*_, _/_, _≤_, _<_};
 ghost use lib.ListN.{length};
-ghost use Rattle.meaning.specs.Lists.{upTo};
+ghost use Rattle.meaning.specs.Lists.{upTo, tally};
 ghost use Rattle.meaning.specs.Job.{subset-sums};
 ghost use Rattle.meaning.specs.Lent.{lentOf};
-ghost use Rattle.meaning.specs.Shares.{tally};
 ghost use Rattle.meaning.specs.Refusals.{mostBudget};
 ghost use Rattle.meaning.specs.Solved.{Unrefused};
 ghost use Rattle.meaning.specs.Doors.{SolvedInWords};
 ghost use Rattle.numbers.specs.Handed.{handed, weightsHanded};
-ghost use Rattle.sums.specs.Words.{isSet, NoLabels, Added, Marked, Trimmed, Tabled};
+ghost use Rattle.sums.specs.Words.{isSet, Added, Marked, Trimmed, Tabled};
 
 // ---- the words, label by label
-
-// The words of no labels: total 0 alone is reached.
-fn clear(words: &mut [u64])
-    requires { ⌜ 0 < length (now words) ⌝ }
-    ensures { λ _. ⌜ NoLabels (now (words .exit)) (length (now (words .entry))) ⌝ }
-{
-    let mut m = 1;
-    while m < words.len() {
-        words[m] = 0;
-        m += 1;
-    }
-    words[0] = 1;
-}
 
 // A label that weighs q whole words: from the highest word down, so that it is used once.
 fn add_words(words: &mut [u64], q: usize)
@@ -77,7 +63,7 @@ fn fill(weights: &[u32], wbytes: &[u8], words: &mut [u64])
     requires { ⌜ 0 < length (now words) ⌝ }
     ensures { λ _. ⌜ Marked (handed (now (weights .entry)) (now (wbytes .entry))) (length (now (words .entry))) (length (handed (now (weights .entry)) (now (wbytes .entry)))) (now (words .exit)) ⌝ }
 {
-    clear(words);
+    rows::first_alone(words);
     let n = numbers::list_length(weights, wbytes);
     let mut i = 0;
     while i < n {

@@ -3,9 +3,8 @@ use Prim.Native.Nat.{ℕ, _+_, _-_, _≤_}
 use native.Mathlib.Omega.{arith}
 use mir.Val.{boolByte}
 use borrow.Author.Needs.{needs}
-use Rattle.meaning.specs.Lists.{upTo}
+use Rattle.meaning.specs.Lists.{upTo, tally}
 use Rattle.meaning.specs.Job.{Job, jobOf, labels}
-use Rattle.meaning.specs.Shares.{tally}
 use Rattle.numbers.specs.Handed.{weightsHanded}
 use Rattle.shares.specs.Borders.{aheadIn, countOf}
 use Rattle.shares.proofs.Borders.{tally-more, tally-most}

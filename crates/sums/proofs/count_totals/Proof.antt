@@ -6,8 +6,7 @@ use mathlib.Core.Bool.{Bool, true, false}
 use lib.ListN.{length}
 use mir.Val.{boolByte}
 use borrow.Author.Needs.{needs}
-use Rattle.meaning.specs.Lists.{upTo, if}
-use Rattle.meaning.specs.Shares.{tally}
+use Rattle.meaning.specs.Lists.{upTo, if, tally}
 use Rattle.meaning.specs.Refusals.{mostBudget}
 use Rattle.meaning.proofs.Tally.{tally-step}
 use Rattle.sums.specs.Words.{isSet}

@@ -15,14 +15,14 @@ Inv-loop weights wbytes words₀ n i₀ words i = (i ≤ n) × (length words ≡
 abbrev μ-loop : tie.MeasureT-loop
 μ-loop weights wbytes words₀ n i₀ words i = n - i
 
-clear-requires : tie.Need-clear-requires Inv-loop μ-loop
-clear-requires c κs = search needs
+first-alone-requires : tie.Need-first-alone-requires Inv-loop μ-loop
+first-alone-requires c κs = search needs
 
 list-length-requires : tie.Need-list-length-requires Inv-loop μ-loop
 list-length-requires c κs = search needs
 
 loop-holds : tie.Need-loop-holds Inv-loop μ-loop
-loop-holds c = let clear = c .before .before .before .clear in (omega arith, refl, rw (clear .kept .0) (none-yet (clear .ensures)))
+loop-holds c = let words = c .before .before .before .first-alone in (omega arith, refl, rw (words .kept .0) (none-yet (words .ensures)))
 
 item-requires : tie.Need-item-requires Inv-loop μ-loop
 item-requires c κs = omega (arith, c .before .before .before .list-length .ensures)
@@ -44,14 +44,14 @@ loop-again c =
     (omega arith, label .kept .0 ∙ l .inv .1, rw add-one (one-more (l .inv .2) (rw (l .inv .1, w) at (label .ensures))))
 
 same-length : tie.Need-same-length Inv-loop μ-loop
-same-length c = c .before .loop .inv .1 ∙ c .before .before .before .before .before .clear .kept .0
+same-length c = c .before .loop .inv .1 ∙ c .before .before .before .before .before .first-alone .kept .0
 
 returns : tie.Need-returns Inv-loop μ-loop
 returns c =
     let l = c .before .loop in
     let n = c .before .before .list-length in
     let all : l .i ≡ n .result = omega arith in
-    rw (← n .ensures, ← all, ← c .before .before .before .before .before .clear .kept .0) (l .inv .2)
+    rw (← n .ensures, ← all, ← c .before .before .before .before .before .first-alone .kept .0) (l .inv .2)
 
 pub fill-spec : {M : Type 1} → statement M
 fill-spec =
@@ -59,7 +59,7 @@ fill-spec =
     (tie.spec
     Inv-loop
     μ-loop
-    clear-requires
+    first-alone-requires
     list-length-requires
     loop-holds
     item-requires
