@@ -23,50 +23,48 @@ few s = ready (s .pre .sort) (job s) (replicate 64 0) (replicate 4 0) (s .pre .u
 slice-aggregate-solve : tie.Need-slice-aggregate-solve
 slice-aggregate-solve c = search needs
 
+-- src/main.rt:83:9
 slice-aggregate-solve-2 : tie.Need-slice-aggregate-solve-2
 slice-aggregate-solve-2 c = search needs
 
+-- src/main.rt:73:9
 solve-requires : tie.Need-solve-requires
 solve-requires c κs =
     let s = c .before .before .before .before .before .before .before .before in
     accepted-long (job s) (replicate 64 0) (replicate 4 0) _ _ refl refl (s .pre)
 
+-- src/main.rt:85:18
 slice-aggregate-print-number : tie.Need-slice-aggregate-print-number
 slice-aggregate-print-number c = search needs
 
+-- src/main.rt:85:5
 print-number-requires : tie.Need-print-number-requires
 print-number-requires c κs = search needs
 
-enum-known-answer : tie.Need-enum-known-answer
-enum-known-answer c = search needs
+-- src/main.rt:86:5
+print-answer-requires : tie.Need-print-answer-requires
+print-answer-requires c κs = search needs
 
-slice-aggregate-print-number-2 : tie.Need-slice-aggregate-print-number-2
-slice-aggregate-print-number-2 c = search needs
-
-print-number-requires-2 : tie.Need-print-number-requires-2
-print-number-requires-2 c κs = search needs
-
-slice-aggregate-print-number-3 : tie.Need-slice-aggregate-print-number-3
-slice-aggregate-print-number-3 c = search needs
-
-print-number-requires-3 : tie.Need-print-number-requires-3
-print-number-requires-3 c κs = search needs
-
+-- src/main.rt:87:9
 list-length-requires : tie.Need-list-length-requires
 list-length-requires c κs = search needs
 
+-- src/main.rt:88:17
 room : (c : tie.After-list-length) → c .list-length .result ≤ length (c .before .before .before .before .before .before .solve .last .1 .1 .1 .1 .1 .1 .1 .1 .1 .0)
 room c = omega (arith, few (c .before .before .before .before .before .before .before .before .before .before .before .before .before .before .before), c .list-length .ensures, c .before .before .before .before .before .before .solve .kept .1 .1 .1 .1 .1 .1 .1 .1 .1 .0)
 
 array-share-prefix-picks : tie.Need-array-share-prefix-picks
 array-share-prefix-picks c = room c
 
+-- src/main.rt:88:17
 slice-aggregate-print-picks : tie.Need-slice-aggregate-print-picks
 slice-aggregate-print-picks c = sym (length-take-le (c .before .list-length .result) _ (room (c .before)))
 
+-- src/main.rt:88:5
 print-picks-requires : tie.Need-print-picks-requires
 print-picks-requires c κs = search needs
 
+-- src/main.rt:59:1
 returns : tie.Need-returns
 returns c = search needs
 
@@ -79,11 +77,7 @@ pack-spec =
     solve-requires
     slice-aggregate-print-number
     print-number-requires
-    enum-known-answer
-    slice-aggregate-print-number-2
-    print-number-requires-2
-    slice-aggregate-print-number-3
-    print-number-requires-3
+    print-answer-requires
     list-length-requires
     array-share-prefix-picks
     slice-aggregate-print-picks
