@@ -14,12 +14,12 @@ use borrow.Author.Tests.{eqb-true, eq-eqb, ne-eqb, lt-ltb, le-ltb}
 use Rattle.meaning.specs.Lists.{at, sum, upTo, if, tally}
 use Rattle.meaning.specs.Job.{Job, labels}
 use Rattle.meaning.specs.Shares.{remainderOf, spareOf, precedes, rankOf}
-use Rattle.meaning.proofs.UpTo.{upTo-length}
-use Rattle.meaning.proofs.Tally.{tally-le, all-tally, tally-step, tally-below}
-use Rattle.meaning.proofs.Ranks.{precedes-out, precedes-in}
+use Rattle.meaning.proofs.UpTo.{upTo-in, upTo-length}
+use Rattle.meaning.proofs.Tally.{tally-le, tally-lt, all-tally, tally-step, tally-below}
+use Rattle.meaning.proofs.Ranks.{precedes-out, precedes-in, not-self}
 use Rattle.meaning.proofs.SharesSum.{sumOver, spare-few}
 use Rattle.rows.proofs.Stores.{by}
-use Rattle.shares.specs.Borders.{aheadOf, aheadIn, countOf, Between}
+use Rattle.shares.specs.Borders.{aheadOf, aheadIn, countOf, Between, RunOut, just-enough, before-next}
 use Rattle.shares.proofs.Starts.{one-or-none}
 
 -- no more are counted than there are
@@ -30,7 +30,7 @@ tally-most f n = omega (arith, tally-le f (λ i. true) (upTo n) (λ i t. tt), al
 pub tally-more : (f : ℕ → Bool) (i count : ℕ) (b : Bool) → b ≡ f i → count ≡ tally f (upTo i) → count + boolByte b ≡ tally f (upTo (i + 1))
 tally-more f i count b e c = rw add-one (rw (one-or-none b, e, c, tally-step))
 
--- ---- the order: five laws that `aheadOf` must have, and nothing below looks at its text
+-- ---- the order: six laws that `aheadOf` must have, and nothing below looks at its text
 
 -- what the test says: the remainder is larger, or equal and the turn no lower
 data Stands (r n i border turn : ℕ) : Type 0 where
@@ -105,6 +105,14 @@ module _ (j : Job) where
       next (larger l) = by (border + 1) (rem i) larger (λ le. equal (omega arith) (omega arith))
       next (equal e l) = absurd (omega arith)
 
+  -- sixth law: who stands at a border or before it does so at a lower turn
+  lower-turn : (border turn i : ℕ) → T (aheadIn j border (turn + 1) i) → T (aheadIn j border turn i)
+  lower-turn border turn i t = ahead-in (rem i) n i border turn (lower (ahead-out (rem i) n i border (turn + 1) t))
+    where
+      lower : Stands (rem i) n i border (turn + 1) → Stands (rem i) n i border turn
+      lower (larger l) = larger l
+      lower (equal e l) = equal e (omega arith)
+
   -- ---- where the units run out
 
   -- where there are units to give, they run out at a remainder below S
@@ -115,30 +123,56 @@ module _ (j : Job) where
     too-few = omega (arith, tally-le (aheadIn j S 0) (λ i. ltb i 0) (upTo n) (λ i t. absurd (none-ahead pos i t)), tally-below n 0);
   }
 
-  -- and at a turn below n
-  pub between-turns : (border : ℕ) → Between j border 0 (border + 1) 0 → Between j border 0 border n × (0 < n)
+  -- at the lowest border or before it stand all labels
+  pub all-found : n ≡ countOf j 0 0
   unfolding countOf
-  between-turns border b =
-      let some : 0 < n = omega (arith, tally-most (aheadIn j border 0) n) in
-      (record { enough = b .enough; too-few = omega (arith, b .too-few, tally-le (aheadIn j border n) (aheadIn j (border + 1) 0) (upTo n) (past-ahead some border)) }, some)
+  all-found = omega (arith, tally-most (aheadIn j 0 0) n, tally-le (λ i. true) (aheadIn j 0 0) (upTo n) (λ i t. all-ahead i), all-tally (upTo n), upTo-length n)
 
-  -- a count at another border says on which side of it they do
-  module _ (low low-turn high high-turn border turn spare count : ℕ) (b : Between j low low-turn high high-turn) (whole : spare ≡ spareOf j) (counted : count ≡ countOf j border turn) where
-    pub raise-low : spare ≤ count → Between j border turn high high-turn
-    raise-low h = record { enough = omega arith; too-few = b .too-few }
+  -- past the highest turn comes the next remainder
+  pub out-at-turn : (border : ℕ) → 0 < spareOf j → RunOut j border 0 (border + 1) 0 → RunOut j border 0 border n × (0 < n)
+  unfolding countOf
+  out-at-turn border units (just-enough e) = (just-enough e, omega (arith, tally-most (aheadIn j border 0) n))
+  out-at-turn border units (before-next b) =
+      let some : 0 < n = omega (arith, b .enough, tally-most (aheadIn j border 0) n) in
+      (before-next (record { enough = b .enough; too-few = omega (arith, b .too-few, tally-le (aheadIn j border n) (aheadIn j (border + 1) 0) (upTo n) (past-ahead some border)) }), some)
 
-    pub lower-high : count < spare → Between j low low-turn border turn
-    lower-high h = record { enough = b .enough; too-few = omega arith }
+  -- `found` labels stand at the low border or before it
+  module _ (low low-turn high high-turn spare found : ℕ) (whole : spare ≡ spareOf j) (counted : found ≡ countOf j low low-turn) where
+    -- while they are more than the units, a count at another border says on which side of it the units run out
+    module _ (out : RunOut j low low-turn high high-turn) (more : spare < found) (border turn count : ℕ) (there : count ≡ countOf j border turn) where
+      side : RunOut j low low-turn high high-turn → Between j low low-turn high high-turn
+      side (just-enough e) = absurd (omega arith)
+      side (before-next b) = b
+
+      pub raise-low : spare ≤ count → RunOut j border turn high high-turn
+      raise-low h = before-next (record { enough = omega arith; too-few = side out .too-few })
+
+      pub lower-high : count < spare → RunOut j low low-turn border turn
+      lower-high h = before-next (record { enough = side out .enough; too-few = omega arith })
+
+    -- once they aren't, no other border has a say
+    pub out-here : RunOut j low low-turn high high-turn → found ≤ spare → (next next-turn : ℕ) → RunOut j low low-turn next next-turn
+    out-here (just-enough e) h next next-turn = just-enough e
+    out-here (before-next b) h next next-turn = just-enough (omega (arith, b .enough))
 
   -- the labels at the border or before it are those that get a unit
-  pub ahead-served : (border turn : ℕ) → Between j border turn border (turn + 1) → (i : ℕ) → i < n → aheadIn j border turn i ≡ ltb (rankOf j i) (spareOf j)
+  pub ahead-served : (border turn : ℕ) → RunOut j border turn border (turn + 1) → (i : ℕ) → i < n → aheadIn j border turn i ≡ ltb (rankOf j i) (spareOf j)
   unfolding rankOf countOf
-  ahead-served border turn b i inside = go (aheadIn j border turn i) refl
+  ahead-served border turn out i inside = go (aheadIn j border turn i) refl
     where
+      enough : RunOut j border turn border (turn + 1) → spareOf j ≤ countOf j border turn
+      enough (just-enough e) = omega arith
+      enough (before-next b) = b .enough
+
+      -- who is at the border or before it: those that go before it are fewer than the units
+      low-rank : RunOut j border turn border (turn + 1) → T (aheadIn j border turn i) → rankOf j i < spareOf j
+      low-rank (just-enough e) a =
+          omega (arith, tally-lt (λ m. precedes j m i) (aheadIn j border turn) (upTo n) (λ m p. lower-turn border turn m (before-ahead border turn i m inside a p)) i (upTo-in n i inside) a (not-self j i))
+      low-rank (before-next b) a =
+          omega (arith, b .too-few, tally-le (λ m. precedes j m i) (aheadIn j border (turn + 1)) (upTo n) (λ m p. before-ahead border turn i m inside a p))
+
       go : (e : Bool) → aheadIn j border turn i ≡ e → e ≡ ltb (rankOf j i) (spareOf j)
-      go true e =
-          sym (lt-ltb (rankOf j i) (spareOf j)
-          (omega (arith, b .too-few, tally-le (λ m. precedes j m i) (aheadIn j border (turn + 1)) (upTo n) (λ m p. before-ahead border turn i m inside (rw e tt) p))))
+      go true e = sym (lt-ltb (rankOf j i) (spareOf j) (low-rank out (rw e tt)))
       go false e =
           sym (le-ltb (rankOf j i) (spareOf j)
-          (omega (arith, b .enough, tally-le (aheadIn j border turn) (λ m. precedes j m i) (upTo n) (λ m a. ahead-before border turn i m (λ t. rw e at t) a))))
+          (omega (arith, enough out, tally-le (aheadIn j border turn) (λ m. precedes j m i) (upTo n) (λ m a. ahead-before border turn i m (λ t. rw e at t) a))))

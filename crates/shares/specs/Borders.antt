@@ -34,3 +34,8 @@ countOf j border turn = tally (aheadIn j border turn) (upTo (labels j))
 pub record Between (j : Job) (low low-turn high high-turn : ℕ) : Type 0 where
   pub enough : spareOf j ≤ countOf j low low-turn
   pub too-few : countOf j high high-turn < spareOf j
+
+-- the units run out at the low border: just so many labels stand at it or before it as there are units, or at the high one fewer do
+pub data RunOut (j : Job) (low low-turn high high-turn : ℕ) : Type 0 where
+  just-enough : countOf j low low-turn ≡ spareOf j → RunOut j low low-turn high high-turn
+  before-next : Between j low low-turn high high-turn → RunOut j low low-turn high high-turn

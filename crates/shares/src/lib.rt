@@ -13,7 +13,7 @@ ghost use Rattle.meaning.specs.Shares.{startOf, spareOf, sharesOf};
 ghost use Rattle.meaning.specs.Solved.{Unrefused};
 ghost use Rattle.meaning.specs.Doors.{SolvedInPicks};
 ghost use Rattle.numbers.specs.Handed.{handed, weightsHanded};
-ghost use Rattle.shares.specs.Borders.{Started, aheadOf, aheadIn, countOf, Between};
+ghost use Rattle.shares.specs.Borders.{Started, aheadOf, aheadIn, countOf, RunOut};
 
 // ---- the starts
 
@@ -137,7 +137,7 @@ fn count_ahead(
     count
 }
 
-// The remainder at which the units run out, by halving.
+// The remainder at which the units run out, by halving. It ends as soon as just so many labels are found as there are units.
 fn border_remainder(
     budget: u32,
     weights: &[u32],
@@ -148,14 +148,18 @@ fn border_remainder(
 ) -> u64
     requires { ⌜ Started (weightsHanded 7 budget (now weights) (now wbytes)) claimed (now starts) ⌝ }
     requires { ⌜ (spare ≡ spareOf (weightsHanded 7 budget (now weights) (now wbytes))) × (0 < spare) ⌝ }
-    ensures { λ r. ⌜ Between (weightsHanded 7 budget (now (weights .entry)) (now (wbytes .entry))) r 0 (r + 1) 0 ⌝ }
+    ensures { λ r. ⌜ RunOut (weightsHanded 7 budget (now (weights .entry)) (now (wbytes .entry))) r 0 (r + 1) 0 ⌝ }
 {
+    let units = spare as usize;
     let mut low: u64 = 0;
     let mut high = claimed;
-    while 1 < high - low {
+    let mut found = starts.len();
+    while units < found && 1 < high - low {
         let middle = low + (high - low) / 2;
-        if spare as usize <= count_ahead(budget, weights, wbytes, claimed, starts, middle, 0) {
+        let count = count_ahead(budget, weights, wbytes, claimed, starts, middle, 0);
+        if units <= count {
             low = middle;
+            found = count;
         } else {
             high = middle;
         }
@@ -163,7 +167,7 @@ fn border_remainder(
     low
 }
 
-// The turn at which they run out among the labels with that remainder, by halving.
+// The turn at which they run out among the labels with that remainder, in the same way.
 fn border_turn(
     budget: u32,
     weights: &[u32],
@@ -174,15 +178,19 @@ fn border_turn(
     border: u64,
 ) -> u64
     requires { ⌜ Started (weightsHanded 7 budget (now weights) (now wbytes)) claimed (now starts) ⌝ }
-    requires { ⌜ (spare ≡ spareOf (weightsHanded 7 budget (now weights) (now wbytes))) × Between (weightsHanded 7 budget (now weights) (now wbytes)) border 0 (border + 1) 0 ⌝ }
-    ensures { λ r. ⌜ Between (weightsHanded 7 budget (now (weights .entry)) (now (wbytes .entry))) border r border (r + 1) ⌝ }
+    requires { ⌜ (spare ≡ spareOf (weightsHanded 7 budget (now weights) (now wbytes))) × ((0 < spare) × RunOut (weightsHanded 7 budget (now weights) (now wbytes)) border 0 (border + 1) 0) ⌝ }
+    ensures { λ r. ⌜ RunOut (weightsHanded 7 budget (now (weights .entry)) (now (wbytes .entry))) border r border (r + 1) ⌝ }
 {
+    let units = spare as usize;
     let mut low: u64 = 0;
     let mut high = starts.len() as u64;
-    while 1 < high - low {
+    let mut found = count_ahead(budget, weights, wbytes, claimed, starts, border, 0);
+    while units < found && 1 < high - low {
         let middle = low + (high - low) / 2;
-        if spare as usize <= count_ahead(budget, weights, wbytes, claimed, starts, border, middle) {
+        let count = count_ahead(budget, weights, wbytes, claimed, starts, border, middle);
+        if units <= count {
             low = middle;
+            found = count;
         } else {
             high = middle;
         }
@@ -201,7 +209,7 @@ fn give(
     turn: u64,
 )
     requires { ⌜ Started (weightsHanded 7 budget (now weights) (now wbytes)) claimed (now shares) ⌝ }
-    requires { ⌜ Between (weightsHanded 7 budget (now weights) (now wbytes)) border turn border (turn + 1) ⌝ }
+    requires { ⌜ RunOut (weightsHanded 7 budget (now weights) (now wbytes)) border turn border (turn + 1) ⌝ }
     ensures { λ _. ⌜ now (shares .exit) ≡ sharesOf (weightsHanded 7 budget (now (weights .entry)) (now (wbytes .entry))) ⌝ }
 {
     let n = shares.len();

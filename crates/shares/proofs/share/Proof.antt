@@ -31,7 +31,9 @@ border-remainder-requires : tie.Need-border-remainder-requires
 border-remainder-requires c κs = search needs
 
 border-turn-requires : tie.Need-border-turn-requires
-border-turn-requires c κs = search needs
+border-turn-requires c κs =
+    let w = c .before .before .before .before .before .before .write-starts in
+    (w .ensures .0, (w .ensures .1, (omega arith, c .before .border-remainder .ensures)))
 
 give-requires : tie.Need-give-requires
 give-requires c κs = search needs
