@@ -125,8 +125,8 @@ fn raise_stretch(row: &mut [u32], from: usize, to: usize, w: usize, v: u32)
 
 // Where a stretch that starts at budget c ends: within w cells no cell depends on another, so that such a stretch runs in vectors.
 pub fn stretch_end(width: usize, c: usize, w: usize) -> usize
-    requires { ⌜ (c < width) × (1 ≤ w) ⌝ }
-    ensures { λ r. ⌜ (c < r) × (r ≤ width) ⌝ }
+    requires { ⌜ c ≤ width ⌝ }
+    ensures { λ r. ⌜ r ≡ min (c + w) width ⌝ }
 {
     if width - c < w {
         return width;
