@@ -5,14 +5,17 @@ use mathlib.Core.Logic.{inl, inr}
 use Prim.Native.Nat.{_+_, _<_, _≤_, min, suc, zero, zero-le, ℕ}
 use native.Mathlib.Decide.{decLe}
 use native.Mathlib.Nat.{le-refl}
+use native.Mathlib.Numerals.{add-one}
 use native.Mathlib.Omega.{arith}
 use mathlib.Core.Bool.{Bool, false, true}
 use mathlib.Core.List.{List, List·Memᴰ, List·Memᴰ·cases-cons, List·Memᴰ·head, List·Memᴰ·not-nil, List·Memᴰ·tail, [], _++_, _∷_, map}
 use lib.Dec.{T, ltb}
 use lib.ListN.{length}
 use borrow.Author.Tests.{le-ltb, lt-ltb}
+use mir.Val.{boolByte}
 use Rattle.meaning.specs.Lists.{if, upTo, tally}
 use Rattle.meaning.specs.Counting.{Counted, Distinct}
+use Rattle.meaning.proofs.UpTo.{upTo-length}
 use Rattle.meaning.proofs.Counting.{counted-iff, counted-unique}
 
 one-le : (b c : Bool) → (T b → T c) → if b 1 0 ≤ if c 1 0
@@ -113,3 +116,19 @@ tally-below (suc k) s =
       | yes le ↦ rw (le-ltb k s le) (omega (arith, tally-below k s))
       | no gt ↦ rw (lt-ltb k s (omega arith)) (omega (arith, tally-below k s))
     ]
+
+-- ---- as a loop counts: a test that passed is one more
+
+-- a test as a number
+pub one-or-none : (b : Bool) → boolByte b ≡ if b 1 0
+unfolding if
+one-or-none true = refl
+one-or-none false = refl
+
+-- no more are counted than there are
+pub tally-most : (f : ℕ → Bool) (n : ℕ) → tally f (upTo n) ≤ n
+tally-most f n = omega (arith, tally-le f (λ i. true) (upTo n) (λ i t. tt), all-tally (upTo n), upTo-length n)
+
+-- the code adds the test of i, and goes on at i + 1
+pub tally-more : (f : ℕ → Bool) (i count : ℕ) (b : Bool) → b ≡ f i → count ≡ tally f (upTo i) → count + boolByte b ≡ tally f (upTo (i + 1))
+tally-more f i count b e c = rw add-one (rw (one-or-none b, e, c, tally-step))

@@ -3,6 +3,7 @@
 use mathlib.Core.Path.{_≡_, refl, sym, ap, ap₂, _∙_}
 use Prim.Native.Nat.{ℕ, suc, _+_, _-_, _*_, _≤_, _<_, max}
 use native.Mathlib.Decide.{decLt}
+use native.Mathlib.Nat.{zero-add}
 use native.Mathlib.Omega.{arith}
 use mathlib.Core.List.{List, _∷_}
 use lib.ListN.{length, set, drop}
@@ -31,6 +32,10 @@ pub stored-first : (l : List ℕ) (i x : ℕ) → i < length l → drop i (set l
 stored-first l i x h =
     drop-cons (set l i x) i 0 (lt-length-set l i x h)
     ∙ rw (getD-set-same l i x 0 h, drop-set-lt (suc i) l i x (omega arith))
+
+-- the places that were stored from the first on
+pub stored-each : (s t : List ℕ) (n : ℕ) (rule : ℕ → ℕ) → Stored s t 0 0 n rule → (i : ℕ) → i < n → at t i ≡ rule i
+stored-each s t n rule d i h = ap (at t) (sym (zero-add i)) ∙ d .cells i (omega arith) h
 
 module _ (s : List ℕ) (to lo hi : ℕ) (rule : ℕ → ℕ) where
   -- nothing stored yet

@@ -4,31 +4,20 @@ use mathlib.Core.Path.{_≡_, refl, sym}
 use mathlib.Core.Logic.{_⊎_, inl, inr}
 use Prim.Native.Nat.{ℕ, _+_, _-_, _*_, _≤_, _<_}
 use native.Mathlib.Nat.{mod-lt}
-use native.Mathlib.Numerals.{add-one}
 use native.Mathlib.Omega.{arith}
 use mathlib.Core.Bool.{Bool, true, false}
 use lib.Dec.{T, leb, ltb, eqb}
-use mir.Val.{boolByte}
 use mir.Facts.{ltb-yes, leb-yes, yes-ltb, yes-leb}
 use borrow.Author.Tests.{eqb-true, eq-eqb, ne-eqb, lt-ltb, le-ltb}
-use Rattle.meaning.specs.Lists.{at, sum, upTo, if, tally}
+use Rattle.meaning.specs.Lists.{at, sum, upTo, if}
 use Rattle.meaning.specs.Job.{Job, labels}
 use Rattle.meaning.specs.Shares.{remainderOf, spareOf, precedes, rankOf}
 use Rattle.meaning.proofs.UpTo.{upTo-in, upTo-length}
-use Rattle.meaning.proofs.Tally.{tally-le, tally-lt, all-tally, tally-step, tally-below}
+use Rattle.meaning.proofs.Tally.{tally-le, tally-lt, all-tally, tally-below, tally-most}
 use Rattle.meaning.proofs.Ranks.{precedes-out, precedes-in, not-self}
 use Rattle.meaning.proofs.SharesSum.{sumOver, spare-few}
 use Rattle.rows.proofs.Stores.{by}
 use Rattle.shares.specs.Borders.{aheadOf, aheadIn, countOf, Between, RunOut, just-enough, before-next}
-use Rattle.shares.proofs.Starts.{one-or-none}
-
--- no more are counted than there are
-pub tally-most : (f : ℕ → Bool) (n : ℕ) → tally f (upTo n) ≤ n
-tally-most f n = omega (arith, tally-le f (λ i. true) (upTo n) (λ i t. tt), all-tally (upTo n), upTo-length n)
-
--- a label more is counted
-pub tally-more : (f : ℕ → Bool) (i count : ℕ) (b : Bool) → b ≡ f i → count ≡ tally f (upTo i) → count + boolByte b ≡ tally f (upTo (i + 1))
-tally-more f i count b e c = rw add-one (rw (one-or-none b, e, c, tally-step))
 
 -- ---- the order: six laws that `aheadOf` must have, and nothing below looks at its text
 

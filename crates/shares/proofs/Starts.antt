@@ -2,11 +2,11 @@
 -- Assumes nothing.
 use mathlib.Core.Path.{_≡_, refl, sym, ap, _∙_}
 use Prim.Native.Nat.{ℕ, zero, suc, _+_, _-_, _*_, _/_, _%_, _≤_, _<_}
-use native.Mathlib.Nat.{div-add-mod', div-le-of-le-mul, mul-le-mul-left, mul-comm, zero-add}
+use native.Mathlib.Nat.{div-add-mod', div-le-of-le-mul, mul-le-mul-left, mul-comm}
 use native.Mathlib.Numerals.{add-one}
 use native.Mathlib.Omega.{arith}
 use mathlib.Core.List.{List, [], _∷_, map}
-use mathlib.Core.Bool.{Bool, true, false}
+use mathlib.Core.Bool.{Bool}
 use lib.Dec.{ltb}
 use mir.Val.{boolByte}
 use lib.ListN.{length, take}
@@ -18,14 +18,8 @@ use Rattle.meaning.specs.Shares.{startOf, remainderOf, spareOf, rankOf, shareOf
 use Rattle.meaning.proofs.UpTo.{made-at, made-length}
 use Rattle.meaning.proofs.Loops.{sum-more, sum-done}
 use Rattle.meaning.proofs.SharesSum.{sumOver, starts-within, shares-sum}
-use Rattle.rows.specs.Rows.{Stored}
+use Rattle.meaning.proofs.Tally.{one-or-none}
 use Rattle.shares.specs.Borders.{Started}
-
--- a test as a number
-pub one-or-none : (b : Bool) → boolByte b ≡ if b 1 0
-unfolding if
-one-or-none true = refl
-one-or-none false = refl
 
 -- ---- lists
 
@@ -63,10 +57,6 @@ module _ (j : Job) (i product claim claimed : ℕ) (made : product ≡ j .budget
   pub kept-remainder : product % claimed ≡ remainderOf j i
   unfolding remainderOf
   kept-remainder = rw (made, read, summed)
-
--- the places that a loop stored, from the first on
-pub stored-each : (s t : List ℕ) (n : ℕ) (rule : ℕ → ℕ) → Stored s t 0 0 n rule → (i : ℕ) → i < n → at t i ≡ rule i
-stored-each s t n rule d i h = ap (at t) (sym (zero-add i)) ∙ d .cells i (omega arith) h
 
 module _ (j : Job) where
   -- every start

@@ -1,14 +1,13 @@
 use mathlib.Core.Path.{_≡_, refl, sym, _∙_}
 use Prim.Native.Nat.{ℕ, _-_, _≤_, _<_}
 use native.Mathlib.Numerals.{add-one}
-use native.Mathlib.Nat.{zero-add}
 use native.Mathlib.Omega.{arith}
 use mathlib.Core.List.{List}
 use lib.ListN.{length, length-set}
 use Rattle.meaning.specs.Lists.{at}
 use Rattle.meaning.specs.Cells.{noWay}
 use Rattle.numbers.specs.Handed.{handed}
-use Rattle.rows.proofs.Stores.{at-same, at-other}
+use Rattle.rows.proofs.Stores.{stored-each, at-same, at-other}
 use Rattle.blocks.specs.Sizes.{fewerOf, Grown, bare, grown}
 use borrow.Author.Needs.{needs}
 use Rattle.blocks.proofs.fill_fewest.Statement.{statement}
@@ -53,7 +52,7 @@ loop-holds c =
       omega arith,
       refl,
       bare (at-same (marks .last .0) 0 0 0 (omega (arith, marks .kept .0, s .pre .wide)) refl)
-          (λ a pos h. at-other (marks .last .0) 0 0 a (omega arith) ∙ (rw zero-add at (marks .ensures .cells a (omega arith) (omega (arith, marks .kept .0, simp length-set at h))))),
+          (λ a pos h. at-other (marks .last .0) 0 0 a (omega arith) ∙ stored-each _ _ _ (λ k. noWay) (marks .ensures) a (omega (arith, marks .kept .0, simp length-set at h))),
     )
 
 item-requires : tie.Need-item-requires Inv-loop μ-loop

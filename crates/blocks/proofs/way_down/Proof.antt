@@ -1,6 +1,5 @@
 use mathlib.Core.Path.{_≡_, refl, sym, subst, _∙_}
 use Prim.Native.Nat.{ℕ, _+_, _-_, _≤_, _<_}
-use native.Mathlib.Nat.{zero-add}
 use native.Mathlib.Omega.{arith}
 use mathlib.Core.Bool.{Bool, true, false}
 use mathlib.Core.List.{List}
@@ -12,6 +11,7 @@ use Rattle.meaning.proofs.Greedy.{last-is}
 use Rattle.numbers.specs.Handed.{handed}
 use Rattle.rows.specs.Ways.{Way, start}
 use Rattle.rows.proofs.Ways.{way-few}
+use Rattle.rows.proofs.Stores.{stored-each}
 use Rattle.blocks.specs.Sizes.{leavesFewer, leadsDown}
 use Rattle.blocks.proofs.Laying.{down-light, down-taken, down-passed}
 use borrow.Author.Needs.{needs}
@@ -83,7 +83,7 @@ loop-holds c =
       omega (arith, s .pre .1),
       omega (arith, s .pre .0 .wide),
       refl,
-      rw none-yet (start {picks = z .last .0} (z .kept .0 ∙ sym (s .pre .1)) (λ m h. rw zero-add at (z .ensures .cells m (omega arith) (omega (arith, s .pre .1))))),
+      rw none-yet (start {picks = z .last .0} (z .kept .0 ∙ sym (s .pre .1)) (λ m h. stored-each _ _ _ (λ k. 0) (z .ensures) m (omega (arith, s .pre .1)))),
     )
 
 sub-item : tie.Need-sub-item Inv-loop μ-loop

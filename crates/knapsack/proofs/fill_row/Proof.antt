@@ -1,4 +1,3 @@
-use native.Mathlib.Nat.{zero-add}
 use native.Mathlib.Numerals.{add-one}
 use mathlib.Core.Path.{_≡_, refl, _∙_}
 use Prim.Native.Nat.{ℕ, _-_, _≤_, _<_}
@@ -8,6 +7,7 @@ use lib.ListN.{length}
 use borrow.Author.Needs.{needs}
 use Rattle.meaning.specs.Lists.{at}
 use Rattle.numbers.specs.Handed.{handed}
+use Rattle.rows.proofs.Stores.{stored-each}
 use Rattle.knapsack.specs.Tables.{Climbed, level, climb}
 use Rattle.knapsack.proofs.FreeRow.{climbed-low}
 use Rattle.knapsack.proofs.fill_row.Statement.{statement}
@@ -50,7 +50,7 @@ list-length-requires c κs = search needs
 loop-holds : tie.Need-loop-holds Inv-loop μ-loop
 loop-holds c =
     let zeros = c .before .before .before .set-all in
-    (omega arith, refl, level (λ k h. rw zero-add at (zeros .ensures .cells k (omega arith) h)))
+    (omega arith, refl, level (stored-each _ _ _ (λ k. 0) (zeros .ensures)))
 
 item-requires : tie.Need-item-requires Inv-loop μ-loop
 item-requires c κs = inside c

@@ -1,6 +1,5 @@
 use mathlib.Core.Path.{_≡_, refl, sym, _∙_}
 use native.Mathlib.Numerals.{add-one}
-use native.Mathlib.Nat.{zero-add}
 use Prim.Native.Nat.{ℕ, _+_, _-_, _≤_, _<_}
 use native.Mathlib.Omega.{arith}
 use mathlib.Core.Bool.{Bool, true, false}
@@ -14,6 +13,7 @@ use Rattle.meaning.proofs.Greedy.{first-is}
 use Rattle.numbers.specs.Handed.{handed}
 use Rattle.rows.specs.Ways.{Way, turnOf, start, taken, passed}
 use Rattle.rows.proofs.Ways.{way-few}
+use Rattle.rows.proofs.Stores.{stored-each}
 use Rattle.knapsack.specs.Ways.{leadsAlong, WayAlong}
 use Rattle.knapsack.proofs.FreeRow.{along-light}
 use Rattle.knapsack.proofs.way_along.Statement.{statement}
@@ -80,7 +80,7 @@ loop-holds : tie.Need-loop-holds Inv-loop μ-loop
 loop-holds c =
     let s = c .before .before .before .before .before .before .before .before .before .before in
     let z = c .before .before .set-all in
-    (omega arith, omega (arith, s .pre .0 .wide), refl, start {picks = z .last .0} (z .kept .0 ∙ sym (s .pre .1 .1)) (λ m h. rw zero-add at (z .ensures .cells m (omega arith) (omega (arith, s .pre .1 .1)))))
+    (omega arith, omega (arith, s .pre .0 .wide), refl, start {picks = z .last .0} (z .kept .0 ∙ sym (s .pre .1 .1)) (λ m h. stored-each _ _ _ (λ k. 0) (z .ensures) m (omega (arith, s .pre .1 .1))))
 
 item-requires : tie.Need-item-requires Inv-loop μ-loop
 item-requires c κs = inside c

@@ -7,7 +7,7 @@ use Rattle.meaning.specs.Lists.{upTo, tally}
 use Rattle.meaning.specs.Job.{Job, jobOf, labels}
 use Rattle.numbers.specs.Handed.{weightsHanded}
 use Rattle.shares.specs.Borders.{aheadIn, countOf}
-use Rattle.shares.proofs.Borders.{tally-more, tally-most}
+use Rattle.meaning.proofs.Tally.{tally-more, tally-most}
 use Rattle.shares.proofs.count_ahead.Statement.{statement}
 use Rattle.shares.proofs.count_ahead.Tie as tie
 

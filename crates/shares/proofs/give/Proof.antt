@@ -9,8 +9,8 @@ use Rattle.meaning.specs.Job.{Job, jobOf, labels}
 use Rattle.meaning.specs.Shares.{shareOf}
 use Rattle.numbers.specs.Handed.{weightsHanded}
 use Rattle.rows.specs.Rows.{Stored}
-use Rattle.rows.proofs.Stores.{stored-none, stored-up}
-use Rattle.shares.proofs.Starts.{stored-each, share-within, share-given, shares-made}
+use Rattle.rows.proofs.Stores.{stored-each, stored-none, stored-up}
+use Rattle.shares.proofs.Starts.{share-within, share-given, shares-made}
 use Rattle.shares.proofs.Borders.{ahead-served}
 use Rattle.shares.proofs.give.Statement.{statement}
 use Rattle.shares.proofs.give.Tie as tie

@@ -8,8 +8,8 @@ use Rattle.meaning.specs.Job.{Job, jobOf, labels}
 use Rattle.meaning.specs.Shares.{startOf}
 use Rattle.numbers.specs.Handed.{handed, weightsHanded}
 use Rattle.rows.specs.Rows.{Stored}
-use Rattle.rows.proofs.Stores.{stored-up}
-use Rattle.shares.proofs.Starts.{starts, member-within, start-within, kept-start, stored-each, spare-step, spare-done}
+use Rattle.rows.proofs.Stores.{stored-each, stored-up}
+use Rattle.shares.proofs.Starts.{starts, member-within, start-within, kept-start, spare-step, spare-done}
 use Rattle.shares.proofs.write_starts.Statement.{statement}
 use Rattle.shares.proofs.write_starts.Tie as tie
 
