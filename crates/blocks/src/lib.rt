@@ -15,17 +15,6 @@ ghost use Rattle.rows.specs.Rows.{Swept};
 ghost use Rattle.blocks.specs.Sizes.{Bounded, fewerOf, waysOf, FewestGrown, WaysGrown, leavesFewer, WayDown};
 ghost use Rattle.blocks.specs.Doors.{Accepted};
 
-// Where a stretch of cells that starts at amount a ends. A stretch of one size runs in vectors; for light sizes that isn't worth its start.
-fn stretch_end(width: usize, a: usize, w: usize) -> usize
-    requires { ⌜ (a < width) × (1 ≤ w) ⌝ }
-    ensures { λ r. ⌜ (a < r) × (r ≤ width) ⌝ }
-{
-    if w < 16 {
-        return width;
-    }
-    rows::stretch_end(width, a, w)
-}
-
 // ---- kind 5: the fewest blocks
 
 // The fewest blocks for an amount, by those without a size and those for the rest. No sum passes 32 bits.
@@ -45,6 +34,17 @@ fn lay_stretch(row: &mut [u32], from: usize, to: usize, w: usize)
         row[a] = fewer(row[a], row[a - w]);
         a += 1;
     }
+}
+
+// Where a stretch of cells that starts at amount a ends. A stretch of one size runs in vectors; for light sizes that isn't worth its start.
+fn stretch_end(width: usize, a: usize, w: usize) -> usize
+    requires { ⌜ (a < width) × (1 ≤ w) ⌝ }
+    ensures { λ r. ⌜ (a < r) × (r ≤ width) ⌝ }
+{
+    if w < 16 {
+        return width;
+    }
+    rows::stretch_end(width, a, w)
 }
 
 // The row of fewest blocks with a size more.
@@ -145,19 +145,7 @@ fn both(without: u64, rest: u64) -> u64
     }
 }
 
-// A stretch of the row of ways with a size more, from small amounts up.
-fn count_stretch(words: &mut [u64], from: usize, to: usize, w: usize)
-    requires { ⌜ (1 ≤ w) × ((w ≤ from) × ((from ≤ to) × (to ≤ length (now words)))) ⌝ }
-    ensures { λ _. ⌜ Swept waysOf (now (words .entry)) (now (words .exit)) w from to ⌝ }
-{
-    let mut a = from;
-    while a < to {
-        words[a] = both(words[a], words[a - w]);
-        a += 1;
-    }
-}
-
-// The row of ways with a size more.
+// The row of ways with a size more, from small amounts up. There are no stretches: a sum with a bound costs more in vectors than it saves.
 fn count(words: &mut [u64], w: u32)
     requires { ⌜ 1 ≤ w ⌝ }
     ensures { λ _. ⌜ Swept waysOf (now (words .entry)) (now (words .exit)) w w (length (now (words .entry))) ⌝ }
@@ -165,9 +153,8 @@ fn count(words: &mut [u64], w: u32)
     let w = w as usize;
     let mut a = w;
     while a < words.len() {
-        let end = stretch_end(words.len(), a, w);
-        count_stretch(words, a, end, w);
-        a = end;
+        words[a] = both(words[a], words[a - w]);
+        a += 1;
     }
 }
 

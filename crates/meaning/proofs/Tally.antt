@@ -30,6 +30,14 @@ one-lt true c h t = absurd (h tt)
 one-lt false true h t = le-refl 1
 one-lt false false h t = absurd t
 
+holds : (b : Bool) → T b → b ≡ true
+holds true h = refl
+holds false h = absurd h
+
+fails : (b : Bool) → ¬ T b → b ≡ false
+fails true h = absurd (h tt)
+fails false h = refl
+
 -- where each that passes f passes g, no more pass f
 pub tally-le : (f g : ℕ → Bool) (xs : List ℕ) → ((x : ℕ) → T (f x) → T (g x)) → tally f xs ≤ tally g xs
 unfolding tally
@@ -105,6 +113,18 @@ tally-append f (x ∷ xs) ys = omega (arith, tally-append f xs ys)
 pub tally-step : (f : ℕ → Bool) (k : ℕ) → tally f (upTo (suc k)) ≡ tally f (upTo k) + if (f k) 1 0
 unfolding upTo tally
 tally-step f k = tally-append f (upTo k) (k ∷ []) ∙ omega arith
+
+-- where each of the first k numbers passes, k do
+pub tally-all : (f : ℕ → Bool) (k : ℕ) → ((i : ℕ) → i < k → T (f i)) → tally f (upTo k) ≡ k
+unfolding upTo tally if
+tally-all f zero h = refl
+tally-all f (suc k) h = tally-step f k ∙ rw (holds (f k) (h k (le-refl (suc k)))) (omega (arith, tally-all f k (λ i l. h i (omega arith))))
+
+-- where none does, none do
+pub tally-none : (f : ℕ → Bool) (k : ℕ) → ((i : ℕ) → i < k → ¬ T (f i)) → tally f (upTo k) ≡ 0
+unfolding upTo tally if
+tally-none f zero h = refl
+tally-none f (suc k) h = tally-step f k ∙ rw (fails (f k) (h k (le-refl (suc k)))) (omega (arith, tally-none f k (λ i l. h i (omega arith))))
 
 -- of the first k numbers, the lesser of k and s are below s
 pub tally-below : (k s : ℕ) → tally (λ t. ltb t s) (upTo k) ≡ min k s

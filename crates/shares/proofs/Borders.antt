@@ -2,8 +2,7 @@
 -- Assumes nothing.
 use mathlib.Core.Path.{_≡_, refl, sym}
 use mathlib.Core.Logic.{_⊎_, inl, inr}
-use Prim.Native.Nat.{ℕ, _+_, _-_, _*_, _≤_, _<_}
-use native.Mathlib.Nat.{mod-lt}
+use Prim.Native.Nat.{ℕ, _+_, _-_, _≤_, _<_}
 use native.Mathlib.Omega.{arith}
 use mathlib.Core.Bool.{Bool, true, false}
 use lib.Dec.{T, leb, ltb, eqb}
@@ -12,12 +11,12 @@ use borrow.Author.Tests.{eqb-true, eq-eqb, ne-eqb, lt-ltb, le-ltb}
 use Rattle.meaning.specs.Lists.{at, sum, upTo, if}
 use Rattle.meaning.specs.Job.{Job, labels}
 use Rattle.meaning.specs.Shares.{remainderOf, spareOf, precedes, rankOf}
-use Rattle.meaning.proofs.UpTo.{upTo-in, upTo-length}
-use Rattle.meaning.proofs.Tally.{tally-le, tally-lt, all-tally, tally-below, tally-most}
+use Rattle.meaning.proofs.UpTo.{upTo-in}
+use Rattle.meaning.proofs.Tally.{tally-le, tally-lt, tally-all, tally-none, tally-most}
 use Rattle.meaning.proofs.Ranks.{precedes-out, precedes-in, not-self}
 use Rattle.meaning.proofs.SharesSum.{sumOver, spare-few}
 use Rattle.rows.proofs.Stores.{by}
-use Rattle.shares.specs.Borders.{aheadOf, aheadIn, countOf, Between, RunOut, just-enough, before-next}
+use Rattle.shares.specs.Borders.{aheadOf, aheadIn, Spans, countOf, Between, RunOut, just-enough, before-next}
 
 -- ---- the order: six laws that `aheadOf` must have, and nothing below looks at its text
 
@@ -73,18 +72,17 @@ module _ (j : Job) where
           by border (rem i) (λ less. never (larger less))
           (λ le. (omega arith, by m i (λ less. less) (λ more. never (equal (omega arith) (omega arith)))))
 
-  -- third law: every label stands at the lowest border or before it
-  all-ahead : (i : ℕ) → T (aheadIn j 0 0 i)
-  all-ahead i = ahead-in (rem i) n i 0 0 (by 0 (rem i) larger (λ le. equal (omega arith) (omega arith)))
+  -- third law: whose remainder is no less than the border's stands at turn 0 or before it
+  all-ahead : (border i : ℕ) → border ≤ rem i → T (aheadIn j border 0 i)
+  all-ahead border i h = ahead-in (rem i) n i border 0 (by border (rem i) larger (λ le. equal (omega arith) (omega arith)))
 
-  -- fourth law: no remainder is as much as S
-  none-ahead : 0 < S → (i : ℕ) → T (aheadIn j S 0 i) → ⊥
-  unfolding remainderOf
-  none-ahead pos i t = high (ahead-out (rem i) n i S 0 t)
+  -- fourth law: whose remainder is less doesn't
+  none-ahead : (border i : ℕ) → rem i < border → ¬ T (aheadIn j border 0 i)
+  none-ahead border i h t = low (ahead-out (rem i) n i border 0 t)
     where
-      high : Stands (rem i) n i S 0 → ⊥
-      high (larger l) = omega (arith, mod-lt (j .budget * at (j .weights) i) pos)
-      high (equal e l) = omega (arith, mod-lt (j .budget * at (j .weights) i) pos)
+      low : Stands (rem i) n i border 0 → ⊥
+      low (larger l) = omega arith
+      low (equal e l) = omega arith
 
   -- fifth law: past the highest turn comes the next remainder
   past-ahead : 0 < n → (border i : ℕ) → T (aheadIn j border n i) → T (aheadIn j (border + 1) 0 i)
@@ -104,18 +102,23 @@ module _ (j : Job) where
 
   -- ---- where the units run out
 
-  -- where there are units to give, they run out at a remainder below S
-  pub between-remainders : 0 < S → 0 < spareOf j → Between j 0 0 S 0
-  unfolding spareOf sumOver labels countOf
-  between-remainders pos some = record {
-    enough = omega (arith, spare-few j pos, tally-le (λ i. true) (aheadIn j 0 0) (upTo n) (λ i t. all-ahead i), all-tally (upTo n), upTo-length n);
-    too-few = omega (arith, tally-le (aheadIn j S 0) (λ i. ltb i 0) (upTo n) (λ i t. absurd (none-ahead pos i t)), tally-below n 0);
-  }
+  module _ (claimed least greatest : ℕ) (reach : Spans j claimed n least greatest) where
+    -- at the least remainder or before it stand all labels
+    pub all-found : n ≡ countOf j least 0
+    unfolding countOf
+    all-found = sym (tally-all (aheadIn j least 0) n (λ i h. all-ahead least i (reach .above i h)))
 
-  -- at the lowest border or before it stand all labels
-  pub all-found : n ≡ countOf j 0 0
-  unfolding countOf
-  all-found = omega (arith, tally-most (aheadIn j 0 0) n, tally-le (λ i. true) (aheadIn j 0 0) (upTo n) (λ i t. all-ahead i), all-tally (upTo n), upTo-length n)
+    -- and where there are units to give, they run out at the greatest
+    pub between-remainders : 0 < S → 0 < spareOf j → Between j least 0 (greatest + 1) 0
+    unfolding spareOf sumOver labels countOf
+    between-remainders pos some = record {
+      enough = omega (arith, spare-few j pos, all-found);
+      too-few = omega (arith, tally-none (aheadIn j (greatest + 1) 0) n (λ i h. none-ahead (greatest + 1) i (omega (arith, reach .below i h))));
+    }
+
+    pub some-span : 0 < S → 0 < spareOf j → least < greatest + 1
+    unfolding spareOf sumOver labels
+    some-span pos some = omega (arith, spare-few j pos, reach .above 0 (omega (arith, spare-few j pos)), reach .below 0 (omega (arith, spare-few j pos)))
 
   -- past the highest turn comes the next remainder
   pub out-at-turn : (border : ℕ) → 0 < spareOf j → RunOut j border 0 (border + 1) 0 → RunOut j border 0 border n × (0 < n)

@@ -1,8 +1,8 @@
 -- Kind 7: the starts and the shares, as lists with a number for each label.
 -- Assumes nothing.
 use mathlib.Core.Path.{_≡_, refl, sym, ap, _∙_}
-use Prim.Native.Nat.{ℕ, zero, suc, _+_, _-_, _*_, _/_, _%_, _≤_, _<_}
-use native.Mathlib.Nat.{div-add-mod', div-le-of-le-mul, mul-le-mul-left, mul-comm}
+use Prim.Native.Nat.{ℕ, zero, suc, _+_, _-_, _*_, _/_, _%_, _≤_, _<_, max, min}
+use native.Mathlib.Nat.{div-add-mod', div-le-of-le-mul, mul-le-mul-left, mul-comm, mod-lt}
 use native.Mathlib.Numerals.{add-one}
 use native.Mathlib.Omega.{arith}
 use mathlib.Core.List.{List, [], _∷_, map}
@@ -19,7 +19,8 @@ use Rattle.meaning.proofs.UpTo.{made-at, made-length}
 use Rattle.meaning.proofs.Loops.{sum-more, sum-done}
 use Rattle.meaning.proofs.SharesSum.{sumOver, starts-within, shares-sum}
 use Rattle.meaning.proofs.Tally.{one-or-none}
-use Rattle.shares.specs.Borders.{Started}
+use Rattle.rows.proofs.Stores.{by}
+use Rattle.shares.specs.Borders.{Started, Spans}
 
 -- ---- lists
 
@@ -101,3 +102,18 @@ module _ (j : Job) where
   pub share-given : (i start : ℕ) (b : Bool) → start ≡ startOf j i → b ≡ ltb (rankOf j i) (spareOf j) → start + boolByte b ≡ shareOf j i
   unfolding shareOf
   share-given i start b e f = rw (one-or-none b, f, e)
+
+-- ---- how far the remainders reach
+
+-- a remainder is below S
+pub remainder-within : (j : Job) (i : ℕ) → 0 < sum (j .weights) → remainderOf j i < sum (j .weights)
+unfolding remainderOf
+remainder-within j i pos = mod-lt (j .budget * at (j .weights) i) pos
+
+-- one label more
+pub spans-more : (j : Job) (claimed i least greatest left : ℕ) → left ≡ remainderOf j i → left < claimed → Spans j claimed i least greatest → Spans j claimed (i + 1) (min least left) (max greatest left)
+spans-more j claimed i least greatest left e h d = record {
+  above = λ k l. by k i (λ b. omega (arith, d .above k b)) (λ b. let here : k ≡ i = omega arith in omega (arith, ap (remainderOf j) here));
+  below = λ k l. by k i (λ b. omega (arith, d .below k b)) (λ b. let here : k ≡ i = omega arith in omega (arith, ap (remainderOf j) here));
+  within = omega (arith, d .within);
+}

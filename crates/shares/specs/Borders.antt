@@ -17,6 +17,12 @@ pub record Started (j : Job) (claimed : ℕ) (starts : List ℕ) : Type 0 where
   pub long : length starts ≡ labels j
   pub each : (i : ℕ) → i < labels j → at starts i ≡ startOf j i
 
+-- the remainders of the first n labels reach from `least` to `greatest`, which is below S as they all are
+pub record Spans (j : Job) (claimed n least greatest : ℕ) : Type 0 where
+  pub above : (i : ℕ) → i < n → least ≤ remainderOf j i
+  pub below : (i : ℕ) → i < n → remainderOf j i ≤ greatest
+  pub within : greatest < claimed
+
 -- label i of n, which has this remainder, stands at a border or before it. A border is a remainder and a turn: of n labels the last has
 -- turn 0, and the first the highest
 unfoldable pub aheadOf : ℕ → ℕ → ℕ → ℕ → ℕ → Bool

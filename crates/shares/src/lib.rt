@@ -3,17 +3,17 @@
 use meaning::Answer;
 ghost use mathlib.Core.Path.{_≡_};
 ghost use mathlib.Core.List.{[]};
-ghost use Prim.Native.Nat.{_+_, _*_, _/_, _%_, _≤_, _<_};
+ghost use Prim.Native.Nat.{_+_, _*_, _/_, _%_, _≤_, _<_, max, min};
 ghost use lib.ListN.{length};
 ghost use Rattle.meaning.specs.Lists.{sum};
 ghost use Rattle.meaning.specs.Job.{sharing};
 ghost use Rattle.meaning.specs.Lent.{lentOf};
 ghost use Rattle.meaning.specs.Refusals.{mostClaims};
-ghost use Rattle.meaning.specs.Shares.{startOf, spareOf, sharesOf};
+ghost use Rattle.meaning.specs.Shares.{startOf, remainderOf, spareOf, sharesOf};
 ghost use Rattle.meaning.specs.Solved.{Unrefused};
 ghost use Rattle.meaning.specs.Doors.{SolvedInPicks};
 ghost use Rattle.numbers.specs.Handed.{handed, weightsHanded};
-ghost use Rattle.shares.specs.Borders.{Started, aheadOf, aheadIn, countOf, RunOut};
+ghost use Rattle.shares.specs.Borders.{Started, Spans, aheadOf, aheadIn, countOf, RunOut};
 
 // ---- the starts
 
@@ -53,6 +53,23 @@ fn remainder(product: u64, start: u32, claimed: u64) -> u64
     ensures { λ r. ⌜ r ≡ product % claimed ⌝ }
 {
     product - start as u64 * claimed
+}
+
+// The remainder of label i, by its start.
+fn remainder_at(
+    budget: u32,
+    weights: &[u32],
+    wbytes: &[u8],
+    claimed: u64,
+    i: usize,
+    start: u32,
+) -> u64
+    requires { ⌜ (claimed ≡ sum (handed (now weights) (now wbytes))) × (i < length (handed (now weights) (now wbytes))) ⌝ }
+    requires { ⌜ start ≡ startOf (weightsHanded 7 budget (now weights) (now wbytes)) i ⌝ }
+    ensures { λ r. ⌜ r ≡ remainderOf (weightsHanded 7 budget (now (weights .entry)) (now (wbytes .entry))) i ⌝ }
+{
+    let claim = numbers::item(weights, wbytes, i);
+    remainder(wide_product(budget, claim), start, claimed)
 }
 
 // Every start into its place. Gives the spare, which is the budget less each start in turn.
@@ -108,8 +125,7 @@ fn stands(
     requires { ⌜ start ≡ startOf (weightsHanded 7 budget (now weights) (now wbytes)) i ⌝ }
     ensures { λ r. ⌜ r ≡ aheadIn (weightsHanded 7 budget (now (weights .entry)) (now (wbytes .entry))) border turn i ⌝ }
 {
-    let claim = numbers::item(weights, wbytes, i);
-    let left = remainder(wide_product(budget, claim), start, claimed);
+    let left = remainder_at(budget, weights, wbytes, claimed, i, start);
     ahead(left, n, i, border, turn)
 }
 
@@ -137,6 +153,43 @@ fn count_ahead(
     count
 }
 
+// The lesser of two numbers.
+fn lesser(a: u64, b: u64) -> u64
+    ensures { λ r. ⌜ r ≡ min a b ⌝ }
+{
+    if a < b { a } else { b }
+}
+
+// The greater of two numbers.
+fn greater(a: u64, b: u64) -> u64
+    ensures { λ r. ⌜ r ≡ max a b ⌝ }
+{
+    if a < b { b } else { a }
+}
+
+// The remainders' least and greatest.
+struct Span {
+    least: u64,
+    greatest: u64,
+}
+
+// How far the remainders reach: the border lies among them, so that few halvings find it where they are close.
+fn outermost(budget: u32, weights: &[u32], wbytes: &[u8], claimed: u64, starts: &[u32]) -> Span
+    requires { ⌜ Started (weightsHanded 7 budget (now weights) (now wbytes)) claimed (now starts) ⌝ }
+    ensures { λ r. ⌜ Spans (weightsHanded 7 budget (now (weights .entry)) (now (wbytes .entry))) claimed (length (now (starts .entry))) (r .least) (r .greatest) ⌝ }
+{
+    let mut least = claimed;
+    let mut greatest: u64 = 0;
+    let mut i = 0;
+    while i < starts.len() {
+        let left = remainder_at(budget, weights, wbytes, claimed, i, starts[i]);
+        least = lesser(least, left);
+        greatest = greater(greatest, left);
+        i += 1;
+    }
+    Span { least, greatest }
+}
+
 // The remainder at which the units run out, by halving. It ends as soon as just so many labels are found as there are units.
 fn border_remainder(
     budget: u32,
@@ -150,9 +203,10 @@ fn border_remainder(
     requires { ⌜ (spare ≡ spareOf (weightsHanded 7 budget (now weights) (now wbytes))) × (0 < spare) ⌝ }
     ensures { λ r. ⌜ RunOut (weightsHanded 7 budget (now (weights .entry)) (now (wbytes .entry))) r 0 (r + 1) 0 ⌝ }
 {
+    let reach = outermost(budget, weights, wbytes, claimed, starts);
     let units = spare as usize;
-    let mut low: u64 = 0;
-    let mut high = claimed;
+    let mut low = reach.least;
+    let mut high = reach.greatest + 1;
     let mut found = starts.len();
     while units < found && 1 < high - low {
         let middle = low + (high - low) / 2;

@@ -1,9 +1,9 @@
-use mathlib.Core.Path.{_≡_, refl, _∙_}
+use mathlib.Core.Path.{_≡_, refl}
 use Prim.Native.Nat.{_-_, _≤_, max}
 use native.Mathlib.Omega.{arith}
-use lib.ListN.{length}
+use lib.ListN.{length, length-set}
 use Rattle.rows.specs.Rows.{Swept}
-use Rattle.rows.proofs.Stores.{swept-none, swept-on, swept-all}
+use Rattle.rows.proofs.Stores.{swept-none, swept-more, swept-all}
 use Rattle.blocks.specs.Sizes.{waysOf}
 use borrow.Author.Needs.{needs}
 use Rattle.blocks.proofs.count.Statement.{statement}
@@ -19,33 +19,48 @@ abbrev μ-loop : tie.MeasureT-loop
 loop-holds : tie.Need-loop-holds Inv-loop μ-loop
 loop-holds c = let a = c .before .args in (omega arith, omega arith, refl, swept-none waysOf (a .words .now) (a .w) (a .w))
 
-stretch-end-requires : tie.Need-stretch-end-requires Inv-loop μ-loop
-stretch-end-requires c κs = search needs
+mul-both : tie.Need-mul-both Inv-loop μ-loop
+mul-both c = search needs
 
-count-stretch-requires : tie.Need-count-stretch-requires Inv-loop μ-loop
-count-stretch-requires c κs =
-    let l = c .before .before .before .loop in
-    let s = c .before .before .before .before .before in
-    let end = c .before .stretch-end .ensures in
-    (s .pre, (l .inv .0, (omega arith, omega arith)))
+slice-read-both : tie.Need-slice-read-both Inv-loop μ-loop
+slice-read-both c = search needs
+
+sub-both : tie.Need-sub-both Inv-loop μ-loop
+sub-both c = search needs
+
+mul-both-2 : tie.Need-mul-both-2 Inv-loop μ-loop
+mul-both-2 c = search needs
+
+slice-read-both-2 : tie.Need-slice-read-both-2 Inv-loop μ-loop
+slice-read-both-2 c = search needs
+
+both-requires : tie.Need-both-requires Inv-loop μ-loop
+both-requires c κs = search needs
+
+mul-words : tie.Need-mul-words Inv-loop μ-loop
+mul-words c = search needs
+
+slice-write-words : tie.Need-slice-write-words Inv-loop μ-loop
+slice-write-words c = search needs
+
+add-a : tie.Need-add-a Inv-loop μ-loop
+add-a c = search needs
 
 loop-less : tie.Need-loop-less Inv-loop μ-loop
 loop-less c = search needs
 
 loop-again : tie.Need-loop-again Inv-loop μ-loop
 loop-again c =
-    let l = c .before .before .before .before .before .before .loop in
-    let a = c .before .before .before .before .before .before .before .before .args in
-    let end = c .before .before .before .before .stretch-end in
-    let made = c .before .before .count-stretch in (
-      omega (arith, end .ensures),
-      omega (arith, end .ensures),
-      made .kept .0 ∙ l .inv .2,
-      swept-on waysOf (a .words .now) (a .w) (l .words) (made .last .0) (a .w) (l .a) (end .result) (omega arith) (l .inv .0) (omega (arith, end .ensures)) (l .inv .3) (made .ensures),
+    let a = c .before .before .before .before .before .before .args in
+    let l = c .before .before .before .before .loop in (
+      omega arith,
+      omega arith,
+      simp length-set (l .inv .2),
+      swept-more waysOf (a .words .now) (a .w) (l .words) (a .w) (l .a) (c .both .result) (omega arith) (omega arith) (omega arith) (l .inv .0) (l .inv .3) (c .both .ensures),
     )
 
 same-length : tie.Need-same-length Inv-loop μ-loop
-same-length c = search needs
+same-length c = c .before .loop .inv .2
 
 returns : tie.Need-returns Inv-loop μ-loop
 returns c =
@@ -60,8 +75,15 @@ count-spec =
     Inv-loop
     μ-loop
     loop-holds
-    stretch-end-requires
-    count-stretch-requires
+    mul-both
+    slice-read-both
+    sub-both
+    mul-both-2
+    slice-read-both-2
+    both-requires
+    mul-words
+    slice-write-words
+    add-a
     loop-less
     loop-again
     same-length
