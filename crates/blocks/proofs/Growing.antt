@@ -38,6 +38,7 @@ module _ (rule : ℕ → ℕ → ℕ) (one none : ℕ) (sizes : List ℕ) (width
   grown-shows zero row h (bare e rest) (suc a) l = subst (Shows 0 (suc a)) (sym (rest (suc a) (omega arith) l)) (others (suc a) (omega arith))
   grown-shows (suc i) next h (grown {row = row} d up) a l = one-more-size i row next h (grown-shows i row (omega arith) d) up (suc a) a (omega arith) l
 
+-- what is no more than an amount within its bound is below the mark for no way
 few-enough : {z a width : ℕ} → z ≤ a → a < width → width ≤ mostBudget + 1 → z < noWay
 unfolding mostBudget noWay
 few-enough h l narrow = omega arith

@@ -24,6 +24,7 @@ use Rattle.rows.proofs.Stores.{by}
 use Rattle.rows.proofs.Ways.{way-chosen}
 use Rattle.blocks.specs.Sizes.{leavesFewer, leadsDown, WayDown}
 
+-- what the test says where it passes, and where it fails
 pub fewer-true : (row : ℕ → ℕ) (w a : ℕ) → leavesFewer row w a ≡ true → (w ≤ a) × (row (a - w) < row a)
 unfolding leavesFewer
 fewer-true row w a e =

@@ -29,7 +29,7 @@ abbrev pub waysOf : ℕ → ℕ → ℕ
 waysOf without rest = min (without + rest) tooMany
 
 -- the row after the first i sizes, each of which made every cell by a rule of what it held and of the new cell one size before it. With no
--- sizes amount 0 has `one` and no other amount has more than `none`
+-- sizes amount 0 shows `one`, and every other amount `none`
 pub data Grown (rule : ℕ → ℕ → ℕ) (one none : ℕ) (sizes : List ℕ) (width : ℕ) : ℕ → List ℕ → Type 0 where
   bare : {row : List ℕ} → at row 0 ≡ one → ((a : ℕ) → 0 < a → a < width → at row a ≡ none) → Grown rule one none sizes width 0 row
   grown : {i : ℕ} {row next : List ℕ} → Grown rule one none sizes width i row → Swept rule row next (at sizes i) (at sizes i) width
