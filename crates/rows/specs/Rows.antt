@@ -1,4 +1,4 @@
--- Cells alone: what a label of weight w and value v makes of a row f of values by budget.
+-- Cells alone: what loops store and sweep, and what a label of weight w and value v makes of a row f of values by budget.
 -- Assumes nothing.
 use mathlib.Core.Path.{_≡_}
 use Prim.Native.Nat.{ℕ, _+_, _-_, _*_, _≤_, _<_, max, min}

@@ -1,4 +1,5 @@
-// A row of cells by budget, and what one label of weight w and value v makes of it. Nothing here knows of jobs.
+// Cells alone, for several kinds: first contents, a row by budget, what one label of weight w and value v makes of it, and what it says of a
+// label's count. Nothing here knows of jobs.
 ghost use mathlib.Core.Path.{_≡_};
 ghost use Prim.Native.Nat.{ℕ, _+_, _-_, _*_, _/_, _≤_, _<_, max, min};
 ghost use lib.ListN.{length};
