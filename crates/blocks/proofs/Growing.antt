@@ -11,9 +11,10 @@ use Rattle.meaning.specs.Job.{Job, labels}
 use Rattle.meaning.specs.Refusals.{mostBudget}
 use Rattle.meaning.specs.Blocks.{MadeOf, WaysShown, tooMany}
 use Rattle.meaning.proofs.Making.{few-blocks, fewest-none, fewest-no-sizes, fewest-skip, fewest-more, ways-none, no-sizes, ways-skip, ways-more}
-use Rattle.rows.specs.Rows.{Swept}
+use Rattle.rows.specs.Rows.{Swept, FirstAlone}
 use Rattle.rows.proofs.Stores.{by}
-use Rattle.blocks.specs.Sizes.{Bounded, fewerOf, waysOf, Grown, bare, grown}
+use Rattle.rows.proofs.Rounds.{each-round}
+use Rattle.blocks.specs.Sizes.{Bounded, fewerOf, waysOf, Grown}
 
 -- `Shows i a x`: x is right for the first i sizes and amount a. Where the cells with no sizes are right, and the rule makes a right cell of
 -- the one without a size and the one for the rest, all cells are right
@@ -33,10 +34,15 @@ module _ (rule : ℕ → ℕ → ℕ) (one none : ℕ) (sizes : List ℕ) (width
       (more i a (at row a) (at next (a - at sizes i)) inside l long (rows a l)
       (one-more-size i row next inside rows d n (a - at sizes i) (omega (arith, bounds .whole i inside)) (omega arith))))
 
-  grown-shows : (i : ℕ) (row : List ℕ) → i ≤ length sizes → Grown rule one none sizes width i row → (a : ℕ) → a < width → Shows i a (at row a)
-  grown-shows zero row h (bare e rest) zero l = subst (Shows 0 0) (sym e) first
-  grown-shows zero row h (bare e rest) (suc a) l = subst (Shows 0 (suc a)) (sym (rest (suc a) (omega arith) l)) (others (suc a) (omega arith))
-  grown-shows (suc i) next h (grown {row = row} d up) a l = one-more-size i row next h (grown-shows i row (omega arith) d) up (suc a) a (omega arith) l
+  alone : (l : List ℕ) → FirstAlone one none width l → (a : ℕ) → a < width → Shows 0 a (at l a)
+  alone l f zero h = subst (Shows 0 0) (sym (f .first)) first
+  alone l f (suc a) h = subst (Shows 0 (suc a)) (sym (f .others (suc a) (omega arith) h)) (others (suc a) (omega arith))
+
+  grown-shows : (row : List ℕ) → Grown rule one none sizes width (length sizes) row → (a : ℕ) → a < width → Shows (length sizes) a (at row a)
+  grown-shows row =
+      each-round _ _ (λ i s. (a : ℕ) → a < width → Shows i a (at s a)) (length sizes) alone
+      (λ i s t inside rows up a h. one-more-size i s t inside rows up (suc a) a (omega arith) h)
+      (length sizes) row (omega arith)
 
 -- what is no more than an amount within its bound is below the mark for no way
 few-enough : {z a width : ℕ} → z ≤ a → a < width → width ≤ mostBudget + 1 → z < noWay
@@ -51,7 +57,7 @@ module _ (j : Job) (width : ℕ) (bounds : Bounded width (j .weights)) (row : Li
       grown-shows fewerOf 0 noWay (j .weights) width bounds (λ i a x. LeastShown (MadeOf j i a) x)
       (fewest-none j) (fewest-no-sizes j) (λ i a x short. fewest-skip j i a x short)
       (λ i a x y inside l long. fewest-more j i a long (below i a inside l) x y)
-      (labels j) row (omega arith)
+      row
     where
       below : (i a : ℕ) → i < length (j .weights) → a < width → (z : ℕ) → MadeOf j (suc i) a z → z < noWay
       below i a inside l z d = few-enough (few-blocks j (suc i) a z (λ m h. bounds .whole m (omega arith)) inside d) l (bounds .narrow)
@@ -69,4 +75,4 @@ module _ (j : Job) (width : ℕ) (bounds : Bounded width (j .weights)) (row : Li
         how-many = ways-more j i a long (d .many) (e .many) (d .how-many) (e .how-many);
         lesser = omega (arith, d .lesser, e .lesser);
       })
-      (labels j) row (omega arith)
+      row

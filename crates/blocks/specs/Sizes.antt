@@ -11,7 +11,8 @@ use Rattle.meaning.specs.Cells.{noWay}
 use Rattle.meaning.specs.Refusals.{mostBudget}
 use Rattle.meaning.specs.Orders.{last-most}
 use Rattle.meaning.specs.Blocks.{tooMany}
-use Rattle.rows.specs.Rows.{Swept}
+use Rattle.rows.specs.Rows.{Swept, FirstAlone}
+use Rattle.rows.specs.Rounds.{LabelByLabel}
 use Rattle.rows.specs.Ways.{Way}
 
 -- what the sizes and the width of a row keep in kinds 5 and 6
@@ -30,10 +31,8 @@ waysOf without rest = min (without + rest) tooMany
 
 -- the row after the first i sizes, each of which made every cell by a rule of what it held and of the new cell one size before it. With no
 -- sizes amount 0 shows `one`, and every other amount `none`
-pub data Grown (rule : ℕ → ℕ → ℕ) (one none : ℕ) (sizes : List ℕ) (width : ℕ) : ℕ → List ℕ → Type 0 where
-  bare : {row : List ℕ} → at row 0 ≡ one → ((a : ℕ) → 0 < a → a < width → at row a ≡ none) → Grown rule one none sizes width 0 row
-  grown : {i : ℕ} {row next : List ℕ} → Grown rule one none sizes width i row → Swept rule row next (at sizes i) (at sizes i) width
-      → Grown rule one none sizes width (suc i) next
+abbrev pub Grown : (ℕ → ℕ → ℕ) → ℕ → ℕ → List ℕ → ℕ → ℕ → List ℕ → Type 0
+Grown rule one none sizes width i row = LabelByLabel (FirstAlone one none width) (λ m s t. Swept rule s t (at sizes m) (at sizes m) width) i row
 
 -- kind 5: the row of fewest blocks after all sizes
 abbrev pub FewestGrown : List ℕ → ℕ → List ℕ → Type 0

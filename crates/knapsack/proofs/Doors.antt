@@ -154,7 +154,7 @@ module _ (j : Job) (cells picks row found : List ℕ) (left : ℕ) (a : Unrefuse
     (climbed : Climbed (j .weights) (j .values) (j .budget + 1) (labels j) row)
     (way : WayAlong (at row) (j .weights) (j .values) (j .budget) left found) where
   row-best-values : (c : ℕ) → c ≤ j .budget → BestValue free j (labels j) c (at row c)
-  row-best-values c h = climbed-best j (j .budget + 1) (labels j) row climbed c (omega arith)
+  row-best-values c h = climbed-best j (j .budget + 1) row climbed c (omega arith)
 
   pub packs-free : (n value : ℕ) → n ≡ labels j → value ≡ at row (j .budget)
       → SolvedInCells j cells picks (Says.Knapsack value (j .budget - left)) (row ++ drop (j .budget + 1) cells) (found ++ drop n picks)

@@ -19,27 +19,31 @@ use Rattle.rows.specs.Rows.{AnyCount, Low, leadsOn}
 use Rattle.rows.proofs.Stores.{by}
 use Rattle.rows.proofs.LeadsOn.{leads-true, leads-false}
 use Rattle.rows.proofs.Counts.{topped-low, topped-best}
+use Rattle.rows.proofs.Rounds.{each-round}
 use Rattle.rows.proofs.Ways.{way-spent, way-chosen}
-use Rattle.knapsack.specs.Tables.{Bounded, Climbed, level, climb}
+use Rattle.knapsack.specs.Tables.{Bounded, Climbed}
 use Rattle.knapsack.specs.Ways.{leadsAlong, WayAlong}
 
 -- ---- the row as it is filled
 
 -- its cells are the best values of the labels so far
-pub climbed-best : (j : Job) (width i : ℕ) (row : List ℕ) → Climbed (j .weights) (j .values) width i row
-    → (c : ℕ) → c < width → BestValue free j i c (at row c)
+pub climbed-best : (j : Job) (width : ℕ) (row : List ℕ) → Climbed (j .weights) (j .values) width (labels j) row
+    → (c : ℕ) → c < width → BestValue free j (labels j) c (at row c)
 unfolding MayPick
-climbed-best j width zero row (level none) c h = rw (none c h) (best-none free j c)
-climbed-best j width (suc i) next (climb {row = row} d up) c h =
-    topped-best free j i width (at row) (at next) (climbed-best j width i row d)
-    up c h
+climbed-best j width row =
+    each-round _ _ (λ i s. (c : ℕ) → c < width → BestValue free j i c (at s c)) (labels j)
+    (λ s none c h. rw (none c h) (best-none free j c))
+    (λ i s t inside best up. topped-best free j i width (at s) (at t) best up)
+    (labels j) row (omega arith)
 
 -- and low
 pub climbed-low : (ws vs : List ℕ) (width i : ℕ) (row : List ℕ) → Bounded width ws vs → i ≤ length ws → Climbed ws vs width i row → Low (at row) width
 unfolding Low mostValue
-climbed-low ws vs width zero row b h (level none) c l = omega (arith, none c l)
-climbed-low ws vs width (suc i) next b h (climb {row = row} d up) c l =
-    topped-low AnyCount (at row) (at next) (at ws i) (at vs i) width (b .heavy i h) (b .cheap i h) (climbed-low ws vs width i row b (omega arith) d) up c l
+climbed-low ws vs width i row b =
+    each-round _ _ (λ k s. Low (at s) width) (length ws)
+    (λ s none c l. omega (arith, none c l))
+    (λ k s t inside low up. topped-low AnyCount (at s) (at t) (at ws k) (at vs k) width (b .heavy k inside) (b .cheap k inside) low up)
+    i row
 
 -- ---- the way along
 

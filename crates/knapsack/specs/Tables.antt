@@ -8,6 +8,7 @@ use lib.ListN.{length}
 use Rattle.meaning.specs.Lists.{at, if}
 use Rattle.meaning.specs.Refusals.{mostBudget, mostValue}
 use Rattle.rows.specs.Rows.{ToppedRow, AnyCount}
+use Rattle.rows.specs.Rounds.{LabelByLabel}
 
 -- what the lists and the width of a row keep in kinds 1 to 3
 pub record Bounded (width : ℕ) (weights values : List ℕ) : Type 0 where
@@ -30,8 +31,7 @@ pub record Filled (weights values : List ℕ) (limit : ℕ → ℕ) (width i : �
   pub first : (c : ℕ) → c < width → rowOf cells width 0 c ≡ 0
   pub next : (m : ℕ) → m < i → ToppedRow (λ x. x ≤ limit m) (rowOf cells width m) (at weights m) (at values m) width (rowOf cells width (suc m))
 
--- kind 3: the one row after the first i labels, any number of each
-pub data Climbed (weights values : List ℕ) (width : ℕ) : ℕ → List ℕ → Type 0 where
-  level : {row : List ℕ} → ((c : ℕ) → c < width → at row c ≡ 0) → Climbed weights values width 0 row
-  climb : {i : ℕ} {row next : List ℕ} → Climbed weights values width i row
-      → ToppedRow AnyCount (at row) (at weights i) (at values i) width (at next) → Climbed weights values width (suc i) next
+-- kind 3: the one row after the first i labels, any number of each; with none it is 0
+abbrev pub Climbed : List ℕ → List ℕ → ℕ → ℕ → List ℕ → Type 0
+Climbed weights values width i row =
+    LabelByLabel (λ s. (c : ℕ) → c < width → at s c ≡ 0) (λ m s t. ToppedRow AnyCount (at s) (at weights m) (at values m) width (at t)) i row

@@ -9,5 +9,6 @@ pub mod NextRow
 -- what a row says of a count
 pub mod LeastCounts
 pub mod LeadsOn
--- the way through the labels
+-- a slice made label by label, and the way through the labels
+pub mod Rounds
 pub mod Ways

@@ -62,10 +62,10 @@ pub record Stored (s t : List ℕ) (to lo hi : ℕ) (rule : ℕ → ℕ) : Type 
   pub before : (k : ℕ) → k < to + lo → at t k ≡ at s k
   pub past : (k : ℕ) → to + hi ≤ k → at t k ≡ at s k
 
--- the first of `count` words is 1, and the others are 0
-pub record FirstAlone (count : ℕ) (words : List ℕ) : Type 0 where
-  pub one : at words 0 ≡ 1
-  pub others : (m : ℕ) → 0 < m → m < count → at words m ≡ 0
+-- of `count` numbers the first is `one`, and the others are `none`
+pub record FirstAlone (one none count : ℕ) (l : List ℕ) : Type 0 where
+  pub first : at l 0 ≡ one
+  pub others : (m : ℕ) → 0 < m → m < count → at l m ≡ none
 
 -- no cell is more than the greatest value for each unit of its budget, so that a label more still fits 32 bits
 unfoldable pub Low : (ℕ → ℕ) → ℕ → Type 0

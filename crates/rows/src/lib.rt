@@ -36,7 +36,7 @@ pub fn set_all(cells: &mut [u32], width: usize, x: u32)
 // The words of no labels: 1 in the first, for the empty list alone, and 0 in the others.
 pub fn first_alone(words: &mut [u64])
     requires { ⌜ 0 < length (now words) ⌝ }
-    ensures { λ _. ⌜ FirstAlone (length (now (words .entry))) (now (words .exit)) ⌝ }
+    ensures { λ _. ⌜ FirstAlone 1 0 (length (now (words .entry))) (now (words .exit)) ⌝ }
 {
     let mut m = 0;
     while m < words.len() {

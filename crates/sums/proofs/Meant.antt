@@ -25,7 +25,8 @@ use Rattle.meaning.proofs.Reaching.{reached-with, reached-without, reached-eith
 use Rattle.meaning.proofs.Tally.{tally-counts}
 use Rattle.meaning.proofs.UpTo.{upTo-in, upTo-out}
 use Rattle.rows.proofs.Stores.{by}
-use Rattle.sums.specs.Words.{isSet, Marked, none-yet, one-more, Trimmed, Tabled}
+use Rattle.rows.proofs.Rounds.{each-round}
+use Rattle.sums.specs.Words.{isSet, Marked, Trimmed, Tabled}
 use Rattle.sums.proofs.Words.{total-0-set, other-unset}
 
 -- ---- the words as they are filled tell the totals that the labels so far reach
@@ -47,17 +48,18 @@ module _ (j : Job) (i t : ℕ) where
   tells-with h (is-not none e) (is-not none′ e′) = is-not (λ r. elim (reached-either j i t r) [ inl old ↦ none old | inr new ↦ none′ (new .1) ]) (omega arith)
 
 -- each bit tells whether its total is reached
-pub marked-tells : (j : Job) (len i : ℕ) (words : List ℕ) → Marked (j .weights) len i words → (t : ℕ) → t < 64 * len → Tells (Reached j i t) (bit words t)
-marked-tells j len zero words (none-yet d) t h =
-    by 0 t
-    (λ b. is-not (λ r. absurd (omega (arith, no-labels j t r))) (other-unset words len t d b h))
-    (λ b. let first : t ≡ 0 = omega arith in rw first (is-so (total-0 j 0) (total-0-set words len d)))
-marked-tells j len (suc i) next (one-more {words = words} d more) t h =
-    let before = marked-tells j len i words d in
+pub marked-tells : (j : Job) (len : ℕ) (words : List ℕ) → Marked (j .weights) len (labels j) words → (t : ℕ) → t < 64 * len → Tells (Reached j (labels j) t) (bit words t)
+marked-tells j len words =
+    each-round _ _ (λ i s. (t : ℕ) → t < 64 * len → Tells (Reached j i t) (bit s t)) (labels j)
+    (λ s d t h. by 0 t
+    (λ b. is-not (λ r. absurd (omega (arith, no-labels j t r))) (other-unset s len t d b h))
+    (λ b. let first : t ≡ 0 = omega arith in rw first (is-so (total-0 j 0) (total-0-set s len d))))
+    (λ i s next inside before more t h.
     let w = at (j .weights) i in
     by t w
     (λ b. rw (more .short t (omega arith) h b) (tells-without j i t b (before t h)))
-    (λ b. rw (more .long t (omega arith) h b) (tells-with j i t b (before t h) (before (t - w) (omega arith))))
+    (λ b. rw (more .long t (omega arith) h b) (tells-with j i t b (before t h) (before (t - w) (omega arith)))))
+    (labels j) words (omega arith)
 
 -- ---- without the totals above the budget they are the table
 
@@ -72,7 +74,7 @@ pub bit-table : (j : Job) (len : ℕ) (s words : List ℕ) → len ≡ j .budget
 bit-table j len s words e d cut narrow = record {
   set = λ t h. by (j .budget) t
       (λ b. is-not (λ r. absurd (omega (arith, r .within))) (cut .above t b (omega arith)))
-      (λ b. rw (cut .within t b) (tells-within j (labels j) t b (marked-tells j len (labels j) s d t (omega arith))));
+      (λ b. rw (cut .within t b) (tells-within j (labels j) t b (marked-tells j len s d t (omega arith))));
   narrow = λ m h. narrow m;
 }
 

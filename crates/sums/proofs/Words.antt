@@ -16,18 +16,18 @@ use Rattle.sums.proofs.Bits.{bitOf, bit-or, bit-above, bit-shr, bit-shl
 -- ---- no labels
 
 -- total 0 alone is reached
-pub total-0-set : (l : List ℕ) (len : ℕ) → FirstAlone len l → bit l 0 ≡ 1
+pub total-0-set : (l : List ℕ) (len : ℕ) → FirstAlone 1 0 len l → bit l 0 ≡ 1
 unfolding bitOf
-total-0-set l len d = bit-in l 0 0 0 (omega arith) (omega arith) ∙ ap (λ (x : ℕ). bitOf x 0) (d .one)
+total-0-set l len d = bit-in l 0 0 0 (omega arith) (omega arith) ∙ ap (λ (x : ℕ). bitOf x 0) (d .first)
 
-pub other-unset : (l : List ℕ) (len u : ℕ) → FirstAlone len l → 0 < u → u < 64 * len → bit l u ≡ 0
+pub other-unset : (l : List ℕ) (len u : ℕ) → FirstAlone 1 0 len l → 0 < u → u < 64 * len → bit l u ≡ 0
 other-unset l len u d pos h =
     bit-in l (u / 64) (u % 64) u (omega arith) (omega arith)
     ∙ by 0 (u / 64)
     (λ b. bit-above (at l (u / 64)) 0 (u % 64) (omega (arith, d .others (u / 64) b (omega arith))) (omega arith))
     (λ b.
     let first : u / 64 ≡ 0 = omega arith in
-    rw first (bit-above (at l 0) 1 (u % 64) (omega (arith, d .one)) (omega arith)))
+    rw first (bit-above (at l 0) 1 (u % 64) (omega (arith, d .first)) (omega arith)))
 
 -- ---- one label more
 

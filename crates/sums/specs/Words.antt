@@ -12,6 +12,7 @@ use Rattle.meaning.specs.Sums.{bit, BitTable}
 use Rattle.meaning.specs.Answers.{saidOf}
 use Rattle.meaning.specs.Solved.{Summed}
 use Rattle.rows.specs.Rows.{FirstAlone}
+use Rattle.rows.specs.Rounds.{LabelByLabel}
 
 -- bit t is set
 unfoldable pub isSet : List ℕ → ℕ → Bool
@@ -25,9 +26,8 @@ pub record Added (s t : List ℕ) (w lo len : ℕ) : Type 0 where
   pub below : (m : ℕ) → m < lo → at t m ≡ at s m
 
 -- the `len` words after the first i labels; with none, total 0 alone is reached, which is the lowest bit
-pub data Marked (weights : List ℕ) (len : ℕ) : ℕ → List ℕ → Type 0 where
-  none-yet : {words : List ℕ} → FirstAlone len words → Marked weights len 0 words
-  one-more : {i : ℕ} {words next : List ℕ} → Marked weights len i words → Added words next (at weights i) 0 len → Marked weights len (suc i) next
+abbrev pub Marked : List ℕ → ℕ → ℕ → List ℕ → Type 0
+Marked weights len i words = LabelByLabel (FirstAlone 1 0 len) (λ m s t. Added s t (at weights m) 0 len) i words
 
 -- t is s without the totals above the budget
 pub record Trimmed (s t : List ℕ) (budget len : ℕ) : Type 0 where

@@ -8,7 +8,8 @@ use Rattle.meaning.specs.Lists.{at}
 use Rattle.meaning.specs.Cells.{noWay}
 use Rattle.numbers.specs.Handed.{handed}
 use Rattle.rows.proofs.Stores.{stored-each, at-same, at-other}
-use Rattle.blocks.specs.Sizes.{fewerOf, Grown, bare, grown}
+use Rattle.rows.specs.Rounds.{none-yet, one-more}
+use Rattle.blocks.specs.Sizes.{fewerOf, Grown}
 use borrow.Author.Needs.{needs}
 use Rattle.blocks.proofs.fill_fewest.Statement.{statement}
 use Rattle.blocks.proofs.fill_fewest.Tie as tie
@@ -51,8 +52,10 @@ loop-holds c =
     let s = c .before .before .before .before .before .before .before .before in (
       omega arith,
       refl,
-      bare (at-same (marks .last .0) 0 0 0 (omega (arith, marks .kept .0, s .pre .wide)) refl)
-          (λ a pos h. at-other (marks .last .0) 0 0 a (omega arith) ∙ stored-each _ _ _ (λ k. noWay) (marks .ensures) a (omega (arith, marks .kept .0, simp length-set at h))),
+      none-yet (record {
+        first = at-same (marks .last .0) 0 0 0 (omega (arith, marks .kept .0, s .pre .wide)) refl;
+        others = λ a pos h. at-other (marks .last .0) 0 0 a (omega arith) ∙ stored-each _ _ _ (λ k. noWay) (marks .ensures) a (omega (arith, marks .kept .0, simp length-set at h));
+      }),
     )
 
 item-requires : tie.Need-item-requires Inv-loop μ-loop
@@ -74,7 +77,7 @@ loop-again c =
     let made = c .before .before .lay in (
       omega arith,
       made .kept .0 ∙ l .inv .1,
-      rw add-one (grown (l .inv .2) (rw (l .inv .1, c .before .before .before .item .ensures) at (made .ensures))),
+      rw add-one (one-more (l .inv .2) (rw (l .inv .1, c .before .before .before .item .ensures) at (made .ensures))),
     )
 
 same-length : tie.Need-same-length Inv-loop μ-loop

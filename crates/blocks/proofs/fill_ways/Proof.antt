@@ -6,7 +6,8 @@ use mathlib.Core.List.{List}
 use lib.ListN.{length}
 use Rattle.meaning.specs.Lists.{at}
 use Rattle.numbers.specs.Handed.{handed}
-use Rattle.blocks.specs.Sizes.{waysOf, Grown, bare, grown}
+use Rattle.rows.specs.Rounds.{none-yet, one-more}
+use Rattle.blocks.specs.Sizes.{waysOf, Grown}
 use borrow.Author.Needs.{needs}
 use Rattle.blocks.proofs.fill_ways.Statement.{statement}
 use Rattle.blocks.proofs.fill_ways.Tie as tie
@@ -42,7 +43,7 @@ list-length-requires c κs = search needs
 loop-holds : tie.Need-loop-holds Inv-loop μ-loop
 loop-holds c =
     let words = c .before .before .before .first-alone in
-    (omega arith, refl, bare (words .ensures .one) (λ a pos h. words .ensures .others a pos (omega (arith, words .kept .0))))
+    (omega arith, refl, rw (words .kept .0) (none-yet (words .ensures)))
 
 item-requires : tie.Need-item-requires Inv-loop μ-loop
 item-requires c κs = inside (c .before)
@@ -63,7 +64,7 @@ loop-again c =
     let made = c .before .before .count in (
       omega arith,
       made .kept .0 ∙ l .inv .1,
-      rw add-one (grown (l .inv .2) (rw (l .inv .1, c .before .before .before .item .ensures) at (made .ensures))),
+      rw add-one (one-more (l .inv .2) (rw (l .inv .1, c .before .before .before .item .ensures) at (made .ensures))),
     )
 
 same-length : tie.Need-same-length Inv-loop μ-loop

@@ -7,8 +7,9 @@ use lib.ListN.{length}
 use borrow.Author.Needs.{needs}
 use Rattle.meaning.specs.Lists.{at}
 use Rattle.numbers.specs.Handed.{handed}
+use Rattle.rows.specs.Rounds.{none-yet, one-more}
 use Rattle.rows.proofs.Stores.{stored-each}
-use Rattle.knapsack.specs.Tables.{Climbed, level, climb}
+use Rattle.knapsack.specs.Tables.{Climbed}
 use Rattle.knapsack.proofs.FreeRow.{climbed-low}
 use Rattle.knapsack.proofs.fill_row.Statement.{statement}
 use Rattle.knapsack.proofs.fill_row.Tie as tie
@@ -50,7 +51,7 @@ list-length-requires c κs = search needs
 loop-holds : tie.Need-loop-holds Inv-loop μ-loop
 loop-holds c =
     let zeros = c .before .before .before .set-all in
-    (omega arith, refl, level (stored-each _ _ _ (λ k. 0) (zeros .ensures)))
+    (omega arith, refl, none-yet (stored-each _ _ _ (λ k. 0) (zeros .ensures)))
 
 item-requires : tie.Need-item-requires Inv-loop μ-loop
 item-requires c κs = inside c
@@ -86,7 +87,7 @@ loop-again c =
     let v = c .before .before .before .before .item2 .ensures in (
       omega arith,
       up .kept .0 ∙ l .inv .1,
-      rw add-one (climb (l .inv .2) (rw (long head, w, v) at (up .ensures))),
+      rw add-one (one-more (l .inv .2) (rw (long head, w, v) at (up .ensures))),
     )
 
 same-length : tie.Need-same-length Inv-loop μ-loop

@@ -44,7 +44,7 @@ returns : tie.Need-returns Inv-loop μ-loop
 returns c =
     let l = c .before .loop in
     record {
-      one = at-same (l .words) 0 1 0 (omega arith) refl;
+      first = at-same (l .words) 0 1 0 (omega arith) refl;
       others = λ m pos h. at-other (l .words) 0 1 m (omega arith) ∙ l .inv .2 m (omega arith);
     }
 

@@ -5,7 +5,8 @@ use native.Mathlib.Omega.{arith}
 use lib.ListN.{length}
 use borrow.Author.Needs.{needs}
 use Rattle.numbers.specs.Handed.{handed}
-use Rattle.sums.specs.Words.{Marked, none-yet, one-more}
+use Rattle.rows.specs.Rounds.{none-yet, one-more}
+use Rattle.sums.specs.Words.{Marked}
 use Rattle.sums.proofs.fill.Statement.{statement}
 use Rattle.sums.proofs.fill.Tie as tie
 
