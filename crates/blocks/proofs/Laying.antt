@@ -5,12 +5,11 @@ use Prim.Native.Nat.{ℕ, suc, _+_, _-_, _≤_, _<_}
 use native.Mathlib.Nat.{le-trans, le-of-eq}
 use native.Mathlib.Numerals.{add-one}
 use native.Mathlib.Omega.{arith}
-use mathlib.Core.Bool.{true, false, _&&_}
+use mathlib.Core.Bool.{true, false}
 use mathlib.Core.List.{List}
-use lib.Dec.{T, leb, ltb}
+use lib.Dec.{ltb}
 use lib.ListN.{length, set}
-use mir.Facts.{and-yes, leb-yes, ltb-yes}
-use borrow.Author.Tests.{le-leb, lt-ltb}
+use mir.Facts.{ltb-yes, yes-ltb}
 use Rattle.meaning.specs.Lists.{at, sum}
 use Rattle.meaning.specs.Cells.{LeastShown, noWay, shown, none-shown}
 use Rattle.meaning.specs.Job.{Job, labels}
@@ -21,23 +20,18 @@ use Rattle.meaning.proofs.Making.{makes-more, makes-less}
 use Rattle.meaning.proofs.Greedy.{last-is}
 use Rattle.rows.specs.Ways.{Way, turnOf, taken, passed}
 use Rattle.rows.proofs.Stores.{by}
+use Rattle.rows.proofs.LeadsOn.{light-true, light-false}
 use Rattle.rows.proofs.Ways.{way-chosen}
 use Rattle.blocks.specs.Sizes.{leavesFewer, leadsDown, WayDown}
 
 -- what the test says where it passes, and where it fails
-pub fewer-true : (row : ℕ → ℕ) (w a : ℕ) → leavesFewer row w a ≡ true → (w ≤ a) × (row (a - w) < row a)
+fewer-true : (row : ℕ → ℕ) (w a : ℕ) → leavesFewer row w a ≡ true → (w ≤ a) × (row (a - w) < row a)
 unfolding leavesFewer
-fewer-true row w a e =
-    let both : T (leb w a && ltb (row (a - w)) (row a)) = rw e tt in
-    let (light, on) = and-yes (leb w a) (ltb (row (a - w)) (row a)) both in
-    (leb-yes light, ltb-yes on)
+fewer-true row w a e = let (light, on) = light-true w a (ltb (row (a - w)) (row a)) e in (light, ltb-yes on)
 
 fewer-false : (row : ℕ → ℕ) (w a : ℕ) → leavesFewer row w a ≡ false → w ≤ a → ¬ (row (a - w) < row a)
 unfolding leavesFewer
-fewer-false row w a e light on =
-    let both : true ≡ false = rw (le-leb w a light, lt-ltb (row (a - w)) (row a) on) at e in
-    let z : _≡_ {A = ℕ} 0 1 = cc in
-    omega arith
+fewer-false row w a e light on = light-false w a (ltb (row (a - w)) (row a)) e light (yes-ltb on)
 
 -- a size that leads on is no larger than the amount
 pub down-light : (row : ℕ → ℕ) (sizes : List ℕ) (m a : ℕ) → leadsDown row sizes m a ≡ true → at sizes m ≤ a

@@ -1,12 +1,27 @@
--- A part of a slice that is lent and comes back: what it held, and where its cells stand then.
+-- Parts of a slice that are lent and come back: what they held, and where their cells stand then.
 -- Assumes nothing.
 use mathlib.Core.Path.{_≡_, ap, _∙_}
 use Prim.Native.Nat.{ℕ, _+_, _-_, _≤_, _<_}
 use native.Mathlib.Omega.{arith}
 use mathlib.Core.List.{List, _++_}
-use lib.ListN.{length, take, drop, length-take, length-drop, List·getD-append}
-use lib.Seq.{getD-take, getD-drop, getD-append-add, length-take-le}
+use lib.ListN.{length, take, drop, length-append, length-take, length-drop, List·getD-append}
+use lib.Seq.{getD-take, getD-drop, getD-append-add, length-take-le, take-at}
 use Rattle.meaning.specs.Lists.{at}
+
+-- ---- the first n places, written with `new`
+
+module _ (new old : List ℕ) (n : ℕ) (long : length new ≡ n) where
+  pub front-part : take n (new ++ drop n old) ≡ new
+  front-part = take-at new (drop n old) n long
+
+  pub front-room : n ≤ length (new ++ drop n old)
+  front-room = omega (arith, length-append new (drop n old))
+
+  -- the last of them
+  pub front-last : (b : ℕ) → n ≡ b + 1 → at (new ++ drop n old) (n - 1) ≡ at new b
+  front-last b e = ap (at (new ++ drop n old)) (omega arith) ∙ List·getD-append new (drop n old) 0 b (omega arith)
+
+-- ---- places from the middle on
 
 -- the `len` places of a slice from a place on
 abbrev pub partOf : List ℕ → ℕ → ℕ → List ℕ

@@ -10,7 +10,7 @@ use lib.ListN.{length, set, drop}
 use lib.Seq.{getD-set-same, getD-set-other, drop-cons, drop-set-lt, lt-length-set}
 use Rattle.meaning.specs.Lists.{at}
 use Rattle.meaning.specs.Refusals.{mostValue}
-use Rattle.rows.specs.Rows.{Swept, Stored, Low}
+use Rattle.rows.specs.Rows.{Swept, Stored, FirstAlone, Low}
 
 -- by cases, a below b or not; the numbers come first, so that what each case is handed is known
 pub by : {C : Type 0} (a b : ℕ) → (a < b → C) → (b ≤ a → C) → C
@@ -36,6 +36,10 @@ stored-first l i x h =
 -- the places that were stored from the first on
 pub stored-each : (s t : List ℕ) (n : ℕ) (rule : ℕ → ℕ) → Stored s t 0 0 n rule → (i : ℕ) → i < n → at t i ≡ rule i
 stored-each s t n rule d i h = ap (at t) (sym (zero-add i)) ∙ d .cells i (omega arith) h
+
+-- `one` over the first of places that all hold `none`
+pub alone : (t : List ℕ) (one none count : ℕ) → 0 < length t → ((m : ℕ) → m < count → at t m ≡ none) → FirstAlone one none count (set t 0 one)
+alone t one none count some same = record { first = at-same t 0 one 0 some refl; others = λ m pos h. at-other t 0 one m (omega arith) ∙ same m h }
 
 module _ (s : List ℕ) (to lo hi : ℕ) (rule : ℕ → ℕ) where
   -- nothing stored yet

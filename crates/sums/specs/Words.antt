@@ -1,7 +1,7 @@
 -- Bits alone: the words of totals as they are filled, label by label, and cut off at the budget.
 -- Assumes nothing.
 use mathlib.Core.Path.{_≡_}
-use Prim.Native.Nat.{ℕ, suc, _-_, _*_, _≤_, _<_, max}
+use Prim.Native.Nat.{ℕ, _-_, _*_, _≤_, _<_, max}
 use mathlib.Core.Bool.{Bool}
 use mathlib.Core.List.{List, []}
 use lib.Dec.{eqb}

@@ -3,8 +3,8 @@ use Prim.Native.Nat.{ℕ, _+_, _-_, _≤_}
 use native.Mathlib.Nat.{add-sub-cancel}
 use native.Mathlib.Omega.{arith}
 use mathlib.Core.List.{List, [], _∷_, _++_}
-use lib.ListN.{length, drop, take, length-append, List·getD-append}
-use lib.Seq.{length-take-le, take-at}
+use lib.ListN.{length, drop, take}
+use lib.Seq.{length-take-le}
 use Rattle.meaning.specs.Lists.{at}
 use Rattle.meaning.specs.Cells.{noWay}
 use Rattle.meaning.specs.Job.{Job, jobOf, fewest-blocks, labels}
@@ -12,6 +12,7 @@ use Rattle.meaning.specs.Lent.{lentOf, roomFor, roomOf}
 use Rattle.meaning.specs.Refusals.{rulesOf}
 use Rattle.meaning.proofs.Doors.{kept}
 use Rattle.numbers.specs.Handed.{handed}
+use Rattle.rows.proofs.Parts.{front-part, front-room, front-last}
 use Rattle.blocks.specs.Sizes.{Bounded, FewestGrown, WayDown}
 use Rattle.blocks.proofs.Doors.{bounded, no-blocks, blocks-laid}
 use borrow.Author.Needs.{needs}
@@ -60,13 +61,14 @@ module _ (f : tie.After-fill-fewest) where
 
   -- the first cells of the slice are the row
   row-front : take (start .args .budget + 1) cells ≡ row
-  row-front = take-at row (drop (start .args .budget + 1) (start .args .cells .now)) (start .args .budget + 1) row-long
+  row-front = front-part row (start .args .cells .now) (start .args .budget + 1) row-long
+
+  room : start .args .budget + 1 ≤ length cells
+  room = front-room row (start .args .cells .now) (start .args .budget + 1) row-long
 
   -- the cell that is read is the row's last
   last : at cells (start .args .budget + 1 - 1) ≡ at row (start .args .budget)
-  last =
-      ap (at cells) (add-sub-cancel (start .args .budget) 1)
-      ∙ List·getD-append row (drop (start .args .budget + 1) (start .args .cells .now)) 0 (start .args .budget) (omega (arith, row-long))
+  last = front-last row (start .args .cells .now) (start .args .budget + 1) row-long (start .args .budget) refl
 
   counted : f .before .before .list-length .result ≡ length (sizes start)
   counted = f .before .before .list-length .ensures
@@ -97,7 +99,7 @@ mul-blocks : tie.Need-mul-blocks
 mul-blocks c = search needs
 
 slice-read-blocks : tie.Need-slice-read-blocks
-slice-read-blocks c = let f = c .before .before .before in omega (arith, row-long f, length-append (row f) (drop (start f .args .budget + 1) (start f .args .cells .now)))
+slice-read-blocks c = omega (arith, room (c .before .before .before))
 
 same-length : tie.Need-same-length
 same-length c = search needs
@@ -110,7 +112,7 @@ returns c =
     no-blocks (job s) (s .args .cells .now) (s .args .picks .now) (row f) (s .pre) (ok s .bounds) (row-long f) (row-grown f) _ (last f) (c .if1 .taken)
 
 slice-reshare-prefix-way-down : tie.Need-slice-reshare-prefix-way-down
-slice-reshare-prefix-way-down c = let f = c .before .before .before .before in omega (arith, row-long f, length-append (row f) (drop (start f .args .budget + 1) (start f .args .cells .now)))
+slice-reshare-prefix-way-down c = room (c .before .before .before .before)
 
 slice-aggregate-way-down : tie.Need-slice-aggregate-way-down
 slice-aggregate-way-down c = let f = c .before .before .before .before .before in sym (row-long f) ∙ ap length (sym (row-front f))

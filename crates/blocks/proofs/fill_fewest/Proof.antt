@@ -7,7 +7,7 @@ use lib.ListN.{length, length-set}
 use Rattle.meaning.specs.Lists.{at}
 use Rattle.meaning.specs.Cells.{noWay}
 use Rattle.numbers.specs.Handed.{handed}
-use Rattle.rows.proofs.Stores.{stored-each, at-same, at-other}
+use Rattle.rows.proofs.Stores.{alone, stored-each}
 use Rattle.rows.specs.Rounds.{none-yet, one-more}
 use Rattle.blocks.specs.Sizes.{fewerOf, Grown}
 use borrow.Author.Needs.{needs}
@@ -52,10 +52,7 @@ loop-holds c =
     let s = c .before .before .before .before .before .before .before .before in (
       omega arith,
       refl,
-      none-yet (record {
-        first = at-same (marks .last .0) 0 0 0 (omega (arith, marks .kept .0, s .pre .wide)) refl;
-        others = λ a pos h. at-other (marks .last .0) 0 0 a (omega arith) ∙ stored-each _ _ _ (λ k. noWay) (marks .ensures) a (omega (arith, marks .kept .0, simp length-set at h));
-      }),
+      none-yet (alone (marks .last .0) 0 noWay _ (omega (arith, marks .kept .0, s .pre .wide)) (λ a h. stored-each _ _ _ (λ k. noWay) (marks .ensures) a (omega (arith, marks .kept .0, simp length-set at h)))),
     )
 
 item-requires : tie.Need-item-requires Inv-loop μ-loop

@@ -1,9 +1,8 @@
-use mathlib.Core.Path.{_≡_, refl, sym, ap, _∙_}
+use mathlib.Core.Path.{_≡_, refl, sym, _∙_}
 use Prim.Native.Nat.{ℕ, _+_, _-_, _≤_, _<_}
-use native.Mathlib.Nat.{add-sub-cancel}
 use native.Mathlib.Omega.{arith}
 use mathlib.Core.List.{List, [], _∷_, _++_}
-use lib.ListN.{length, drop, take, length-append, List·getD-append}
+use lib.ListN.{length, drop, take}
 use lib.Seq.{length-take-le}
 use Rattle.meaning.specs.Lists.{at}
 use Rattle.meaning.specs.Job.{Job, jobOf, block-ways}
@@ -12,6 +11,7 @@ use Rattle.meaning.specs.Refusals.{rulesOf}
 use Rattle.meaning.specs.Blocks.{tooMany}
 use Rattle.meaning.proofs.Doors.{kept}
 use Rattle.numbers.specs.Handed.{handed}
+use Rattle.rows.proofs.Parts.{front-room, front-last}
 use Rattle.blocks.specs.Sizes.{Bounded, WaysGrown}
 use Rattle.blocks.proofs.Doors.{bounded, too-many, ways-counted}
 use borrow.Author.Needs.{needs}
@@ -55,13 +55,11 @@ module _ (f : tie.After-fill-ways) where
   row-grown = rw (lent start) at (f .fill-ways .ensures)
 
   inside : start .args .budget + 1 - 1 < length words
-  inside = omega (arith, row-long, length-append row (drop (start .args .budget + 1) (start .args .words .now)))
+  inside = omega (arith, front-room row (start .args .words .now) (start .args .budget + 1) row-long)
 
   -- the cell that is read is the row's last
   last : at words (start .args .budget + 1 - 1) ≡ at row (start .args .budget)
-  last =
-      ap (at words) (add-sub-cancel (start .args .budget) 1)
-      ∙ List·getD-append row (drop (start .args .budget + 1) (start .args .words .now)) 0 (start .args .budget) (omega (arith, row-long))
+  last = front-last row (start .args .words .now) (start .args .budget + 1) row-long (start .args .budget) refl
 
 add-width : tie.Need-add-width
 add-width c = search needs

@@ -3,8 +3,8 @@ use Prim.Native.Nat.{ℕ, suc, _+_, _-_, _*_, _≤_, _<_}
 use native.Mathlib.Nat.{add-sub-cancel}
 use native.Mathlib.Omega.{arith}
 use mathlib.Core.List.{List, [], _∷_, _++_}
-use lib.ListN.{length, drop, take, length-append, List·getD-append}
-use lib.Seq.{length-take-le, take-at}
+use lib.ListN.{length, drop, take}
+use lib.Seq.{length-take-le}
 use borrow.Author.Needs.{needs}
 use Rattle.meaning.specs.Lists.{at}
 use Rattle.meaning.specs.Job.{Job, Sort, packing, jobOf, labels}
@@ -13,6 +13,7 @@ use Rattle.meaning.specs.Refusals.{mostBudget}
 use Rattle.meaning.proofs.Laws.{numberOf, kind-number}
 use Rattle.numbers.specs.Handed.{handed}
 use Rattle.rows.specs.Rows.{SomeCount}
+use Rattle.rows.proofs.Parts.{front-part, front-room, front-last}
 use Rattle.knapsack.specs.Tables.{Bounded, limitOf, rowOf, Filled}
 use Rattle.knapsack.specs.Ways.{WayBack}
 use Rattle.knapsack.proofs.FullRows.{one-row-more, some-back, way-within}
@@ -99,7 +100,7 @@ module _ (f : tie.After-fill) where
 
   -- the first cells of the slice are the table
   table-front : take (needed listed) (table ++ drop (needed listed) (start .args .cells .now)) ≡ table
-  table-front = take-at table (drop (needed listed) (start .args .cells .now)) (needed listed) table-long
+  table-front = front-part table (start .args .cells .now) (needed listed) table-long
 
   filled : Filled (weights start) (values start) (limitOf (numberOf (packing (sort start))) (copies start)) (start .args .budget + 1) (length (weights start)) table
   filled = rw (numbered start) at (f .fill .ensures)
@@ -144,7 +145,7 @@ fill-requires : tie.Need-fill-requires
 fill-requires c κs = let s = at-start (c .before) in (bounds s, (copied s, sym (needed-is (c .before)) ∙ sym (cells-long (c .before))))
 
 slice-reshare-prefix-way-back : tie.Need-slice-reshare-prefix-way-back
-slice-reshare-prefix-way-back c = let f = c .before .before in omega (arith, table-long f, length-append (table f) (drop (needed (listed f)) (start f .args .cells .now)))
+slice-reshare-prefix-way-back c = let f = c .before .before in front-room (table f) (start f .args .cells .now) (needed (listed f)) (table-long f)
 
 slice-aggregate-way-back : tie.Need-slice-aggregate-way-back
 slice-aggregate-way-back c = let f = c .before .before .before in sym (table-long f) ∙ ap length (sym (table-front f))
@@ -167,7 +168,7 @@ mul-t23 : tie.Need-mul-t23
 mul-t23 c = let l = listed (after-fill (c .before .before)) in omega (arith, cells-enough l, at-start l .good)
 
 slice-read-t25 : tie.Need-slice-read-t25
-slice-read-t25 c = let f = after-fill (c .before .before .before) in let s = start f in omega (arith, table-long f, needed-is (listed f), one-row-more (length (weights s)) (s .args .budget + 1), length-append (table f) (drop (needed (listed f)) (s .args .cells .now)))
+slice-read-t25 c = let f = after-fill (c .before .before .before) in let s = start f in omega (arith, table-long f, needed-is (listed f), one-row-more (length (weights s)) (s .args .budget + 1), front-room (table f) (s .args .cells .now) (needed (listed f)) (table-long f))
 
 cast-t26 : tie.Need-cast-t26
 unfolding mostBudget
@@ -190,11 +191,8 @@ returns c =
     let l = listed f in
     let s = start f in
     let a = s .args in
-    let rest = drop (needed l) (a .cells .now) in
     let more = one-row-more (length (weights s)) (a .budget + 1) in
-    let last : at (table f ++ rest) (needed l - 1) ≡ at (table f) (length (weights s) * (a .budget + 1) + a .budget) =
-    ap (at (table f ++ rest)) (omega (arith, needed-is l, more))
-    ∙ List·getD-append (table f) rest 0 (length (weights s) * (a .budget + 1) + a .budget) (omega (arith, table-long f, needed-is l, more)) in
+    let last = front-last (table f) (a .cells .now) (needed l) (table-long f) (length (weights s) * (a .budget + 1) + a .budget) (omega (arith, needed-is l, more)) in
     packs-full (sort s) (job s) (a .cells .now) (a .picks .now) (table f) (found w) (w .way-back .result) (is s) (s .pre .0 .unrefused) (table-long f ∙ needed-is l) (filled f) (way w)
     (needed l) (l .list-length .result) _ (needed-is l) (l .list-length .ensures) last
 

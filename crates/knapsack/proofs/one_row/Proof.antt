@@ -1,16 +1,17 @@
-use mathlib.Core.Path.{_≡_, sym, ap, _∙_}
+use mathlib.Core.Path.{_≡_, refl, sym, ap, _∙_}
 use Prim.Native.Nat.{ℕ, _+_, _-_, _≤_}
 use native.Mathlib.Nat.{add-sub-cancel}
 use native.Mathlib.Omega.{arith}
 use mathlib.Core.List.{List, [], _∷_, _++_}
-use lib.ListN.{length, drop, take, length-append, List·getD-append}
-use lib.Seq.{length-take-le, take-at}
+use lib.ListN.{length, drop, take}
+use lib.Seq.{length-take-le}
 use borrow.Author.Needs.{needs}
 use Rattle.meaning.specs.Lists.{at}
 use Rattle.meaning.specs.Job.{Job, jobOf, free, labels}
 use Rattle.meaning.specs.Lent.{roomFor, roomOf}
 use Rattle.meaning.specs.Refusals.{mostBudget}
 use Rattle.numbers.specs.Handed.{handed}
+use Rattle.rows.proofs.Parts.{front-part, front-room, front-last}
 use Rattle.knapsack.specs.Tables.{Bounded, Climbed}
 use Rattle.knapsack.specs.Ways.{WayAlong}
 use Rattle.knapsack.proofs.FreeRow.{climbed-low, along-weight}
@@ -51,7 +52,10 @@ module _ (f : tie.After-fill-row) where
 
   -- the first cells of the slice are the row
   row-front : take (start .args .budget + 1) (row ++ drop (start .args .budget + 1) (start .args .cells .now)) ≡ row
-  row-front = take-at row (drop (start .args .budget + 1) (start .args .cells .now)) (start .args .budget + 1) row-long
+  row-front = front-part row (start .args .cells .now) (start .args .budget + 1) row-long
+
+  room : start .args .budget + 1 ≤ length (row ++ drop (start .args .budget + 1) (start .args .cells .now))
+  room = front-room row (start .args .cells .now) (start .args .budget + 1) row-long
 
   labelled : f .before .before .list-length .result ≡ length (weights start)
   labelled = f .before .before .list-length .ensures
@@ -94,7 +98,7 @@ fill-row-requires : tie.Need-fill-row-requires
 fill-row-requires c κs = let s = c .before .before .before .before .before .before .before .before in rw (length-take-le (s .args .budget + 1) (s .args .cells .now) (ok s .cells-room)) (ok s .bounds)
 
 slice-reshare-prefix-way-along : tie.Need-slice-reshare-prefix-way-along
-slice-reshare-prefix-way-along c = let f = c .before .before in omega (arith, row-long f, length-append (row f) (drop (start f .args .budget + 1) (start f .args .cells .now)))
+slice-reshare-prefix-way-along c = room (c .before .before)
 
 slice-aggregate-way-along : tie.Need-slice-aggregate-way-along
 slice-aggregate-way-along c = let f = c .before .before .before in sym (row-long f) ∙ ap length (sym (row-front f))
@@ -119,7 +123,7 @@ mul-t19 : tie.Need-mul-t19
 mul-t19 c = search needs
 
 slice-read-t21 : tie.Need-slice-read-t21
-slice-read-t21 c = let f = c .before .before .before .before .before .before .before .before in omega (arith, row-long f, length-append (row f) (drop (start f .args .budget + 1) (start f .args .cells .now)))
+slice-read-t21 c = omega (arith, room (c .before .before .before .before .before .before .before .before))
 
 cast-t22 : tie.Need-cast-t22
 unfolding mostBudget
@@ -141,8 +145,7 @@ returns c =
     let f = filled w in
     let s = start f in
     let a = s .args in
-    let last : at (row f ++ drop (a .budget + 1) (a .cells .now)) (a .budget + 1 - 1) ≡ at (row f) (a .budget) =
-    ap (at (row f ++ drop (a .budget + 1) (a .cells .now))) (add-sub-cancel (a .budget) 1) ∙ List·getD-append (row f) (drop (a .budget + 1) (a .cells .now)) 0 (a .budget) (omega (arith, row-long f)) in
+    let last = front-last (row f) (a .cells .now) (a .budget + 1) (row-long f) (a .budget) refl in
     packs-free (job s) (a .cells .now) (a .picks .now) (row f) (found w) (w .way-along .result) (s .pre) (row-long f) (row-climbed f) (way w) _ _ (labelled f) last
 
 pub one-row-spec : {M : Type 1} → statement M

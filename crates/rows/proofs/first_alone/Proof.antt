@@ -4,7 +4,7 @@ use native.Mathlib.Omega.{arith}
 use lib.ListN.{length, length-set}
 use borrow.Author.Needs.{needs}
 use Rattle.meaning.specs.Lists.{at}
-use Rattle.rows.proofs.Stores.{by, at-same, at-other}
+use Rattle.rows.proofs.Stores.{alone, by, at-same, at-other}
 use Rattle.rows.proofs.first_alone.Statement.{statement}
 use Rattle.rows.proofs.first_alone.Tie as tie
 
@@ -41,12 +41,7 @@ same-length : tie.Need-same-length Inv-loop μ-loop
 same-length c = search needs
 
 returns : tie.Need-returns Inv-loop μ-loop
-returns c =
-    let l = c .before .loop in
-    record {
-      first = at-same (l .words) 0 1 0 (omega arith) refl;
-      others = λ m pos h. at-other (l .words) 0 1 m (omega arith) ∙ l .inv .2 m (omega arith);
-    }
+returns c = let l = c .before .loop in alone (l .words) 1 0 (length (c .before .before .args .words .now)) (omega arith) (λ m h. l .inv .2 m (omega arith))
 
 pub first-alone-spec : {M : Type 1} → statement M
 first-alone-spec =
