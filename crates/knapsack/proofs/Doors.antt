@@ -108,7 +108,7 @@ full-value limited-is j table t = t
 
 -- ---- what an answer comes to
 
-words-needed : (k : Sort) (j : Job) → 0 ≡ roomFor (packing k) j .words
+pub words-needed : (k : Sort) (j : Job) → 0 ≡ roomFor (packing k) j .words
 unfolding roomFor roomOf
 words-needed once j = refl
 words-needed limited j = refl

@@ -26,11 +26,7 @@ pub enum Written {
 // A section of job or certificate bytes: where its numbers start, how many there are, and the place after them;
 // or the place where reading broke.
 pub enum Section {
-    Part {
-        start: usize,
-        count: usize,
-        next: usize,
-    },
+    Part(usize, usize, usize),
     Broken(usize),
 }
 

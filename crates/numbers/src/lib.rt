@@ -77,11 +77,7 @@ pub fn read_section(bytes: &[u8], place: usize, needed: Needed) -> Section
     if left - 4 < 4 * count {
         return Section::Broken(start);
     }
-    Section::Part {
-        start,
-        count,
-        next: start + 4 * count,
-    }
+    Section::Part(start, count, start + 4 * count)
 }
 
 // Writes a number into the four bytes at p.

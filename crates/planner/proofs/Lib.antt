@@ -1,0 +1,2 @@
+-- Laws of this crate: from what a request was asked to what the planner promises.
+pub mod Judged

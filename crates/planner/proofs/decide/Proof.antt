@@ -1,0 +1,110 @@
+-- `planner::decide` meets its contract: each arm's promise is that of its kinds, and what no arm takes is no kind.
+-- Assumes nothing.
+use mathlib.Core.Path.{_≡_}
+use mathlib.Core.Logic.{inl, inr}
+use native.Mathlib.Omega.{arith}
+use Rattle.meaning.specs.Job.{Job, jobOf, allKinds}
+use Rattle.meaning.specs.Lent.{Lent, lentOf}
+use Rattle.meaning.specs.Doors.{SolvedInCells, SolvedInWords, SolvedInPicks}
+use Rattle.meaning.proofs.Laws.{no-kind, solved-no-kind}
+use Rattle.numbers.specs.Handed.{jobHanded}
+use borrow.Author.Needs.{needs}
+use Rattle.planner.proofs.decide.Statement.{statement}
+use Rattle.planner.proofs.decide.Tie as tie
+
+-- the job, and the slices
+module _ (s : tie.Start) where
+  abbrev job : Job
+  job = jobHanded (s .args .kind) (s .args .budget) (s .args .ws .now) (s .args .wb .now) (s .args .vs .now) (s .args .vb .now) (s .args .cs .now) (s .args .cb .now)
+
+  abbrev lent : Lent
+  lent = lentOf (s .args .cells .now) (s .args .words .now) (s .args .picks .now)
+
+reach-requires : tie.Need-reach-requires
+reach-requires c κs = search needs
+
+share-requires : tie.Need-share-requires
+share-requires c κs = search needs
+
+pack-requires : tie.Need-pack-requires
+pack-requires c κs = search needs
+
+lay-requires : tie.Need-lay-requires
+lay-requires c κs = search needs
+
+same-length : tie.Need-same-length
+same-length c = search needs
+
+returns : tie.Need-returns
+unfolding SolvedInWords
+returns c =
+    let s = c .before .before .before .before .before .before .before .before .before .before .before .before .before .before in
+    let four : s .args .kind ≡ 4 = c .before .before .before .before .match .keys1 in
+    rw four (c .before .before .reach .ensures (s .args .cells .now) (s .args .picks .now))
+
+same-length-2 : tie.Need-same-length-2
+same-length-2 c = search needs
+
+returns-2 : tie.Need-returns-2
+unfolding SolvedInPicks
+returns-2 c =
+    let s = c .before .before .before .before .before .before .before .before .before .before .before .before .before .before in
+    let seven : s .args .kind ≡ 7 = c .before .before .before .before .match .keys2 in
+    rw seven (c .before .before .share .ensures (s .args .cells .now) (s .args .words .now))
+
+same-length-3 : tie.Need-same-length-3
+same-length-3 c = search needs
+
+same-length-4 : tie.Need-same-length-4
+same-length-4 c = search needs
+
+returns-3 : tie.Need-returns-3
+unfolding SolvedInCells
+returns-3 c = let s = c .before .before .before .before .before .before .before .before .before .before .before .before .before .before .before .before .before .before .before in c .before .before .before .before .pack .ensures (s .args .words .now)
+
+same-length-5 : tie.Need-same-length-5
+same-length-5 c = search needs
+
+same-length-6 : tie.Need-same-length-6
+same-length-6 c = search needs
+
+same-length-7 : tie.Need-same-length-7
+same-length-7 c = search needs
+
+returns-4 : tie.Need-returns-4
+returns-4 c = search needs
+
+returns-5 : tie.Need-returns-5
+unfolding jobOf
+returns-5 c =
+    let s = c .before .before .before .before .before .before .before .before .before .before .before in
+    solved-no-kind (job s) (lent s) (no-kind (s .args .kind) (inl (omega arith)))
+
+returns-6 : tie.Need-returns-6
+unfolding jobOf allKinds
+returns-6 c =
+    let s = c .before .before .before .before .before .before .before .before .before .before .before .before .before in
+    let other = c .before .before .before .match .rest .1 in
+    solved-no-kind (job s) (lent s) (no-kind (s .args .kind) (inr (omega (arith, other))))
+
+pub decide-spec : {M : Type 1} → statement M
+decide-spec =
+    tie.close
+    (tie.spec
+    reach-requires
+    share-requires
+    pack-requires
+    lay-requires
+    same-length
+    returns
+    same-length-2
+    returns-2
+    same-length-3
+    same-length-4
+    returns-3
+    same-length-5
+    same-length-6
+    same-length-7
+    returns-4
+    returns-5
+    returns-6)

@@ -1,0 +1,4 @@
+-- The definitions that the contracts of this crate cite beside those of `meaning`.
+pub mod Reading
+pub mod Judging
+pub mod Places
