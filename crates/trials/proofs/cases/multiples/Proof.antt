@@ -1,0 +1,57 @@
+-- `trials::cases::multiples` is safe and ends: the loop counts up to the list's length.
+-- Assumes nothing.
+use Prim.Native.Nat.{_-_}
+use mathlib.Core.Path.{_≡_}
+use borrow.Author.Needs.{needs}
+use lib.ListN.{length}
+use Rattle.trials.proofs.cases.multiples.Statement.{statement}
+use Rattle.trials.proofs.cases.multiples.Tie as tie
+
+abbrev Inv-loop : tie.InvT-loop
+Inv-loop list₀ step i₀ x₀ list i x = length list ≡ length list₀
+
+abbrev μ-loop : tie.MeasureT-loop
+μ-loop list₀ step i₀ x₀ list i x = length list₀ - i
+
+loop-holds : tie.Need-loop-holds Inv-loop μ-loop
+loop-holds c = search needs
+
+mul-list : tie.Need-mul-list Inv-loop μ-loop
+mul-list c = search needs
+
+slice-write-list : tie.Need-slice-write-list Inv-loop μ-loop
+slice-write-list c = search needs
+
+wrapping-add-u32-requires : tie.Need-wrapping-add-u32-requires Inv-loop μ-loop
+wrapping-add-u32-requires c κs = search needs
+
+add-i : tie.Need-add-i Inv-loop μ-loop
+add-i c = search needs
+
+loop-less : tie.Need-loop-less Inv-loop μ-loop
+loop-less c = search needs
+
+loop-again : tie.Need-loop-again Inv-loop μ-loop
+loop-again c = search needs
+
+same-length : tie.Need-same-length Inv-loop μ-loop
+same-length c = search needs
+
+returns : tie.Need-returns Inv-loop μ-loop
+returns c = search needs
+
+pub multiples-spec : {M : Type 1} → statement M
+multiples-spec =
+    tie.close
+    (tie.spec
+    Inv-loop
+    μ-loop
+    loop-holds
+    mul-list
+    slice-write-list
+    wrapping-add-u32-requires
+    add-i
+    loop-less
+    loop-again
+    same-length
+    returns)
