@@ -122,6 +122,7 @@ pub struct Rules {
 
 // The rules of kinds 1 to 3.
 pub fn knapsack_rules(kind: u32) -> Rules
+    requires { ⌜ (1 ≤ kind) × (kind ≤ 3) ⌝ }
     ensures { λ r. ⌜ ((k : Sort) → kindOf kind ≡ some (packing k) → rulesFrom r false ≡ rulesOf (packing k)) ⌝ }
 {
     let floor = if kind == 3 { 1 } else { 0 };
@@ -131,7 +132,7 @@ pub fn knapsack_rules(kind: u32) -> Rules
         labels: MOST_LABELS,
         budget: MOST_BUDGET,
         weights: WeightRule::Positive,
-        floor: floor,
+        floor,
     }
 }
 
@@ -313,6 +314,7 @@ pub struct Room {
 
 // Kinds 1 to 3: a row for each label and one before them, or one row in kind 3.
 pub fn knapsack_room(kind: u32, n: usize, budget: u32) -> Room
+    requires { ⌜ (1 ≤ kind) × (kind ≤ 3) ⌝ }
     requires { ⌜ (n ≤ mostLabels) × (budget ≤ mostBudget) ⌝ }
     ensures { λ r. ⌜ ((k : Sort) → kindOf kind ≡ some (packing k) → NeededBy (packing k) n budget r) ⌝ }
 {
@@ -344,6 +346,7 @@ pub fn sums_room(budget: u32) -> Room
 
 // Kinds 5 and 6: a cell or a word for each amount.
 pub fn blocks_room(kind: u32, n: usize, budget: u32) -> Room
+    requires { ⌜ (5 ≤ kind) × (kind ≤ 6) ⌝ }
     ensures { λ r. ⌜ (kind ≡ 5 → NeededBy fewest-blocks n budget r) × (kind ≡ 6 → NeededBy block-ways n budget r) ⌝ }
 {
     let width = budget as usize + 1;

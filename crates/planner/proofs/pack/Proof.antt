@@ -60,7 +60,7 @@ knapsack-room-requires : tie.Need-knapsack-room-requires
 unfolding jobOf labels rulesOf knapsackRules
 knapsack-room-requires c κs =
     let s = c .before .before .before .before .before .before .before .before .before .before .before .before in
-    (rw (c .list-length .ensures) (few (kind s) (job s) (one-of-three s .of-kind) (passed (c .before))), small (kind s) (job s) (one-of-three s .of-kind) (passed (c .before)))
+    (s .pre, (rw (c .list-length .ensures) (few (kind s) (job s) (one-of-three s .of-kind) (passed (c .before))), small (kind s) (job s) (one-of-three s .of-kind) (passed (c .before))))
 
 room-fits-requires : tie.Need-room-fits-requires
 room-fits-requires c κs = search needs

@@ -22,7 +22,7 @@ add-t5 c = omega arith
 
 mul-t7 : tie.Need-mul-t7
 unfolding mostLabels mostBudget
-mul-t7 c = omega (arith, few-cells (c .before .args .n) (c .before .args .budget) (c .before .pre .0) (c .before .pre .1))
+mul-t7 c = omega (arith, few-cells (c .before .args .n) (c .before .args .budget) (c .before .pre .1 .0) (c .before .pre .1 .1))
 
 returns-2 : tie.Need-returns-2
 returns-2 c k e = all-rows k (c .before .args .n) (c .before .args .budget) (λ three. c .if1 .left (kind-number (c .before .args .kind) (packing k) e ∙ three))
