@@ -19,8 +19,9 @@ use Rattle.meaning.specs.Lent.{cellCount}
 use Rattle.meaning.specs.Refusals.{rulesOf}
 use Rattle.meaning.specs.Bytes.{JobRead, bytesOf, bytesOfAll, readJob, readable, sectionBytes, unreadable}
 use Rattle.meaning.specs.Knapsacks.{Best, Fits, FullTable, cellNumber}
+use Rattle.meaning.specs.Answers.{judgedOf}
 use Rattle.meaning.specs.Certificates.{certifiedRefusal, cellAt, lowCell, misvalued, mostPicks, overPicked, overweight, tooLow, verdictOf, verdictOnJob, certifiedAs, certifiedSort, Checked}
-use Rattle.meaning.specs.Demands.{Accepts, BestList, Demand3, Sound, ValidJob, areBytes, listIn}
+use Rattle.meaning.specs.Demands.{AcceptedWith, Accepts, BestList, Demand3, Sound, ValidJob, areBytes, listIn}
 use Rattle.meaning.proofs.Totals.{total-part}
 use Rattle.meaning.proofs.CellNumbers.{RowAndBudget, CellOf, row-and-budget, cell-of}
 use Rattle.meaning.proofs.OneOfEach.{best-value-unique}
@@ -154,6 +155,15 @@ section-are-bytes ns = bytes-append (bytesOf (length ns)) (bytesOfAll ns) (numbe
 
 -- ---- the third demand
 
+-- what the checker promises is one verdict
+pub verdict-is : (jobB certB : List ℕ) (v : Verdict) → Checked jobB certB v → verdictOf jobB certB ≡ v
+unfolding Checked
+verdict-is jobB certB v checked = judged-unique (verdictOf jobB certB) v (sym checked)
+
+pub accepted-with : (jobB certB : List ℕ) (v : ℕ) → verdictOf jobB certB ≡ Accepted v → AcceptedWith Checked jobB certB v
+unfolding Checked
+accepted-with jobB certB v e = record { verdict = ap judgedOf (sym e); no-other = λ w checked. sym (verdict-is jobB certB w checked) ∙ e }
+
 -- first half: accepted means that nothing within budget is worth more
 accepted-best : (jobB certB : List ℕ) (v : ℕ) → verdictOf jobB certB ≡ Accepted v → Sound jobB certB v
 unfolding verdictOf BestList
@@ -184,15 +194,15 @@ module _ (jobB : List ℕ) (j : Job) (job-ok : ValidJob jobB j) (p : List ℕ) w
   unfolding verdictOf
   on-job certB = ap (λ (r : JobRead). verdictOnJob r certB) (job-ok .reads)
 
-  only-when : Accepts verdictOf jobB p → BestList k j p
+  only-when : Accepts Checked jobB p → BestList k j p
   unfolding BestList
   only-when a =
-      let (ok, judged) = on-readable j (a .certB) (a .value) (sym (on-job (a .certB)) ∙ a .verdict) in
+      let (ok, judged) = on-readable j (a .certB) (a .value) (sym (on-job (a .certB)) ∙ verdict-is jobB (a .certB) (Accepted (a .value)) (a .accepted .verdict)) in
       let s : ReadAndSeen j (a .certB) (a .value) = read-and-seen j (a .certB) (a .value) judged in
       subst (λ (q : List ℕ). Best k j (labels j) (j .budget) q) (a .with-list)
       (seen-best k j shown-here (listIn (a .certB)) (s .cells) (a .value) (s .long) (s .judged))
 
-  whenever : BestList k j p → Accepts verdictOf jobB p
+  whenever : BestList k j p → Accepts Checked jobB p
   unfolding BestList
   whenever best =
       let cells : List ℕ = fullCells k j shown-here in
@@ -203,15 +213,15 @@ module _ (jobB : List ℕ) (j : Job) (job-ok : ValidJob jobB j) (p : List ℕ) w
         bytes = bytes-append (sectionBytes p) (sectionBytes cells) (section-are-bytes p) (section-are-bytes cells);
         with-list = list-written p (sectionBytes cells) few (picks-32 k j shown-here p best);
         value = total (j .values) p;
-        verdict =
-            on-job (sectionBytes p ++ sectionBytes cells)
-            ∙ accepted-written j k p cells (job-ok .of-sort) (job-ok .not-refused) best (full-long k j shown-here) (full-table k j shown-here);
+        accepted =
+            accepted-with jobB (sectionBytes p ++ sectionBytes cells) (total (j .values) p)
+            (on-job (sectionBytes p ++ sectionBytes cells)
+            ∙ accepted-written j k p cells (job-ok .of-sort) (job-ok .not-refused) best (full-long k j shown-here) (full-table k j shown-here));
       }
 
-pub meets-demand-3 : Demand3 verdictOf
-meets-demand-3 = record { accepted-is-best = accepted-best; exactly-when-best = λ jobB j ok p. (only-when jobB j ok p, whenever jobB j ok p) }
-
--- so does whoever meets the checker's promise
-pub whoever-checks : (check : List ℕ → List ℕ → Verdict) → ((jobB certB : List ℕ) → Checked jobB certB (check jobB certB)) → Demand3 check
-unfolding Checked
-whoever-checks check promise = subst Demand3 (λ i jobB certB. judged-unique (verdictOf jobB certB) (check jobB certB) (sym (promise jobB certB)) i) meets-demand-3
+-- the checker's promise meets both
+pub meets-demand-3 : Demand3 Checked
+meets-demand-3 = record {
+  accepted-is-best = λ jobB certB v checked. accepted-best jobB certB v (verdict-is jobB certB (Accepted v) checked);
+  exactly-when-best = λ jobB j ok p. (only-when jobB j ok p, whenever jobB j ok p);
+}

@@ -8,6 +8,7 @@ use Prim.Native.Nat.{suc, ℕ}
 use mathlib.Core.Bool.{false, true}
 use mathlib.Core.List.{List, [], _++_, _∷_, map}
 use lib.ListN.{length, replicate, take}
+use Rattle.meaning.specs.declared.Answer.{Answer}
 use Rattle.meaning.specs.declared.Answer.the-variants as Says
 use Rattle.meaning.specs.declared.Verdict.{Verdict}
 use Rattle.meaning.specs.declared.Verdict.the-variants.{Accepted, Refused}
@@ -23,7 +24,8 @@ use Rattle.meaning.specs.Blocks.{Laid}
 use Rattle.meaning.specs.Shares.{sharesOf}
 use Rattle.meaning.specs.Answers.{is-blocks, is-knapsack, is-refusal, is-shares, is-sums, is-ways, judgedOf, saidOf, wroteOf}
 use Rattle.meaning.specs.Solved.{waysAnswer}
-use Rattle.meaning.specs.Certificates.{refusalNumber, valueOrPlace, verdictOf}
+use Rattle.meaning.specs.Certificates.{verdictOf}
+use Rattle.meaning.specs.Host.{firstNumber, refusalNumber, secondNumber, valueOrPlace}
 use Rattle.meaning.specs.Writer.{Writes, WritesBytes, WritesRead, bytesNeeded, certificate, newBytes, slicesFit, writerRefusal, writtenAs}
 use Rattle.meaning.specs.Trials.{certJ, jobJ}
 use Rattle.meaning.proofs.Small.{isLaid, laid-out, picked, picked-out}
@@ -232,7 +234,7 @@ report-numbers : Computes wroteOf (
 unfolding opens
 report-numbers = refl
 
--- the two C entries
+-- the checker's two C entries
 first-entry : Computes refusalNumber (Accepted 3 gives 0 ∷ Refused 14 5 gives 14 ∷ [])
 unfolding opens refusalNumber
 first-entry = refl
@@ -240,6 +242,39 @@ first-entry = refl
 second-entry : Computes valueOrPlace (Accepted 3 gives 3 ∷ Refused 14 5 gives 5 ∷ [])
 unfolding opens valueOrPlace
 second-entry = refl
+
+-- the planner's entry: the first and the second number of each answer
+abbrev first-said : Answer → ℕ
+first-said a = firstNumber (saidOf a)
+
+first-numbers : Computes first-said (
+    Says.Refused 5 gives 0
+    ∷ Says.Knapsack 9 7 gives 9
+    ∷ Says.Sums true 4 gives 1
+    ∷ Says.Sums false 3 gives 0
+    ∷ Says.Blocks 2 gives 2
+    ∷ Says.Ways 4 gives 4
+    ∷ Says.Shares 6 gives 6
+    ∷ []
+    )
+unfolding opens firstNumber
+first-numbers = refl
+
+abbrev second-said : Answer → ℕ
+second-said a = secondNumber (saidOf a)
+
+second-numbers : Computes second-said (
+    Says.Refused 5 gives 0
+    ∷ Says.Knapsack 9 7 gives 7
+    ∷ Says.Sums true 4 gives 4
+    ∷ Says.Sums false 3 gives 3
+    ∷ Says.Blocks 2 gives 0
+    ∷ Says.Ways 4 gives 0
+    ∷ Says.Shares 6 gives 0
+    ∷ []
+    )
+unfolding opens secondNumber
+second-numbers = refl
 
 -- 8: ways are exact up to 2^64 - 2
 many-ways : Computes waysAnswer (

@@ -34,6 +34,8 @@ pub mod FullTables
 pub mod Verdicts
 pub mod Certified
 pub mod Ours
+pub mod Ring
+pub mod Entries
 -- trials, corner cases, and wrong versions
 pub mod Small
 pub mod SmallTables

@@ -15,7 +15,7 @@ use Rattle.meaning.specs.declared.Section.{Section}
 use Rattle.meaning.specs.declared.Section.the-variants.{Part, Broken}
 use Rattle.meaning.specs.declared.Needed.{Needed}
 use Rattle.meaning.specs.Lists.{at, if}
-use Rattle.meaning.specs.Bytes.{numberAt, numbersIn, between, isNeeded, wholeSection, readSection, bytesOf, bytesOfAll, sectionBytes}
+use Rattle.meaning.specs.Bytes.{numberAt, numbersIn, between, isNeeded, wholeSection, readSection, withSection, bytesOf, bytesOfAll, sectionBytes}
 use Rattle.meaning.proofs.UpTo.{made-length, made-at}
 
 -- ---- reading
@@ -29,13 +29,6 @@ unfolding numbersIn
 numbers-at b i h =
     made-at (λ (k : ℕ). numberAt b (4 * k)) (length b / 4) i
     (omega (arith, made-length (λ (k : ℕ). numberAt b (4 * k)) (length b / 4)))
-
--- a number of four bytes fits 32 bits
-pub number-fits : (b : List ℕ) (p : ℕ)
-    → at b p < 256 → at b (p + 1) < 256 → at b (p + 2) < 256 → at b (p + 3) < 256
-    → numberAt b p < 4_294_967_296
-unfolding numberAt
-number-fits b p h₀ h₁ h₂ h₃ = omega arith
 
 -- ---- a part of the bytes
 
@@ -119,6 +112,17 @@ pub section-numbers : (b : List ℕ) (start count next : ℕ) → next ≡ start
     → length (numbersIn (between b start next)) ≡ count
 section-numbers b start count next e h =
     numbers-long (between b start next) ∙ omega (arith, between-long b start next h)
+
+-- reading goes on after one that is whole
+pub goes-on : {A : Type 0} (b : List ℕ) (found : Section) (stop : ℕ → A) (on : List ℕ → ℕ → A) (start count next : ℕ) → found ≡ Part start count next
+    → withSection b found stop on ≡ on (numbersIn (between b start next)) next
+unfolding withSection
+goes-on b found stop on start count next e = ap (λ (s : Section). withSection b s stop on) e
+
+-- and stops at one that broke
+pub stops : {A : Type 0} (b : List ℕ) (found : Section) (stop : ℕ → A) (on : List ℕ → ℕ → A) (place : ℕ) → found ≡ Broken place → withSection b found stop on ≡ stop place
+unfolding withSection
+stops b found stop on place e = ap (λ (s : Section). withSection b s stop on) e
 
 -- ---- writing
 

@@ -12,7 +12,6 @@ use lib.Seq.{length-take-le}
 use mir.Facts.{and-yes, leb-yes, yes-and, yes-leb}
 use Rattle.meaning.specs.declared.Answer.{Answer}
 use Rattle.meaning.specs.declared.Answer.the-variants as Says
-use Rattle.meaning.specs.declared.Verdict.the-variants.{Accepted}
 use Rattle.meaning.specs.declared.Written.the-variants.{Bytes, Refused}
 use Rattle.meaning.specs.Lists.{if, total}
 use Rattle.meaning.specs.Slices.{Holds}
@@ -23,14 +22,14 @@ use Rattle.meaning.specs.Bytes.{JobRead, readJob, readable, sectionBytes
 use Rattle.meaning.specs.Knapsacks.{BestPicks, ValueTable}
 use Rattle.meaning.specs.Answers.{saidOf, wroteOf, Said}
 use Rattle.meaning.specs.Solved.{Answered, Gives, Outcome, Packed, Solved, SolvedBytes, SolvedRead, TableHolds}
-use Rattle.meaning.specs.Certificates.{certifiedRefusal, verdictOf, verdictOnJob}
+use Rattle.meaning.specs.Certificates.{Checked, certifiedRefusal, verdictOf, verdictOnJob}
 use Rattle.meaning.specs.Writer.{Writes, WritesBytes, WritesRead, bytesNeeded, newBytes, certificate, slicesFit, writerRefusal, writtenAs, WritesAs}
-use Rattle.meaning.specs.Demands.{BestList, OursAccepted}
+use Rattle.meaning.specs.Demands.{AcceptedWith, BestList, OursAccepted}
 use Rattle.meaning.proofs.Unique.{said-unique, wrote-unique}
 use Rattle.meaning.proofs.Laws.{holds-first, kind-solved}
 use Rattle.meaning.proofs.Numbers.{section-long}
 use Rattle.meaning.proofs.Valid.{Passed, not-refused, past-if}
-use Rattle.meaning.proofs.Certified.{accepted-written, MayCertify, certified-once, may-certify}
+use Rattle.meaning.proofs.Certified.{accepted-with, accepted-written, MayCertify, certified-once, may-certify}
 
 -- ---- the bytes of a certificate
 
@@ -153,25 +152,26 @@ module _ (j : Job) (before after : Lent) (a : Answer) (out out′ : List ℕ) (n
       ∙ ap₂ (λ (p c : List ℕ). sectionBytes p ++ sectionBytes c) same-picks same-cells
 
   -- the bytes written are accepted, with the value of the answer
-  ours : (jobB : List ℕ) → readJob jobB ≡ readable j → (value weight : ℕ) × (a ≡ Says.Knapsack value weight) × (verdictOf jobB (take n out′) ≡ Accepted value)
+  ours : (jobB : List ℕ) → readJob jobB ≡ readable j → (value weight : ℕ) × (a ≡ Says.Knapsack value weight) × AcceptedWith Checked jobB (take n out′) value
   unfolding verdictOf TableHolds ValueTable
   ours jobB reads = (
     total (j .values) picks,
     total (j .weights) picks,
     said-unique (packed .numbers),
-    ap₂ verdictOnJob reads output
-        ∙ accepted-written j once picks (answered .content .cells) (certify .of-sort ∙ ap some (is-once .1)) ok best long-cells (answered .table-right),
+    accepted-with jobB (take n out′) (total (j .values) picks)
+        (ap₂ verdictOnJob reads output
+        ∙ accepted-written j once picks (answered .content .cells) (certify .of-sort ∙ ap some (is-once .1)) ok best long-cells (answered .table-right)),
   )
 
 -- the same where the job comes as bytes to all three
 ours-bytes : (r : JobRead) (jobB : List ℕ) (before after : Lent) (a : Answer) (out out′ : List ℕ) (n : ℕ) → readJob jobB ≡ r
     → SolvedRead roomFor TableHolds r before a after → WritesRead r (after .picks) (after .cells) out (Bytes n) out′
-    → (value weight : ℕ) × (a ≡ Says.Knapsack value weight) × (verdictOf jobB (take n out′) ≡ Accepted value)
+    → (value weight : ℕ) × (a ≡ Says.Knapsack value weight) × AcceptedWith Checked jobB (take n out′) value
 unfolding SolvedRead WritesRead Solved writtenAs
 ours-bytes (unreadable place) jobB before after a out out′ n e s w = absurd (bytes≢refused n 1 (w .numbers))
 ours-bytes (readable j) jobB before after a out out′ n e s w = ours j before after a out out′ n s w jobB e
 
-pub ours-accepted : OursAccepted verdictOf
+pub ours-accepted : OursAccepted Checked
 unfolding SolvedBytes WritesBytes
 ours-accepted = record {
   by-lists = λ jobB j reads before after a s out out′ n w. ours j before after a out out′ n s w jobB reads;

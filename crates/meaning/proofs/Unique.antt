@@ -27,6 +27,7 @@ use Rattle.meaning.specs.Answers.{Which, is-refusal, is-knapsack, is-sum
 use Rattle.meaning.specs.Solved.{Answered, Built, Gives, WaysGiven, Outcome, Packed, Solved, SolvedAs, SolvedBytes, SolvedLists, SolvedRead, SumOrNone, Summed, TableHolds, TurnedDown, a-sum, no-such-sum, waysAnswer}
 use Rattle.meaning.specs.Certificates.{Checked}
 use Rattle.meaning.specs.Writer.{Writes, WritesBytes, WritesRead, WritesAs}
+use Rattle.meaning.specs.Host.{firstNumber, secondNumber, SolvedHost, WritesHost}
 use Rattle.meaning.proofs.Counting.{counted-unique}
 use Rattle.meaning.proofs.OneOfEach.{OneTable, Sized, chosen-unique, table-unique, tells-unique, ways-unique}
 
@@ -227,3 +228,41 @@ pub no-second-writing-bytes : (bytes picks cells before after after′ : List �
     → WritesBytes bytes picks cells before a after → WritesBytes bytes picks cells before a′ after′ → OneWriting a a′ after after′
 unfolding WritesBytes
 no-second-writing-bytes bytes picks cells before after after′ a a′ x y = writes-read-unique (readJob bytes) picks cells before after after′ a a′ x y
+
+-- ---- the C entries
+
+-- one refusal number, the same two numbers, and one content of the lent slices
+pub record OneCall (r r′ first first′ second second′ : ℕ) (t t′ : Lent) : Type 0 where
+  pub refusal : r ≡ r′
+  pub first-same : first ≡ first′
+  pub second-same : second ≡ second′
+  pub left : t ≡ t′
+
+pub one-host-answer : (jobB : List ℕ) (before t t′ : Lent) (r r′ first first′ second second′ : ℕ)
+    → SolvedHost jobB before r first second t → SolvedHost jobB before r′ first′ second′ t′ → OneCall r r′ first first′ second second′ t t′
+one-host-answer jobB before t t′ r r′ first first′ second second′ x y =
+    let one = no-second-choice-bytes jobB before t t′ (x .answer) (y .answer) (x .solved) (y .solved) in
+    let said : saidOf (x .answer) ≡ saidOf (y .answer) = ap saidOf (one .answer) in
+    record {
+      refusal = x .refusal ∙ ap (λ (s : Said). s .refusal) said ∙ sym (y .refusal);
+      first-same = x .first-is ∙ ap firstNumber said ∙ sym (y .first-is);
+      second-same = x .second-is ∙ ap secondNumber said ∙ sym (y .second-is);
+      left = one .left;
+    }
+
+-- one refusal number, one number of bytes, and one content of the byte slice
+pub record OneWritingCall (r r′ bytes bytes′ : ℕ) (after after′ : List ℕ) : Type 0 where
+  pub refusal : r ≡ r′
+  pub bytes-same : bytes ≡ bytes′
+  pub left : after ≡ after′
+
+pub one-host-writing : (jobB picks cells before after after′ : List ℕ) (r r′ bytes bytes′ : ℕ)
+    → WritesHost jobB picks cells before r bytes after → WritesHost jobB picks cells before r′ bytes′ after′ → OneWritingCall r r′ bytes bytes′ after after′
+one-host-writing jobB picks cells before after after′ r r′ bytes bytes′ x y =
+    let one = no-second-writing-bytes jobB picks cells before after after′ (x .answer) (y .answer) (x .writes) (y .writes) in
+    let wrote : wroteOf (x .answer) ≡ wroteOf (y .answer) = ap wroteOf (one .answer) in
+    record {
+      refusal = x .refusal ∙ ap (λ (s : Wrote). s .refusal) wrote ∙ sym (y .refusal);
+      bytes-same = x .bytes-are ∙ ap (λ (s : Wrote). s .bytes) wrote ∙ sym (y .bytes-are);
+      left = one .left;
+    }

@@ -123,7 +123,8 @@ pub record ReadAndSeen (j : Job) (certB : List ℕ) (v : ℕ) : Type 0 where
   pub long : length (listIn certB) ≡ labels j
   pub judged : Seen j (listIn certB) cells v
 
-needed-count : (n c : ℕ) → isNeeded (Exactly n) c ≡ true → c ≡ n
+-- the count that was asked for was found
+pub needed-count : (n c : ℕ) → isNeeded (Exactly n) c ≡ true → c ≡ n
 unfolding isNeeded
 needed-count n c e = eqb-true c n e
 

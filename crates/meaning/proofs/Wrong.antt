@@ -13,7 +13,7 @@ use Rattle.meaning.specs.declared.Written.{Written}
 use Rattle.meaning.specs.declared.Written.the-variants.{Bytes}
 use Rattle.meaning.specs.declared.Written.the-variants as Reports
 use Rattle.meaning.specs.declared.Verdict.{Verdict}
-use Rattle.meaning.specs.declared.Verdict.the-variants.{Accepted}
+use Rattle.meaning.specs.declared.Verdict.the-variants.{Accepted, Refused}
 use Rattle.meaning.specs.Lists.{at}
 use Rattle.meaning.specs.Slices.{Holds}
 use Rattle.meaning.specs.Job.{Job, Kind, packing, once}
@@ -22,12 +22,14 @@ use Rattle.meaning.specs.Bytes.{readable, unreadable}
 use Rattle.meaning.specs.Knapsacks.{BestPicks, FullTable, ValueTable}
 use Rattle.meaning.specs.Answers.{saidOf}
 use Rattle.meaning.specs.Solved.{Unrefused, Gives, Outcome, Solved, TableHolds, SolvedBytes, SolvedRead}
+use Rattle.meaning.specs.Certificates.{Checked, verdictOf}
 use Rattle.meaning.specs.Writer.{Writes, WritesBytes, WritesRead, bytesNeeded, certificate, newBytes, slicesFit, writerRefusal, writtenAs}
 use Rattle.meaning.specs.Demands.{Accepts, BestList, Demand3, Sound, ValidJob}
-use Rattle.meaning.specs.Trials.{Goes, jobJ, solve}
+use Rattle.meaning.specs.Trials.{Goes, certJ, jobJ, solve}
 use Rattle.meaning.proofs.OneOfEach.{best-value-unique}
 use Rattle.meaning.proofs.Unique.{said-unique, wrote-unique}
 use Rattle.meaning.proofs.Laws.{unrefused-answered, solved-says}
+use Rattle.meaning.proofs.Certified.{verdict-is}
 use Rattle.meaning.proofs.Small.{picked, picked-out}
 use Rattle.meaning.proofs.Opens.{opens}
 use Rattle.meaning.proofs.Cases.{caseA, caseJ, noLabels}
@@ -113,9 +115,9 @@ module _ (picks cells before after : List ℕ) (a : Written) (w : WritesBytes []
 
 -- ---- the checker: one that accepts everything, and one that refuses everything
 
-accepts-all : (check : List ℕ → List ℕ → Verdict) → ((jobB certB : List ℕ) → (v : ℕ) × (check jobB certB ≡ Accepted v)) → ¬ Demand3 check
+accepts-all : (Check : List ℕ → List ℕ → Verdict → Type 0) → ((jobB certB : List ℕ) → (v : ℕ) × Check jobB certB (Accepted v)) → ¬ Demand3 Check
 unfolding opens
-accepts-all check all-accepted d =
+accepts-all Check all-accepted d =
     let (v, e) = all-accepted [] [] in
     let s : Sound [] [] v = d .accepted-is-best [] [] v e in
     let f : unreadable 0 ≡ readable (s .job) = s .valid-job .reads in
@@ -130,8 +132,29 @@ best-J : BestList once caseJ (1 ∷ [])
 unfolding opens picked BestPicks BestList
 best-J = picked-out once caseJ (1 ∷ []) tt .one-of
 
-refuses-all : (check : List ℕ → List ℕ → Verdict) → ((jobB certB : List ℕ) (v : ℕ) → ¬ (check jobB certB ≡ Accepted v)) → ¬ Demand3 check
+refuses-all : (Check : List ℕ → List ℕ → Verdict → Type 0) → ((jobB certB : List ℕ) (v : ℕ) → ¬ Check jobB certB (Accepted v)) → ¬ Demand3 Check
 unfolding valid-J
-refuses-all check none-accepted d =
-    let a : Accepts check jobJ (1 ∷ []) = d .exactly-when-best jobJ caseJ valid-J (1 ∷ []) .1 best-J in
-    none-accepted jobJ (a .certB) (a .value) (a .verdict)
+refuses-all Check none-accepted d =
+    let a : Accepts Check jobJ (1 ∷ []) = d .exactly-when-best jobJ caseJ valid-J (1 ∷ []) .1 best-J in
+    none-accepted jobJ (a .certB) (a .value) (a .accepted .verdict)
+
+-- ---- the checker on case J's job: one that names the last cell at fault, one that adds in 32 bits, one that wants exact claims
+
+-- a verdict on the certificate with pick 1 and these cells is the one that computes
+only : (cells : List ℕ) (w v : Verdict) → verdictOf jobJ (certJ cells) ≡ w → Checked jobJ (certJ cells) v → v ≡ w
+only cells w v computes checked = sym (verdict-is jobJ (certJ cells) v checked) ∙ computes
+
+-- cells 4 and 5 both break rule 14
+names-the-first : (v : Verdict) → Checked jobJ (certJ (0 ∷ 9 ∷ 0 ∷ 0 ∷ 0 ∷ 0 ∷ [])) v → v ≡ Refused 14 4
+unfolding opens jobJ certJ verdictOf
+names-the-first v checked = only (0 ∷ 9 ∷ 0 ∷ 0 ∷ 0 ∷ 0 ∷ []) (Refused 14 4) v refl checked
+
+-- cell 5 is the greatest number of 32 bits, and cell 0 and the value make one more than that
+sums-are-whole : (v : Verdict) → Checked jobJ (certJ (4_294_967_293 ∷ 0 ∷ 0 ∷ 4_294_967_293 ∷ 0 ∷ 4_294_967_295 ∷ [])) v → v ≡ Refused 14 5
+unfolding opens jobJ certJ verdictOf
+sums-are-whole v checked = only (4_294_967_293 ∷ 0 ∷ 0 ∷ 4_294_967_293 ∷ 0 ∷ 4_294_967_295 ∷ []) (Refused 14 5) v refl checked
+
+-- cells 3 and 4 claim 9 where nothing can be had
+claims-may-be-high : (v : Verdict) → Checked jobJ (certJ (0 ∷ 0 ∷ 0 ∷ 9 ∷ 9 ∷ 3 ∷ [])) v → v ≡ Accepted 3
+unfolding opens jobJ certJ verdictOf
+claims-may-be-high v checked = only (0 ∷ 0 ∷ 0 ∷ 9 ∷ 9 ∷ 3 ∷ []) (Accepted 3) v refl checked

@@ -134,11 +134,3 @@ verdictOf jobB certB = verdictOnJob (readJob jobB) certB
 -- the checker's promise: its verdict v says what `verdictOf` says
 unfoldable pub Checked : List ℕ → List ℕ → Verdict → Type 0
 Checked jobB certB v = judgedOf v ≡ judgedOf (verdictOf jobB certB)
-
--- what the first C entry gives of a verdict: 0 for accepted, or the refusal number
-unfoldable pub refusalNumber : Verdict → ℕ
-refusalNumber v = judgedOf v .refusal
-
--- what the second gives: the value or the place, of which one is 0
-unfoldable pub valueOrPlace : Verdict → ℕ
-valueOrPlace v = judgedOf v .value + judgedOf v .place

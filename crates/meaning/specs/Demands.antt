@@ -1,4 +1,4 @@
--- The third demand, of any checker of job bytes and certificate bytes. (The first and the second, that a bad request gets its number
+-- The third demand, of any checker of job bytes and certificate bytes, by what it promises of its verdict. (The first and the second, that a bad request gets its number
 -- and writes nothing, and that an answer is the true one, are what `Solved` says, by `TurnedDown` and by `Gives`.)
 -- Assumes nothing.
 use mathlib.Core.Path.{_≡_}
@@ -50,26 +50,31 @@ pub record Sound (jobB certB : List ℕ) (v : ℕ) : Type 0 where
   pub best : BestList (valid-job .sort) job (listIn certB)
   pub value : total (job .values) (listIn certB) ≡ v
 
+-- the certificate is accepted with v: that is a verdict by the promise, and no other is
+pub record AcceptedWith (Check : List ℕ → List ℕ → Verdict → Type 0) (jobB certB : List ℕ) (v : ℕ) : Type 0 where
+  pub verdict : Check jobB certB (Accepted v)
+  pub no-other : (w : Verdict) → Check jobB certB w → w ≡ Accepted v
+
 -- some certificate with the list p is accepted
-pub record Accepts (check : List ℕ → List ℕ → Verdict) (jobB p : List ℕ) : Type 0 where
+pub record Accepts (Check : List ℕ → List ℕ → Verdict → Type 0) (jobB p : List ℕ) : Type 0 where
   pub certB : List ℕ
   pub bytes : T (areBytes certB)
   pub with-list : listIn certB ≡ p
   pub value : ℕ
-  pub verdict : check jobB certB ≡ Accepted value
+  pub accepted : AcceptedWith Check jobB certB value
 
 -- 'Accepted means nothing within budget is worth more; and for a valid job and any list, some certificate with that list is
 -- accepted exactly when the list is allowed, fits and is best.'
-pub record Demand3 (check : List ℕ → List ℕ → Verdict) : Type 0 where
-  pub accepted-is-best : (jobB certB : List ℕ) (v : ℕ) → check jobB certB ≡ Accepted v → Sound jobB certB v
-  pub exactly-when-best : (jobB : List ℕ) (j : Job) (valid-job : ValidJob jobB j) (p : List ℕ) → Accepts check jobB p ↔ BestList (valid-job .sort) j p
+pub record Demand3 (Check : List ℕ → List ℕ → Verdict → Type 0) : Type 0 where
+  pub accepted-is-best : (jobB certB : List ℕ) (v : ℕ) → Check jobB certB (Accepted v) → Sound jobB certB v
+  pub exactly-when-best : (jobB : List ℕ) (j : Job) (valid-job : ValidJob jobB j) (p : List ℕ) → Accepts Check jobB p ↔ BestList (valid-job .sort) j p
 
 -- 'Ours always is.' Whoever solved the job, and whoever wrote a certificate of what was left, unless refused: the answer's value is accepted
-pub record OursAccepted (check : List ℕ → List ℕ → Verdict) : Type 0 where
+pub record OursAccepted (Check : List ℕ → List ℕ → Verdict → Type 0) : Type 0 where
   pub by-lists : (jobB : List ℕ) (j : Job) → readJob jobB ≡ readable j
       → (before after : Lent) (a : Answer) → Solved j before a after
       → (out out′ : List ℕ) (n : ℕ) → Writes j (after .picks) (after .cells) out (Bytes n) out′
-      → (value weight : ℕ) × (a ≡ Knapsack value weight) × (check jobB (take n out′) ≡ Accepted value)
+      → (value weight : ℕ) × (a ≡ Knapsack value weight) × AcceptedWith Check jobB (take n out′) value
   pub by-bytes : (jobB : List ℕ) (before after : Lent) (a : Answer) → SolvedBytes jobB before a after
       → (out out′ : List ℕ) (n : ℕ) → WritesBytes jobB (after .picks) (after .cells) out (Bytes n) out′
-      → (value weight : ℕ) × (a ≡ Knapsack value weight) × (check jobB (take n out′) ≡ Accepted value)
+      → (value weight : ℕ) × (a ≡ Knapsack value weight) × AcceptedWith Check jobB (take n out′) value

@@ -17,5 +17,6 @@ pub mod Solved
 pub mod Doors
 pub mod Certificates
 pub mod Writer
+pub mod Host
 pub mod Demands
 pub mod Trials

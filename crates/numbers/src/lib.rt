@@ -5,7 +5,7 @@ ghost use mathlib.Core.Path.{_≡_};
 ghost use Prim.Native.Nat.{_+_, _≤_, _<_};
 ghost use lib.ListN.{length};
 ghost use Rattle.meaning.specs.Lists.{at};
-ghost use Rattle.meaning.specs.Bytes.{numberAt, isNeeded, readSection, bytesOf, sectionBytes};
+ghost use Rattle.meaning.specs.Bytes.{numberAt, numbersIn, isNeeded, readSection, bytesOf, sectionBytes};
 ghost use Rattle.numbers.specs.Handed.{handed};
 ghost use Rattle.numbers.specs.Placed.{HoldsAt, SectionWritten};
 
@@ -27,6 +27,14 @@ pub fn number_at(bytes: &[u8], p: usize) -> u32
         + 16_777_216 * wide(bytes[p + 3])
 }
 
+// Number i of those that stand in the bytes.
+pub fn number_in(bytes: &[u8], i: usize) -> u32
+    requires { ⌜ i < length (numbersIn (now bytes)) ⌝ }
+    ensures { λ r. ⌜ r ≡ at (numbersIn (now (bytes .entry))) i ⌝ }
+{
+    number_at(bytes, 4 * i)
+}
+
 // The length of a list that is handed over as numbers and bytes.
 pub fn list_length(numbers: &[u32], bytes: &[u8]) -> usize
     ensures { λ r. ⌜ r ≡ length (handed (now (numbers .entry)) (now (bytes .entry))) ⌝ }
@@ -43,7 +51,7 @@ pub fn item(numbers: &[u32], bytes: &[u8], i: usize) -> u32
     if i < n {
         numbers[i]
     } else {
-        number_at(bytes, 4 * (i - n))
+        number_in(bytes, i - n)
     }
 }
 

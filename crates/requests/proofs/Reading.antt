@@ -14,24 +14,13 @@ use Rattle.meaning.specs.declared.Needed.the-variants.{Any, Exactly}
 use Rattle.meaning.specs.Lists.{at, if}
 use Rattle.meaning.specs.Job.{jobOf}
 use Rattle.meaning.specs.Bytes.{JobRead, atEnd, between, isNeeded, numberAt, numbersIn, readJob, readSection, readable, unreadable, withSection}
-use Rattle.meaning.proofs.Numbers.{between-long, between-number, numbers-at, numbers-long, section-found}
+use Rattle.meaning.proofs.Numbers.{between-long, between-number, numbers-at, goes-on, numbers-long, section-found, stops}
 use Rattle.numbers.specs.Handed.{handed}
 use Rattle.requests.specs.declared.Request.{Request}
 use Rattle.requests.specs.declared.Request.the-variants.{Parts, Broken}
 use Rattle.requests.specs.Reading.{PartsRead, ReadAs, Within, brokenOf}
 
 -- ---- one section
-
--- reading goes on after one that is whole
-goes-on : {A : Type 0} (b : List ℕ) (found : Section) (stop : ℕ → A) (on : List ℕ → ℕ → A) (start count next : ℕ) → found ≡ Finds.Part start count next
-    → withSection b found stop on ≡ on (numbersIn (between b start next)) next
-unfolding withSection
-goes-on b found stop on start count next e = ap (λ (s : Section). withSection b s stop on) e
-
--- and stops at one that broke
-stops : {A : Type 0} (b : List ℕ) (found : Section) (stop : ℕ → A) (on : List ℕ → ℕ → A) (place : ℕ) → found ≡ Finds.Broken place → withSection b found stop on ≡ stop place
-unfolding withSection
-stops b found stop on place e = ap (λ (s : Section). withSection b s stop on) e
 
 -- the break of a section is the job's
 pub read-broken : (b : List ℕ) (found : Section) (place : ℕ) (r : Request) → found ≡ Finds.Broken place → readJob b ≡ unreadable place → r ≡ brokenOf found → ReadAs b r

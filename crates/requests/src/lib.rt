@@ -307,9 +307,9 @@ pub fn job_refusal(
 
 // How many places of each lent slice a job needs.
 pub struct Room {
-    cells: usize,
-    words: usize,
-    picks: usize,
+    pub cells: usize,
+    pub words: usize,
+    pub picks: usize,
 }
 
 // Kinds 1 to 3: a row for each label and one before them, or one row in kind 3.

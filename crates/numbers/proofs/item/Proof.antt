@@ -3,6 +3,7 @@
 use mathlib.Core.Path.{sym, _∙_}
 use native.Mathlib.Omega.{arith}
 use borrow.Author.Needs.{needs}
+use Rattle.meaning.proofs.Numbers.{numbers-long}
 use Rattle.numbers.proofs.Handed.{handed-long, handed-first, handed-rest}
 use Rattle.numbers.proofs.item.Statement.{statement}
 use Rattle.numbers.proofs.item.Tie as tie
@@ -13,15 +14,10 @@ mul-result c = search needs
 shared-slice-read-result : tie.Need-shared-slice-read-result
 shared-slice-read-result c = search needs
 
-mul-number-at : tie.Need-mul-number-at
-mul-number-at c =
+number-in-requires : tie.Need-number-in-requires
+number-in-requires c κs =
     let a = c .before .before .before .args in
-    omega (arith, handed-long (a .numbers .now) (a .bytes .now))
-
-number-at-requires : tie.Need-number-at-requires
-number-at-requires c κs =
-    let a = c .before .before .before .args in
-    omega (arith, handed-long (a .numbers .now) (a .bytes .now))
+    omega (arith, handed-long (a .numbers .now) (a .bytes .now), numbers-long (a .bytes .now))
 
 returns : tie.Need-returns
 returns c =
@@ -32,7 +28,7 @@ returns-2 : tie.Need-returns-2
 returns-2 c =
     let s = c .before .before .before .before in
     let a = s .args in
-    c .number-at .ensures ∙ sym (handed-rest (a .numbers .now) (a .bytes .now) (a .i) (omega arith) (s .pre))
+    c .number-in .ensures ∙ sym (handed-rest (a .numbers .now) (a .bytes .now) (a .i) (omega arith))
 
 pub item-spec : {M : Type 1} → statement M
 item-spec =
@@ -40,7 +36,6 @@ item-spec =
     (tie.spec
     mul-result
     shared-slice-read-result
-    mul-number-at
-    number-at-requires
+    number-in-requires
     returns
     returns-2)

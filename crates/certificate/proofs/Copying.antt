@@ -1,0 +1,104 @@
+-- What the writer promises, by the way it went: refused with a number, or both sections written.
+-- Assumes nothing.
+use mathlib.Core.Path.{_≡_, refl, sym, _∙_}
+use Prim.Native.Nat.{ℕ, zero, suc, _+_, _*_, _≤_, _<_}
+use native.Mathlib.Omega.{arith}
+use mathlib.Core.Bool.{true, false, not}
+use mathlib.Core.List.{List, []}
+use lib.ListN.{length, take}
+use lib.Seq.{length-take-le}
+use borrow.Author.Tests.{le-leb, lt-leb}
+use Rattle.meaning.specs.declared.Written.{Written}
+use Rattle.meaning.specs.declared.Written.the-variants.{Bytes, Refused}
+use Rattle.meaning.specs.Lists.{if}
+use Rattle.meaning.specs.Slices.{Holds}
+use Rattle.meaning.specs.Job.{Job}
+use Rattle.meaning.specs.Bytes.{readJob, sectionBytes, unreadable, readable}
+use Rattle.meaning.specs.Certificates.{certifiedRefusal}
+use Rattle.meaning.specs.Writer.{Writes, WritesAs, WritesBytes, WritesRead, bytesNeeded, certificate, newBytes, slicesFit, writerRefusal, writtenAs}
+use Rattle.meaning.proofs.Numbers.{section-long}
+use Rattle.numbers.specs.Placed.{HoldsAt, SectionWritten}
+use Rattle.numbers.proofs.Placed.{joined, from-start}
+use Rattle.certificate.specs.Copying.{CopiedFor}
+use Rattle.certificate.proofs.Refusing.{refused-before, later-asked}
+
+-- ---- refused
+
+-- a refusal writes nothing
+nothing-new : (r n : ℕ) (certB before : List ℕ) → ¬ (r ≡ 0) → WritesAs r n certB before (Refused r) before
+unfolding writtenAs newBytes Holds
+nothing-new zero n certB before some-number = absurd (some-number refl)
+nothing-new (suc r) n certB before some-number = record { numbers = refl; leaves = refl }
+
+-- 2 to 5
+pub turned-away : (j : Job) (picks cells before : List ℕ) (r : ℕ) → r ≡ certifiedRefusal j 0 → ¬ (r ≡ 0) → Writes j picks cells before (Refused r) before
+unfolding Writes writerRefusal
+turned-away j picks cells before r e some-number =
+    let given : certifiedRefusal j (if (not (slicesFit j picks cells before)) 6 0) ≡ r = refused-before j _ (λ none. some-number (e ∙ none)) ∙ sym e in
+    rw given (nothing-new r (bytesNeeded j) (certificate j picks cells) before some-number)
+
+-- ---- the three slices
+
+module _ (j : Job) (picks cells before : List ℕ) (ok : certifiedRefusal j 0 ≡ 0) where
+  -- 6: one of them is too short
+  pub too-short : slicesFit j picks cells before ≡ false → Writes j picks cells before (Refused 6) before
+  unfolding Writes writerRefusal if
+  too-short short =
+      let given : certifiedRefusal j (if (not (slicesFit j picks cells before)) 6 0) ≡ 6 = later-asked j ok _ ∙ rw short in
+      rw given (nothing-new 6 (bytesNeeded j) (certificate j picks cells) before (λ none. absurd (omega arith)))
+
+  -- none is
+  pub all-written : slicesFit j picks cells before ≡ true → (after : List ℕ) → Holds (certificate j picks cells) before after
+      → Writes j picks cells before (Bytes (bytesNeeded j)) after
+  unfolding Writes writerRefusal if writtenAs newBytes
+  all-written roomy after holds =
+      let given : certifiedRefusal j (if (not (slicesFit j picks cells before)) 6 0) ≡ 0 = later-asked j ok _ ∙ rw roomy in
+      rw given (record { numbers = refl; leaves = holds })
+
+module _ (n count : ℕ) (picks cells before : List ℕ) where
+  pub short-picks : length picks < n → CopiedFor n count picks cells before (Refused 6) before
+  unfolding CopiedFor slicesFit
+  short-picks short j n-is count-is ok = too-short j picks cells before ok (rw (n-is, lt-leb n (length picks) short))
+
+  module _ (picks-fit : n ≤ length picks) where
+    pub short-cells : length cells < count → CopiedFor n count picks cells before (Refused 6) before
+    unfolding CopiedFor slicesFit
+    short-cells short j n-is count-is ok =
+        too-short j picks cells before ok (rw (n-is, count-is, le-leb n (length picks) picks-fit, lt-leb count (length cells) short))
+
+    module _ (cells-fit : count ≤ length cells) where
+      pub short-out : length before < 8 + 4 * n + 4 * count → CopiedFor n count picks cells before (Refused 6) before
+      unfolding CopiedFor slicesFit bytesNeeded
+      short-out short j n-is count-is ok =
+          too-short j picks cells before ok
+          (rw (n-is, count-is, le-leb n (length picks) picks-fit, le-leb count (length cells) cells-fit, lt-leb (8 + 4 * n + 4 * count) (length before) short))
+
+      pub picks-long : length (sectionBytes (take n picks)) ≡ 4 + 4 * n
+      picks-long = omega (arith, section-long (take n picks), length-take-le n picks picks-fit)
+
+      pub cells-long : length (sectionBytes (take count cells)) ≡ 4 + 4 * count
+      cells-long = omega (arith, section-long (take count cells), length-take-le count cells cells-fit)
+
+      -- picks from the start on, and cells after them
+      pub copied : 8 + 4 * n + 4 * count ≤ length before → (mid after : List ℕ) (middle end : ℕ) → SectionWritten 0 (take n picks) before mid middle
+          → SectionWritten middle (take count cells) mid after end → CopiedFor n count picks cells before (Bytes (8 + 4 * n + 4 * count)) after
+      unfolding CopiedFor slicesFit bytesNeeded certificate
+      copied out-fits mid after middle end first second j n-is count-is ok =
+          let there : HoldsAt (0 + length (sectionBytes (take n picks))) (sectionBytes (take count cells)) mid after = rw (first .ends) at (second .written) in
+          let both = joined 0 (sectionBytes (take n picks)) before mid (omega (arith, picks-long)) (first .written) (sectionBytes (take count cells)) after there in
+          rw (← n-is, ← count-is)
+          (all-written j picks cells before ok
+          (rw (n-is, count-is, le-leb n (length picks) picks-fit, le-leb count (length cells) cells-fit, le-leb (8 + 4 * n + 4 * count) (length before) out-fits))
+          after (rw (n-is, count-is) (from-start _ _ _ both)))
+
+-- ---- job bytes
+
+-- 1: job bytes that can't be read
+pub no-job : (b picks cells before : List ℕ) (place : ℕ) → readJob b ≡ unreadable place → WritesBytes b picks cells before (Refused 1) before
+unfolding WritesBytes WritesRead
+no-job b picks cells before place e = rw e (nothing-new 1 0 [] before (λ none. absurd (omega arith)))
+
+-- those that can are written for as the job that they hold
+pub job-in-bytes : (b picks cells before after : List ℕ) (j : Job) (a : Written) → readJob b ≡ readable j → Writes j picks cells before a after → WritesBytes b picks cells before a after
+unfolding WritesBytes WritesRead
+job-in-bytes b picks cells before after j a e writes = rw e writes

@@ -1,0 +1,70 @@
+-- Certificate bytes, read section by section: what is known where reading breaks, and where it comes to the end.
+-- Assumes nothing.
+use mathlib.Core.Path.{_≡_, sym, _∙_}
+use Prim.Native.Nat.{ℕ, _≤_, _<_}
+use native.Mathlib.Omega.{arith}
+use mathlib.Core.List.{List}
+use lib.ListN.{length}
+use borrow.Author.Tests.{lt-ltb, le-ltb}
+use Rattle.meaning.specs.declared.Verdict.{Verdict}
+use Rattle.meaning.specs.declared.Verdict.the-variants.{Refused}
+use Rattle.meaning.specs.declared.Section.the-variants.{Part, Broken}
+use Rattle.meaning.specs.declared.Needed.the-variants.{Exactly}
+use Rattle.meaning.specs.Lists.{if}
+use Rattle.meaning.specs.Job.{Job, labels}
+use Rattle.meaning.specs.Bytes.{atEnd, between, numbersIn, readSection, withSection}
+use Rattle.meaning.specs.Certificates.{certificateBroken, certificateCells, verdictOnCells, verdictOnCertificate}
+use Rattle.meaning.proofs.Numbers.{SectionFound, goes-on, section-found, section-numbers, stops}
+use Rattle.meaning.proofs.Verdicts.{needed-count}
+
+-- a section of a needed count: it is within the bytes, and has that many numbers
+pub record Held (b : List ℕ) (start next count : ℕ) : Type 0 where
+  pub ordered : start ≤ next
+  pub inside : next ≤ length b
+  pub long : length (numbersIn (between b start next)) ≡ count
+
+pub held : (needed : ℕ) (b : List ℕ) (p start count next : ℕ) → readSection (Exactly needed) b p ≡ Part start count next → Held b start next needed
+held needed b p start count next e =
+    let f : SectionFound (Exactly needed) b p start count next = section-found (Exactly needed) b p start count next e in
+    record {
+      ordered = omega (arith, f .ends);
+      inside = f .inside;
+      long = section-numbers b start count next (f .ends) (f .inside) ∙ needed-count needed count (f .right);
+    }
+
+module _ (j : Job) (b : List ℕ) where
+  abbrev after-cells : List ℕ → List ℕ → ℕ → Verdict
+  after-cells picks cells p = atEnd b p certificateBroken (verdictOnCells j picks cells)
+
+  abbrev after-picks : List ℕ → ℕ → Verdict
+  after-picks picks p = withSection b (readSection (Exactly (certificateCells j)) b p) certificateBroken (after-cells picks)
+
+  pub picks-broken : (place : ℕ) → readSection (Exactly (labels j)) b 0 ≡ Broken place → Refused 11 0 ≡ verdictOnCertificate j b
+  unfolding verdictOnCertificate certificateBroken
+  picks-broken place e = sym (stops b _ certificateBroken after-picks place e)
+
+  module _ (p k p-end : ℕ) (first : readSection (Exactly (labels j)) b 0 ≡ Part p k p-end) where
+    abbrev picks : List ℕ
+    picks = numbersIn (between b p p-end)
+
+    so-far : verdictOnCertificate j b ≡ after-picks picks p-end
+    unfolding verdictOnCertificate
+    so-far = goes-on b _ certificateBroken after-picks p k p-end first
+
+    pub cells-broken : (place : ℕ) → readSection (Exactly (certificateCells j)) b p-end ≡ Broken place → Refused 11 0 ≡ verdictOnCertificate j b
+    unfolding certificateBroken
+    cells-broken place e = sym (so-far ∙ stops b _ certificateBroken (after-cells picks) place e)
+
+    module _ (c l c-end : ℕ) (second : readSection (Exactly (certificateCells j)) b p-end ≡ Part c l c-end) where
+      so-on : verdictOnCertificate j b ≡ after-cells picks (numbersIn (between b c c-end)) c-end
+      so-on = so-far ∙ goes-on b _ certificateBroken (after-cells picks) c l c-end second
+
+      -- bytes are left over
+      pub left-over : c-end < length b → Refused 11 0 ≡ verdictOnCertificate j b
+      unfolding atEnd certificateBroken if
+      left-over h = sym (so-on ∙ rw (lt-ltb c-end (length b) h))
+
+      -- all is read
+      pub all-read : length b ≤ c-end → verdictOnCells j picks (numbersIn (between b c c-end)) ≡ verdictOnCertificate j b
+      unfolding atEnd if
+      all-read h = sym (so-on ∙ rw (le-ltb c-end (length b) h))

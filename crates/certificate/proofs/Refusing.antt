@@ -1,0 +1,84 @@
+-- What refusals 2 to 5 come to for a job that a certificate may be for, and what such a job keeps.
+-- Assumes nothing.
+use mathlib.Core.Path.{_≡_, refl, sym, ap, _∙_}
+use mathlib.Core.Option.{Option, none, some}
+use Prim.Native.Nat.{ℕ, zero, suc}
+use mathlib.Core.List.{[]}
+use Rattle.meaning.specs.Lists.{if}
+use Rattle.meaning.specs.Job.{Job, Sort, once, packing, labels}
+use Rattle.meaning.specs.Lent as meaning
+use Rattle.meaning.specs.Lent.{roomFor, roomOf}
+use Rattle.meaning.specs.Refusals.{hasCopies, jobRefusal, rulesOf}
+use Rattle.meaning.specs.Certificates.{certificateCells, certifiedAs, certifiedRefusal, certifiedSort}
+use Rattle.meaning.proofs.Totals.{empty-of}
+use Rattle.meaning.proofs.Valid.{Valid}
+use Rattle.meaning.proofs.Certified.{MayCertify, may-certify, certified-once, certified-valid}
+use Rattle.requests.specs.declared.Room.{Room}
+use Rattle.requests.specs.Places.{NeededBy, roomFrom}
+use Rattle.requests.proofs.Judging.{earlier-given, none-earlier}
+
+-- ---- by kind
+
+-- kind 1 alone has certificates
+no-sort : (n : ℕ) → ¬ (n ≡ 1) → certifiedSort n ≡ none
+unfolding certifiedSort
+no-sort zero h = refl
+no-sort (suc zero) h = absurd (h refl)
+no-sort (suc (suc n)) h = refl
+
+pub once-sort : (n : ℕ) → n ≡ 1 → certifiedSort n ≡ some once
+unfolding certifiedSort
+once-sort n e = rw e
+
+module _ (j : Job) (later : ℕ) where
+  -- 2: another kind
+  pub other-kind : ¬ (j .kind-number ≡ 1) → certifiedRefusal j later ≡ 2
+  unfolding certifiedRefusal certifiedAs
+  other-kind h = ap (λ (o : Option Sort). certifiedAs o j later) (no-sort (j .kind-number) h)
+
+  -- 3 to 5: kind 1 by its rules
+  pub by-rules : j .kind-number ≡ 1 → certifiedRefusal j later ≡ jobRefusal (rulesOf (packing once)) j later
+  unfolding certifiedRefusal certifiedAs
+  by-rules e = ap (λ (o : Option Sort). certifiedAs o j later) (once-sort (j .kind-number) e)
+
+-- ---- what comes later
+
+module _ (j : Job) (later : ℕ) where
+  by-sort : (o : Option Sort) → ¬ (certifiedAs o j 0 ≡ 0) → certifiedAs o j later ≡ certifiedAs o j 0
+  unfolding certifiedAs
+  by-sort none h = refl
+  by-sort (some k) h = earlier-given (rulesOf (packing k)) j later h
+
+  -- it isn't asked where one of 2 to 5 applies
+  pub refused-before : ¬ (certifiedRefusal j 0 ≡ 0) → certifiedRefusal j later ≡ certifiedRefusal j 0
+  unfolding certifiedRefusal
+  refused-before h = by-sort (certifiedSort (j .kind-number)) h
+
+-- ---- a job that none of them refuses
+
+module _ (j : Job) (ok : certifiedRefusal j 0 ≡ 0) where
+  may : MayCertify j 0
+  may = may-certify j 0 ok
+
+  pub is-kind-1 : j .kind-number ≡ 1
+  is-kind-1 = certified-once (j .kind-number) (may .sort) (may .of-sort) .0
+
+  -- what comes later is asked
+  pub later-asked : (later : ℕ) → certifiedRefusal j later ≡ later
+  later-asked later = by-rules j later is-kind-1 ∙ none-earlier (rulesOf (packing once)) j later (sym (by-rules j 0 is-kind-1) ∙ ok)
+
+  -- it has few labels, a small budget, and as many values as labels
+  pub valid-once : Valid once j
+  valid-once = certified-valid j once (once-sort (j .kind-number) is-kind-1) ok
+
+  -- and no copies
+  pub no-copies : j .copies ≡ []
+  unfolding hasCopies if
+  no-copies = empty-of (j .copies) (valid-once .copied)
+
+-- ---- the cells of its certificate
+
+-- the room that kind 1 needs has as many
+pub cells-needed : (j : Job) (n : ℕ) (room : Room) → labels j ≡ n → NeededBy (packing once) n (j .budget) room → certificateCells j ≡ room .cells
+unfolding NeededBy roomFrom roomFor roomOf
+cells-needed j n room n-is needed = sym (ap (λ (r : meaning.Room). r .cells) (needed j n-is refl))

@@ -1,0 +1,100 @@
+-- `certificate::write_bytes` meets its contract: what the bytes are read as is written for, part by part.
+-- Assumes nothing.
+use Rattle.meaning.specs.Bytes.{between}
+use Rattle.requests.specs.Reading.{PartsRead}
+use Rattle.requests.proofs.Reading.{unread, read-in}
+use Rattle.certificate.proofs.Copying.{no-job, job-in-bytes}
+use borrow.Author.Needs.{needs}
+use Rattle.certificate.proofs.write_bytes.Statement.{statement}
+use Rattle.certificate.proofs.write_bytes.Tie as tie
+
+-- the job's parts
+parts : (c : tie.After-request) → let p = c .request .given .0 in
+    PartsRead (c .before .before .before .before .before .before .before .args .job .now) (p .0) (p .1 .0) (p .1 .1 .0) (p .1 .1 .1 .0) (p .1 .1 .1 .1 .0) (p .1 .1 .1 .1 .1 .0) (p .1 .1 .1 .1 .1 .1 .0) (p .1 .1 .1 .1 .1 .1 .1 .0)
+parts c = let p = c .request .given .0 in read-in (p .0) (p .1 .0) (p .1 .1 .0) (p .1 .1 .1 .0) (p .1 .1 .1 .1 .0) (p .1 .1 .1 .1 .1 .0) (p .1 .1 .1 .1 .1 .1 .0) (p .1 .1 .1 .1 .1 .1 .1 .0) (c .request .given .1) (c .before .before .read-job .ensures)
+
+read-job-requires : tie.Need-read-job-requires
+read-job-requires c κs = search needs
+
+enum-known-request : tie.Need-enum-known-request
+enum-known-request c = search needs
+
+enum-told : tie.Need-enum-told
+enum-told c = search needs
+
+returns : tie.Need-returns
+returns c =
+    let told = c .enum-told .given in
+    no-job _ _ _ _ (told .0 .0) (unread _ (told .0 .0) (told .1) (c .before .before .read-job .ensures))
+
+slice-aggregate-write-handed : tie.Need-slice-aggregate-write-handed
+slice-aggregate-write-handed c = search needs
+
+sub-write-handed : tie.Need-sub-write-handed
+sub-write-handed c = parts (c .before .before) .weights-within .ordered
+
+part-write-handed-start : tie.Need-part-write-handed-start
+part-write-handed-start c = parts (c .before .before) .weights-within .ordered
+
+part-write-handed-end : tie.Need-part-write-handed-end
+part-write-handed-end c = parts (c .before .before) .weights-within .inside
+
+slice-aggregate-write-handed-2 : tie.Need-slice-aggregate-write-handed-2
+slice-aggregate-write-handed-2 c = search needs
+
+sub-write-handed-2 : tie.Need-sub-write-handed-2
+sub-write-handed-2 c = parts (c .before .before .before .before) .values-within .ordered
+
+part-write-handed-start-2 : tie.Need-part-write-handed-start-2
+part-write-handed-start-2 c = parts (c .before .before .before .before) .values-within .ordered
+
+part-write-handed-end-2 : tie.Need-part-write-handed-end-2
+part-write-handed-end-2 c = parts (c .before .before .before .before) .values-within .inside
+
+slice-aggregate-write-handed-3 : tie.Need-slice-aggregate-write-handed-3
+slice-aggregate-write-handed-3 c = search needs
+
+sub-write-handed-3 : tie.Need-sub-write-handed-3
+sub-write-handed-3 c = parts (c .before .before .before .before .before .before) .copies-within .ordered
+
+part-write-handed-start-3 : tie.Need-part-write-handed-start-3
+part-write-handed-start-3 c = parts (c .before .before .before .before .before .before) .copies-within .ordered
+
+part-write-handed-end-3 : tie.Need-part-write-handed-end-3
+part-write-handed-end-3 c = parts (c .before .before .before .before .before .before) .copies-within .inside
+
+write-handed-requires : tie.Need-write-handed-requires
+write-handed-requires c κs = search needs
+
+same-length : tie.Need-same-length
+same-length c = search needs
+
+returns-2 : tie.Need-returns-2
+unfolding between
+returns-2 c =
+    let d = c .before .before in
+    job-in-bytes _ _ _ _ _ _ _ (parts (d .before .before .before .before .before .before .before .before .before) .read) (d .write-handed .ensures)
+
+pub write-bytes-spec : {M : Type 1} → statement M
+write-bytes-spec =
+    tie.close
+    (tie.spec
+    read-job-requires
+    enum-known-request
+    enum-told
+    returns
+    slice-aggregate-write-handed
+    sub-write-handed
+    part-write-handed-start
+    part-write-handed-end
+    slice-aggregate-write-handed-2
+    sub-write-handed-2
+    part-write-handed-start-2
+    part-write-handed-end-2
+    slice-aggregate-write-handed-3
+    sub-write-handed-3
+    part-write-handed-start-3
+    part-write-handed-end-3
+    write-handed-requires
+    same-length
+    returns-2)

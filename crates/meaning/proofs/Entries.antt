@@ -1,0 +1,81 @@
+-- The checker's two C entries: 0 means accepted, and the other entry's number is then the value.
+-- Assumes nothing.
+use mathlib.Core.Path.{_≡_, refl, sym, ap, _∙_}
+use mathlib.Core.Option.{Option, none, some}
+use Prim.Native.Nat.{ℕ, zero, suc}
+use native.Mathlib.Nat.{add-zero}
+use native.Mathlib.Omega.{arith}
+use mathlib.Core.Bool.{Bool, true, false}
+use mathlib.Core.List.{List}
+use lib.Dec.{ltb}
+use lib.ListN.{length}
+use Rattle.meaning.specs.declared.Verdict.{Verdict}
+use Rattle.meaning.specs.declared.Verdict.the-variants.{Accepted, Refused}
+use Rattle.meaning.specs.declared.Section.{Section}
+use Rattle.meaning.specs.declared.Section.the-variants.{Part, Broken}
+use Rattle.meaning.specs.Lists.{if}
+use Rattle.meaning.specs.Job.{Job}
+use Rattle.meaning.specs.Bytes.{JobRead, atEnd, readJob, readable, unreadable, withSection}
+use Rattle.meaning.specs.Answers.{judgedOf}
+use Rattle.meaning.specs.Certificates.{Checked, certificateBroken, certifiedRefusal, unlessFound, unlessRefused, verdictOf, verdictOnCells, verdictOnCertificate, verdictOnJob}
+use Rattle.meaning.specs.Host.{refusalNumber, valueOrPlace}
+
+-- ---- no verdict refuses with 0
+
+data Numbered : Verdict → Type 0 where
+  accepts : (v : ℕ) → Numbered (Accepted v)
+  refuses : (r place : ℕ) → Numbered (Refused (suc r) place)
+
+on-found : (o : Option ℕ) (r : ℕ) (next : Verdict) → Numbered next → Numbered (unlessFound o (suc r) next)
+unfolding unlessFound
+on-found none r next h = h
+on-found (some place) r next h = refuses r place
+
+on-test : (b : Bool) (r : ℕ) (next : Verdict) → Numbered next → Numbered (if b (Refused (suc r) 0) next)
+unfolding if
+on-test true r next h = refuses r 0
+on-test false r next h = h
+
+on-refusal : (r : ℕ) (next : Verdict) → Numbered next → Numbered (unlessRefused r next)
+unfolding unlessRefused
+on-refusal zero next h = h
+on-refusal (suc r) next h = refuses r 0
+
+on-section : (b : List ℕ) (s : Section) (readOn : List ℕ → ℕ → Verdict) → ((ns : List ℕ) (p : ℕ) → Numbered (readOn ns p)) → Numbered (withSection b s certificateBroken readOn)
+unfolding withSection certificateBroken
+on-section b (Part start count next) readOn h = h _ next
+on-section b (Broken place) readOn h = refuses 10 0
+
+on-end : (b : List ℕ) (p : ℕ) (next : Verdict) → Numbered next → Numbered (atEnd b p certificateBroken next)
+unfolding atEnd certificateBroken
+on-end b p next h = on-test (ltb p (length b)) 10 next h
+
+on-cells : (j : Job) (picks cells : List ℕ) → Numbered (verdictOnCells j picks cells)
+unfolding verdictOnCells
+on-cells j picks cells = on-found _ 11 _ (on-test _ 12 _ (on-found _ 13 _ (on-test _ 14 _ (accepts _))))
+
+on-certificate : (j : Job) (b : List ℕ) → Numbered (verdictOnCertificate j b)
+unfolding verdictOnCertificate
+on-certificate j b = on-section b _ _ (λ picks p. on-section b _ _ (λ cells q. on-end b q _ (on-cells j picks cells)))
+
+on-job : (r : JobRead) (b : List ℕ) → Numbered (verdictOnJob r b)
+unfolding verdictOnJob
+on-job (unreadable place) b = refuses 0 0
+on-job (readable j) b = on-refusal (certifiedRefusal j 0) (verdictOnCertificate j b) (on-certificate j b)
+
+-- ---- the two entries
+
+-- accepted, with the value that the second entry gives
+pub record AcceptedBy (jobB certB : List ℕ) : Type 0 where
+  pub value : ℕ
+  pub accepted : Checked jobB certB (Accepted value)
+  pub given : valueOrPlace (verdictOf jobB certB) ≡ value
+
+by-numbers : (jobB certB : List ℕ) (v : Verdict) → Numbered v → verdictOf jobB certB ≡ v → refusalNumber v ≡ 0 → AcceptedBy jobB certB
+unfolding Checked refusalNumber valueOrPlace judgedOf
+by-numbers jobB certB _ (accepts v) e h = record { value = v; accepted = ap judgedOf (sym e); given = ap valueOrPlace e ∙ add-zero v }
+by-numbers jobB certB _ (refuses r place) e h = absurd (omega arith)
+
+pub zero-is-accepted : (jobB certB : List ℕ) → refusalNumber (verdictOf jobB certB) ≡ 0 → AcceptedBy jobB certB
+unfolding verdictOf
+zero-is-accepted jobB certB h = by-numbers jobB certB (verdictOf jobB certB) (on-job (readJob jobB) certB) refl h
