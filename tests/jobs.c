@@ -1,0 +1,93 @@
+/* Jobs and certificates as bytes, and jobs that are drawn from a number. */
+#include "jobs.h"
+#include <stdio.h>
+#include <stdlib.h>
+#include <string.h>
+
+void put_at(uint8_t *bytes, uint32_t number) {
+    int k;
+    for (k = 0; k < 4; k++) bytes[k] = (uint8_t)(number >> (8 * k));
+}
+
+void put_number(struct bytes *bytes, uint32_t number) {
+    if (bytes->length + 4 > MOST_BYTES) {
+        printf("a test needs more than %d bytes\n", MOST_BYTES);
+        exit(1);
+    }
+    put_at(bytes->at + bytes->length, number);
+    bytes->length += 4;
+}
+
+void put_section(struct bytes *bytes, const uint32_t *numbers, uint32_t count) {
+    uint32_t i;
+    put_number(bytes, count);
+    for (i = 0; i < count; i++) put_number(bytes, numbers[i]);
+}
+
+void put_job(struct bytes *bytes, const struct job *job) {
+    bytes->length = 0;
+    put_section(bytes, &job->kind, 1);
+    put_section(bytes, &job->budget, 1);
+    put_section(bytes, job->weights.at, job->weights.count);
+    put_section(bytes, job->values.at, job->values.count);
+    put_section(bytes, job->copies.at, job->copies.count);
+}
+
+void put_certificate(struct bytes *bytes, const struct job *job, const uint32_t *picks, const uint32_t *cells) {
+    bytes->length = 0;
+    put_section(bytes, picks, job->weights.count);
+    put_section(bytes, cells, cells_of(job));
+}
+
+void set_list(struct list *list, uint32_t count, const uint32_t *numbers) {
+    list->count = count;
+    if (count > 0) memcpy(list->at, numbers, count * sizeof list->at[0]);
+}
+
+void set_job(struct job *job, uint32_t kind, uint32_t budget, uint32_t n, const uint32_t *weights, const uint32_t *values) {
+    job->kind = kind;
+    job->budget = budget;
+    set_list(&job->weights, n, weights);
+    set_list(&job->values, n, values);
+    job->copies.count = 0;
+}
+
+void case_a(struct job *job) {
+    static const uint32_t weights[] = {3, 4, 5}, values[] = {4, 5, 6};
+    set_job(job, 1, 7, 3, weights, values);
+}
+
+uint32_t cells_of(const struct job *job) {
+    return (job->weights.count + 1) * (job->budget + 1);
+}
+
+/* the generator is known as splitmix64 */
+uint32_t drawn(struct draw *draw, uint32_t least, uint32_t most) {
+    uint64_t z = (draw->state += 0x9e3779b97f4a7c15u);
+    z = (z ^ (z >> 30)) * 0xbf58476d1ce4e5b9u;
+    z = (z ^ (z >> 27)) * 0x94d049bb133111ebu;
+    z ^= z >> 31;
+    return least + (uint32_t)((z >> 16) % ((uint64_t)most - least + 1));
+}
+
+int chance(struct draw *draw, uint32_t in) {
+    return drawn(draw, 1, in) == 1;
+}
+
+static uint32_t draw_weight(struct draw *draw, uint32_t budget) {
+    if (chance(draw, 20)) return drawn(draw, 1, UINT32_MAX);
+    if (chance(draw, 3)) return drawn(draw, 1, budget + 3);
+    return drawn(draw, 1, budget / 3 + 1);
+}
+
+void draw_job(struct draw *draw, uint32_t most_labels, uint32_t most_budget, struct job *job) {
+    uint32_t i, n = drawn(draw, 0, most_labels), most_value = chance(draw, 4) ? 65535 : drawn(draw, 0, 5);
+    job->kind = 1;
+    job->budget = drawn(draw, 0, most_budget);
+    job->weights.count = job->values.count = n;
+    job->copies.count = 0;
+    for (i = 0; i < n; i++) {
+        job->weights.at[i] = draw_weight(draw, job->budget);
+        job->values.at[i] = drawn(draw, 0, most_value);
+    }
+}

@@ -1,0 +1,15 @@
+/* The parts of the tests. Each prints one line of what it has tried. */
+#ifndef PARTS_H
+#define PARTS_H
+
+void part_examples(int count, char **names); /* examples.c: job files, with what is printed for each in a file beside it */
+void part_solve(void);                       /* solve_cases.c: the solver's refusals, in order, and each bound */
+void part_write(void);                       /* write_cases.c: the writer's refusals, in order, and what it writes */
+void part_check(void);                       /* check_cases.c: the checker's verdicts, in order, with their places */
+void part_empty(void);                       /* empty.c: slices of length 0 */
+void part_ring(void);                        /* ring.c: solve, try every selection, write, check, check another list */
+void part_claims(void);                      /* claims.c: drawn tables of claims */
+void part_damage(void);                      /* damage.c: every byte changed, every length */
+void part_full(void);                        /* full.c: n 1,024 and C 65,535 */
+
+#endif
