@@ -53,8 +53,7 @@ fn pick(
     cells: &mut [u32],
     picks: &mut [u32],
 ) -> Outcome {
-    let mut none: [u64; 0] = [];
-    tables::fill(kind, budget, weights, values, copies, cells, &mut none);
+    tables::fill_cells(kind, budget, weights, values, copies, cells);
     let choice = selections::choose(kind, budget, weights, values, copies);
     if !choice.found {
         return refused(7);
@@ -68,11 +67,16 @@ fn pick(
     }
 }
 
-// Kinds 4 and 6: the table, and what it says of the budget.
-fn count(kind: u32, budget: u32, weights: &[u32], words: &mut [u64]) -> Outcome {
-    let none: [u32; 0] = [];
-    let mut unused: [u32; 0] = [];
-    tables::fill(kind, budget, weights, &none, &none, &mut unused, words);
+// Kinds 4 and 6: the table, and what it says of the budget. Values and copies are empty here.
+fn count(
+    kind: u32,
+    budget: u32,
+    weights: &[u32],
+    values: &[u32],
+    copies: &[u32],
+    words: &mut [u64],
+) -> Outcome {
+    tables::fill_words(kind, budget, weights, values, copies, words);
     if kind == 4 {
         let yes = tables::reached(words, budget);
         return answered(4, yes, tables::count_reached(words, budget), 0);
@@ -116,7 +120,7 @@ pub fn solve(
         return refused(refusal);
     }
     match kind {
-        4 | 6 => count(kind, budget, weights, words),
+        4 | 6 => count(kind, budget, weights, values, copies, words),
         7 => divide(budget, weights, picks),
         _ => pick(kind, budget, weights, values, copies, cells, picks),
     }

@@ -67,7 +67,7 @@ fn outside_rules(kind: u32, weights: &[u32], values: &[u32], copies: &[u32]) -> 
 }
 
 // How many cells of 32 bits the table needs.
-fn cells_needed(kind: u32, n: u64, budget: u32) -> u64 {
+pub fn cells_needed(kind: u32, n: u64, budget: u32) -> u64 {
     match kind {
         1 | 2 => times(plus(n, 1), plus(wide(budget), 1)),
         3 | 5 => plus(wide(budget), 1),
@@ -76,7 +76,7 @@ fn cells_needed(kind: u32, n: u64, budget: u32) -> u64 {
 }
 
 // How many words of 64 bits the table needs.
-fn words_needed(kind: u32, budget: u32) -> u64 {
+pub fn words_needed(kind: u32, budget: u32) -> u64 {
     match kind {
         4 => plus(wide(budget / 64), 1),
         6 => plus(wide(budget), 1),

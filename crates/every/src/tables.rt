@@ -3,6 +3,8 @@ use crate::bounded::narrow;
 use crate::bounded::plus;
 use crate::bounded::times;
 use crate::bounded::wide;
+use crate::refusals::cells_needed;
+use crate::refusals::words_needed;
 use crate::selections::Tried;
 use crate::selections::measure;
 use crate::selections::selections;
@@ -77,20 +79,8 @@ fn add_way(words: &mut [u64], amount: u64) {
     }
 }
 
-// The needed places of a kind's table, as they are before any selection.
-fn empty(kind: u32, n: usize, budget: u32, cells: &mut [u32], words: &mut [u64]) {
-    let width = plus(wide(budget), 1);
-    match kind {
-        1 | 2 => empty_cells(cells, times(plus(n as u64, 1), width), 0),
-        3 => empty_cells(cells, width, 0),
-        4 => empty_words(words, plus(wide(budget / 64), 1)),
-        5 => empty_cells(cells, width, 4_294_967_295),
-        _ => empty_words(words, width),
-    }
-}
-
-// What a selection changes in the table of its kind, if it doesn't weigh more than the budget.
-fn enter(kind: u32, n: usize, budget: u32, tried: Tried, cells: &mut [u32], words: &mut [u64]) {
+// Kinds 1, 2, 3 and 5: what a selection changes in the table, if it doesn't weigh more than the budget.
+fn enter_cells(kind: u32, n: usize, budget: u32, tried: Tried, cells: &mut [u32]) {
     let weight = tried.weight;
     if wide(budget) < weight {
         return;
@@ -98,29 +88,59 @@ fn enter(kind: u32, n: usize, budget: u32, tried: Tried, cells: &mut [u32], word
     match kind {
         1 | 2 => raise_rows(cells, n, budget, tried),
         3 => raise(cells, weight, plus(wide(budget), 1), narrow(tried.value)),
-        4 => mark(words, weight),
-        5 => lower(cells, weight, narrow(tried.blocks)),
-        _ => add_way(words, weight),
+        _ => lower(cells, weight, narrow(tried.blocks)),
     }
 }
 
-// The table of a kind, by every selection.
-pub fn fill(
+// Kinds 4 and 6: the same.
+fn enter_words(kind: u32, budget: u32, tried: Tried, words: &mut [u64]) {
+    let weight = tried.weight;
+    if wide(budget) < weight {
+        return;
+    }
+    if kind == 4 {
+        mark(words, weight);
+    } else {
+        add_way(words, weight);
+    }
+}
+
+// Kinds 1, 2, 3 and 5: the table, by every selection. Before any of them a cell is 0, in kind 5 the mark for no way.
+pub fn fill_cells(
     kind: u32,
     budget: u32,
     weights: &[u32],
     values: &[u32],
     copies: &[u32],
     cells: &mut [u32],
-    words: &mut [u64],
 ) {
     let n = weights.len();
-    empty(kind, n, budget, cells, words);
+    let none = if kind == 5 { 4_294_967_295 } else { 0 };
+    empty_cells(cells, cells_needed(kind, n as u64, budget), none);
     let all = selections(kind, budget, weights, copies);
     let mut k: u64 = 0;
     while k < all {
         let tried = measure(kind, budget, weights, values, copies, k);
-        enter(kind, n, budget, tried, cells, words);
+        enter_cells(kind, n, budget, tried, cells);
+        k += 1;
+    }
+}
+
+// Kinds 4 and 6: the table, by every selection. Before any of them a word is 0.
+pub fn fill_words(
+    kind: u32,
+    budget: u32,
+    weights: &[u32],
+    values: &[u32],
+    copies: &[u32],
+    words: &mut [u64],
+) {
+    empty_words(words, words_needed(kind, budget));
+    let all = selections(kind, budget, weights, copies);
+    let mut k: u64 = 0;
+    while k < all {
+        let tried = measure(kind, budget, weights, values, copies, k);
+        enter_words(kind, budget, tried, words);
         k += 1;
     }
 }

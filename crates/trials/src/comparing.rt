@@ -1,11 +1,21 @@
-// What the planner and `every` make of one job, compared: their answers, and every place of their slices, lent or not.
+// What the planner and `every` leave of one job, compared: their answers, and every place of their slices, lent or not.
 use every::Outcome;
 use meaning::Answer;
 
-// What the two answer.
-pub struct Both {
-    pub answer: Answer,
+// How many cells, words and picks there are, lent or not.
+pub const PLACES: usize = 96;
+
+// What the slices hold.
+pub struct Tables {
+    pub cells: [u32; PLACES],
+    pub words: [u64; PLACES],
+    pub picks: [u32; PLACES],
+}
+
+// What a job came to, and what the slices hold then.
+pub struct Left {
     pub outcome: Outcome,
+    pub tables: Tables,
 }
 
 // What of a job is the same.
@@ -16,81 +26,83 @@ pub struct Same {
     pub picks: bool,
 }
 
-// Whether an answer and an outcome say the same.
-fn agree(answer: Answer, outcome: Outcome) -> bool {
-    let answered = outcome.refusal == 0;
-    let alone = outcome.second == 0;
+// An outcome with no count of equals.
+fn outcome(kind: u32, refusal: u32, first: u64, second: u64) -> Outcome {
+    Outcome {
+        kind,
+        refusal,
+        first,
+        second,
+        equals: 0,
+    }
+}
+
+// The planner's answer as an outcome. It doesn't say which of kinds 1 to 3 it is for: 1 stands for them.
+pub fn outcome_of(answer: Answer) -> Outcome {
     match answer {
-        Answer::Refused(number) => {
-            outcome.refusal == number && outcome.first == 0 && alone && outcome.kind == 0
-        }
-        Answer::Knapsack { value, weight } => {
-            answered
-                && 1 <= outcome.kind
-                && outcome.kind <= 3
-                && outcome.first == value as u64
-                && outcome.second == weight as u64
-        }
-        Answer::Sums { yes, totals } => {
-            answered
-                && outcome.kind == 4
-                && outcome.first == yes as u64
-                && outcome.second == totals as u64
-        }
-        Answer::Blocks(blocks) => {
-            answered && outcome.kind == 5 && outcome.first == blocks as u64 && alone
-        }
-        Answer::Ways(ways) => answered && outcome.kind == 6 && outcome.first == ways && alone,
-        Answer::Shares(spare) => {
-            answered && outcome.kind == 7 && outcome.first == spare as u64 && alone
-        }
+        Answer::Refused(number) => outcome(0, number, 0, 0),
+        Answer::Knapsack { value, weight } => outcome(1, 0, value as u64, weight as u64),
+        Answer::Sums { yes, totals } => outcome(4, 0, yes as u64, totals as u64),
+        Answer::Blocks(blocks) => outcome(5, 0, blocks as u64, 0),
+        Answer::Ways(ways) => outcome(6, 0, ways, 0),
+        Answer::Shares(spare) => outcome(7, 0, spare as u64, 0),
     }
 }
 
-// Whether two slices of 32-bit places hold the same; where they don't, the second is made to.
-fn settle(a: &[u32], b: &mut [u32]) -> bool {
-    let mut same = a.len() == b.len();
+// The kind that the planner's outcome would have.
+fn kind_of(outcome: Outcome) -> u32 {
+    match outcome.kind {
+        1..=3 => 1,
+        other => other,
+    }
+}
+
+// Whether the planner's outcome and that of `every` say the same.
+fn agree(a: Outcome, b: Outcome) -> bool {
+    (a.kind == kind_of(b))
+        & (a.refusal == b.refusal)
+        & (a.first == b.first)
+        & (a.second == b.second)
+}
+
+// Whether 32-bit places hold the same.
+fn equal(a: [u32; PLACES], b: [u32; PLACES]) -> bool {
     let mut i = 0;
-    while i < a.len() && i < b.len() {
+    while i < PLACES {
         if a[i] != b[i] {
-            same = false;
+            return false;
         }
-        b[i] = a[i];
         i += 1;
     }
-    same
+    true
 }
 
-// The same of slices of 64-bit places.
-fn settle_words(a: &[u64], b: &mut [u64]) -> bool {
-    let mut same = a.len() == b.len();
+// The same of 64-bit places.
+fn equal_words(a: [u64; PLACES], b: [u64; PLACES]) -> bool {
     let mut i = 0;
-    while i < a.len() && i < b.len() {
+    while i < PLACES {
         if a[i] != b[i] {
-            same = false;
+            return false;
         }
-        b[i] = a[i];
         i += 1;
     }
-    same
+    true
 }
 
-// What of a job is the same. The slices are made the same.
-pub fn compared(
-    both: Both,
-    cells: &[u32],
-    words: &[u64],
-    picks: &[u32],
-    other_cells: &mut [u32],
-    other_words: &mut [u64],
-    other_picks: &mut [u32],
-) -> Same {
-    let answer = both.answer;
-    let outcome = both.outcome;
+// What of a job is the same: what the planner left, and what `every` did.
+pub fn compared(planner: Left, every: Left) -> Same {
+    let a = planner.tables;
+    let b = every.tables;
+    let cells = a.cells;
+    let other_cells = b.cells;
+    let words = a.words;
+    let other_words = b.words;
+    let picks = a.picks;
+    let other_picks = b.picks;
     Same {
-        answers: agree(answer, outcome),
-        cells: settle(cells, other_cells),
-        words: settle_words(words, other_words),
-        picks: settle(picks, other_picks),
+        answers: agree(planner.outcome, every.outcome),
+        cells: equal(cells, other_cells),
+        words: equal_words(words, other_words),
+        picks: equal(picks, other_picks),
     }
 }

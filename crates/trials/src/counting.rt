@@ -61,16 +61,20 @@ fn name_if(differs: bool, name: &[u8]) {
     }
 }
 
-// Says of a job what is not the same.
-fn report(job: u64, as_bytes: bool, same: Same) {
-    lines::text(b"job");
-    lines::count(job);
-    name_if(as_bytes, b" as bytes");
-    lines::text(b" differs:");
+// What of a job is not the same.
+fn report_parts(same: Same) {
     name_if(!same.answers, b" answer");
     name_if(!same.cells, b" cells");
     name_if(!same.words, b" words");
     name_if(!same.picks, b" picks");
+}
+
+// Says of a job what is not the same.
+fn report(job: u64, as_bytes: bool, same: Same) {
+    lines::named(b"job", job);
+    name_if(as_bytes, b" as bytes");
+    lines::text(b" differs:");
+    report_parts(same);
     lines::end();
 }
 
@@ -106,7 +110,7 @@ fn count_job(job: u64, as_bytes: bool, counts: &mut [u64]) {
 
 // Counts a job that differs.
 fn count_difference(job: u64, as_bytes: bool, same: Same, counts: &mut [u64]) {
-    if same.answers && same.cells && same.words && same.picks {
+    if same.answers & same.cells & same.words & same.picks {
         return;
     }
     if counted(counts, DIFFER) < REPORTED {
@@ -127,16 +131,14 @@ pub fn note(job: u64, as_bytes: bool, outcome: Outcome, same: Same, counts: &mut
 
 // A count with its name, within a line.
 fn item(name: &[u8], counts: &[u64], place: usize) {
-    lines::text(name);
-    lines::count(counted(counts, place));
+    lines::named(name, counted(counts, place));
 }
 
 // The line of a kind: how many jobs it had, how many of these were answered, and for how many answers a tie rule decided.
 fn kind_line(kind: usize, counts: &[u64])
     requires { ⌜ kind < 8 ⌝ }
 {
-    lines::text(b"kind");
-    lines::count(kind as u64);
+    lines::named(b"kind", kind as u64);
     item(b": jobs", counts, OF_KIND + kind);
     item(b", answered as lists", counts, BY_LISTS + kind);
     item(b", as bytes", counts, BY_BYTES + kind);
@@ -158,8 +160,7 @@ fn refusals_line(counts: &[u64]) {
     lines::text(b"refused");
     let mut number = 1;
     while number < 10 {
-        lines::text(b",");
-        lines::count(number as u64);
+        lines::named(b",", number as u64);
         item(b":", counts, REFUSED + number);
         number += 1;
     }

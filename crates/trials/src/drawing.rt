@@ -1,19 +1,9 @@
 // Small jobs that are drawn: each number of a job is a function of the job's number and of its own place, so that the print is always the
 // same. Most jobs are valid; ties and zeros are common; and now and then a number, a length or the room that is lent is not as it should be.
+use crate::jobs::Job;
+use crate::lending::fitting;
 use crate::lending::lesser;
 ghost use Prim.Native.Nat.{_<_};
-
-// What is drawn of a job beside its three lists: how long those are, and how many places of each slice are lent.
-pub struct Shape {
-    pub kind: u32,
-    pub budget: u32,
-    pub labels: usize,
-    pub values: usize,
-    pub copies: usize,
-    pub cells: usize,
-    pub words: usize,
-    pub picks: usize,
-}
 
 // ---- drawing one number
 
@@ -77,7 +67,7 @@ fn weight(job: u64, place: u64, kind: u32, before: u32) -> u32 {
 }
 
 // The weights of a job.
-pub fn weights(job: u64, kind: u32, list: &mut [u32]) {
+fn weights(job: u64, kind: u32, list: &mut [u32]) {
     let mut place: u64 = 64;
     let mut before: u32 = 0;
     let mut i = 0;
@@ -116,7 +106,7 @@ fn numbers(job: u64, first: u64, least: u32, list: &mut [u32])
 }
 
 // The values of a job. In one of three they are its weights, so that many selections are worth the same.
-pub fn values(job: u64, kind: u32, list: &mut [u32]) {
+fn values(job: u64, kind: u32, list: &mut [u32]) {
     if drawn(job, 15, 3) == 0 {
         weights(job, kind, list);
     } else if kind == 3 {
@@ -127,7 +117,7 @@ pub fn values(job: u64, kind: u32, list: &mut [u32]) {
 }
 
 // The copies of a job.
-pub fn copies(job: u64, list: &mut [u32]) {
+fn copies(job: u64, list: &mut [u32]) {
     numbers(job, 192, 0, list);
 }
 
@@ -214,23 +204,36 @@ fn picks_needed(kind: u32, labels: usize) -> usize {
     }
 }
 
-// The shape of a job.
-pub fn shape_of(job: u64) -> Shape {
+// What is drawn of a job beside its numbers.
+fn shape_of(job: u64) -> Job {
     let kind = kind_of(job);
     let labels = drawn(job, 10, 6) as usize;
     let budget = budget_of(job, kind, labels);
     let valued = if 1 <= kind && kind <= 3 { labels } else { 0 };
     let copied = if kind == 2 { labels } else { 0 };
-    Shape {
+    let values = std::num::wrapping_add_usize(labels, list_length(job, 5, valued));
+    Job {
         kind,
         budget,
-        labels,
-        values: list_length(job, 5, valued),
-        copies: list_length(job, 6, copied),
+        weights: labels,
+        values,
+        copies: std::num::wrapping_add_usize(values, list_length(job, 6, copied)),
         cells: lent(job, 7, cells_needed(kind, labels, budget)),
         words: lent(job, 8, words_needed(kind, budget)),
         picks: lent(job, 9, picks_needed(kind, labels)),
     }
+}
+
+// Draws a job: its numbers into a slice that has room for them.
+pub fn draw(job: u64, numbers: &mut [u32]) -> Job {
+    let shape = shape_of(job);
+    let c = fitting(numbers, shape.copies);
+    let v = lesser(shape.values, c);
+    let n = lesser(shape.weights, v);
+    weights(job, shape.kind, &mut numbers[..n]);
+    values(job, shape.kind, &mut numbers[n..v]);
+    copies(job, &mut numbers[v..c]);
+    shape
 }
 
 // ---- damage to job bytes

@@ -1,4 +1,6 @@
 // A job as bytes, written in a plain way. What has no room is left out.
+use crate::jobs::Job;
+use crate::jobs::part;
 
 // A number at a place, lowest byte first. Answers the place after it.
 fn put(bytes: &mut [u8], place: usize, x: u32) -> usize {
@@ -27,18 +29,17 @@ fn put_list(bytes: &mut [u8], place: usize, list: &[u32]) -> usize {
     next
 }
 
+// A section of one number. Answers the place after it.
+fn put_one(bytes: &mut [u8], place: usize, x: u32) -> usize {
+    let next = put(bytes, place, 1);
+    put(bytes, next, x)
+}
+
 // The five sections of a job from place 0 on. Answers how many bytes they are.
-pub fn write(
-    bytes: &mut [u8],
-    kind: u32,
-    budget: u32,
-    weights: &[u32],
-    values: &[u32],
-    copies: &[u32],
-) -> usize {
-    let after_kind = put_list(bytes, 0, &[kind]);
-    let after_budget = put_list(bytes, after_kind, &[budget]);
-    let after_weights = put_list(bytes, after_budget, weights);
-    let after_values = put_list(bytes, after_weights, values);
-    put_list(bytes, after_values, copies)
+pub fn write(bytes: &mut [u8], job: Job, numbers: &[u32]) -> usize {
+    let after_kind = put_one(bytes, 0, job.kind);
+    let after_budget = put_one(bytes, after_kind, job.budget);
+    let after_weights = put_list(bytes, after_budget, part(numbers, 0, job.weights));
+    let after_values = put_list(bytes, after_weights, part(numbers, job.weights, job.values));
+    put_list(bytes, after_values, part(numbers, job.values, job.copies))
 }

@@ -18,36 +18,36 @@ pub fn end() {
     text(b"\n");
 }
 
+// A number after its name.
+pub fn named(name: &[u8], x: u64) {
+    text(name);
+    count(x);
+}
+
+// Two numbers, each after its name.
+fn both_named(name: &[u8], x: u64, second: &[u8], y: u64) {
+    named(name, x);
+    named(second, y);
+}
+
+// The number of an answer that has one alone.
+fn number(answer: Answer) {
+    match answer {
+        Answer::Refused(number) => named(b" refused", number as u64),
+        Answer::Blocks(blocks) => named(b" blocks", blocks as u64),
+        Answer::Ways(ways) => named(b" ways", ways),
+        Answer::Shares(spare) => named(b" spare", spare as u64),
+        _ => {}
+    }
+}
+
 // The numbers of an answer in one line.
 pub fn numbers(answer: Answer) {
     match answer {
-        Answer::Refused(number) => {
-            text(b" refused");
-            count(number as u64);
-        }
         Answer::Knapsack { value, weight } => {
-            text(b" value");
-            count(value as u64);
-            text(b" weight");
-            count(weight as u64);
+            both_named(b" value", value as u64, b" weight", weight as u64)
         }
-        Answer::Sums { yes, totals } => {
-            text(b" yes");
-            count(yes as u64);
-            text(b" totals");
-            count(totals as u64);
-        }
-        Answer::Blocks(blocks) => {
-            text(b" blocks");
-            count(blocks as u64);
-        }
-        Answer::Ways(ways) => {
-            text(b" ways");
-            count(ways);
-        }
-        Answer::Shares(spare) => {
-            text(b" spare");
-            count(spare as u64);
-        }
+        Answer::Sums { yes, totals } => both_named(b" yes", yes as u64, b" totals", totals as u64),
+        other => number(other),
     }
 }

@@ -1,18 +1,19 @@
-// The trials: the cases of document 01, a job at each bound and one past it, and many small jobs that are drawn, each answered by the planner
-// and by `every`, which tries every selection. The gate holds the print to the file stdout.
-mod bounds;
-mod cases;
+// The trials: those that standard input lists, which are the cases of document 01 and a job at each bound and one past it, and many small jobs
+// that are drawn, each answered by the planner and by `every`, which tries every selection. The gate holds the print to the file stdout.
 mod comparing;
 mod counting;
 mod drawing;
 mod generated;
 mod job_bytes;
+mod jobs;
 mod lending;
 mod lines;
+mod listed;
+mod reading;
+mod solving;
 
 // Runs all trials.
 fn main() {
-    cases::run();
-    bounds::run();
+    listed::run();
     generated::run();
 }

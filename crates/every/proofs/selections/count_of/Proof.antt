@@ -4,8 +4,8 @@ use Prim.Native.Nat.{_-_, _≤_}
 use mathlib.Core.Path.{refl, _≡_}
 use native.Mathlib.Omega.{arith}
 use borrow.Author.Needs.{needs}
-use Rattle.every.proofs.Selecting.{rest-step}
-use Rattle.every.specs.Selections.{choicesOf, restOf, countOf}
+use Rattle.every.proofs.Selecting.{rest-again, count-last}
+use Rattle.every.specs.Selections.{choicesOf, restOf}
 use Rattle.every.proofs.selections.count_of.Statement.{statement}
 use Rattle.every.proofs.selections.count_of.Tie as tie
 
@@ -32,7 +32,10 @@ loop-less : tie.Need-loop-less Inv-loop μ-loop
 loop-less c = search needs
 
 loop-again : tie.Need-loop-again Inv-loop μ-loop
-loop-again c = let s = c .before .before .before .before .before .args in (omega arith, cc (rest-step (choicesOf (s .kind) (s .budget) (s .weights .now) (s .copies .now)) (s .number) (c .before .before .loop .j)))
+loop-again c =
+    let s = c .before .before .before .before .before .args in
+    let l = c .before .before .loop in
+    (omega arith, rest-again (choicesOf (s .kind) (s .budget) (s .weights .now) (s .copies .now)) (s .number) (l .j) (l .rest) (c .choices .result) (l .inv .1) (c .choices .ensures .0))
 
 choices-requires-2 : tie.Need-choices-requires-2 Inv-loop μ-loop
 choices-requires-2 c κs = search needs
@@ -41,8 +44,10 @@ rem-result : tie.Need-rem-result Inv-loop μ-loop
 rem-result c = c .choices2 .ensures .1
 
 returns : tie.Need-returns Inv-loop μ-loop
-unfolding countOf
-returns c = let s = c .before .before .before .before .before .args in let e : c .before .before .loop .j ≡ s .i = omega arith in cc
+returns c =
+    let s = c .before .before .before .before .before .args in
+    let l = c .before .before .loop in
+    count-last (choicesOf (s .kind) (s .budget) (s .weights .now) (s .copies .now)) (s .number) (s .i) (l .j) (l .rest) (c .choices2 .result) (l .inv .1) (omega arith) (c .choices2 .ensures .0)
 
 pub count-of-spec : {M : Type 1} → statement M
 count-of-spec =

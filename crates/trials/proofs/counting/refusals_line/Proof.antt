@@ -20,14 +20,11 @@ text-requires c κs = search needs
 loop-holds : tie.Need-loop-holds Inv-loop μ-loop
 loop-holds c = search needs
 
-slice-aggregate-text-2 : tie.Need-slice-aggregate-text-2 Inv-loop μ-loop
-slice-aggregate-text-2 c = search needs
+slice-aggregate-named : tie.Need-slice-aggregate-named Inv-loop μ-loop
+slice-aggregate-named c = search needs
 
-text-requires-2 : tie.Need-text-requires-2 Inv-loop μ-loop
-text-requires-2 c κs = search needs
-
-count-requires : tie.Need-count-requires Inv-loop μ-loop
-count-requires c κs = search needs
+named-requires : tie.Need-named-requires Inv-loop μ-loop
+named-requires c κs = search needs
 
 slice-aggregate-item : tie.Need-slice-aggregate-item Inv-loop μ-loop
 slice-aggregate-item c = search needs
@@ -71,9 +68,8 @@ refusals-line-spec =
     slice-aggregate-text
     text-requires
     loop-holds
-    slice-aggregate-text-2
-    text-requires-2
-    count-requires
+    slice-aggregate-named
+    named-requires
     slice-aggregate-item
     add-item
     item-requires

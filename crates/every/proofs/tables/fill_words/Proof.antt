@@ -1,20 +1,23 @@
--- `every::tables::fill` is safe and ends: the loop counts up to the number of selections.
+-- `every::tables::fill_words` is safe and ends: the loop counts up to the number of selections.
 -- Assumes nothing.
 use Prim.Native.Nat.{_-_, _≤_}
 use mathlib.Core.Path.{_≡_}
 use borrow.Author.Needs.{needs}
 use lib.ListN.{length}
-use Rattle.every.proofs.tables.fill.Statement.{statement}
-use Rattle.every.proofs.tables.fill.Tie as tie
+use Rattle.every.proofs.tables.fill_words.Statement.{statement}
+use Rattle.every.proofs.tables.fill_words.Tie as tie
 
 abbrev Inv-loop : tie.InvT-loop
-Inv-loop kind budget weights values copies cells₀ words₀ n all k₀ cells words k = (k ≤ all) × (length cells ≡ length cells₀) × (length words ≡ length words₀)
+Inv-loop kind budget weights values copies words₀ all k₀ words k = (k ≤ all) × (length words ≡ length words₀)
 
 abbrev μ-loop : tie.MeasureT-loop
-μ-loop kind budget weights values copies cells₀ words₀ n all k₀ cells words k = all - k
+μ-loop kind budget weights values copies words₀ all k₀ words k = all - k
 
-empty-requires : tie.Need-empty-requires Inv-loop μ-loop
-empty-requires c κs = search needs
+words-needed-requires : tie.Need-words-needed-requires Inv-loop μ-loop
+words-needed-requires c κs = search needs
+
+empty-words-requires : tie.Need-empty-words-requires Inv-loop μ-loop
+empty-words-requires c κs = search needs
 
 selections-requires : tie.Need-selections-requires Inv-loop μ-loop
 selections-requires c κs = search needs
@@ -25,8 +28,8 @@ loop-holds c = search needs
 measure-requires : tie.Need-measure-requires Inv-loop μ-loop
 measure-requires c κs = search needs
 
-enter-requires : tie.Need-enter-requires Inv-loop μ-loop
-enter-requires c κs = search needs
+enter-words-requires : tie.Need-enter-words-requires Inv-loop μ-loop
+enter-words-requires c κs = search needs
 
 add-k : tie.Need-add-k Inv-loop μ-loop
 add-k c = search needs
@@ -40,26 +43,23 @@ loop-again c = search needs
 same-length : tie.Need-same-length Inv-loop μ-loop
 same-length c = search needs
 
-same-length-2 : tie.Need-same-length-2 Inv-loop μ-loop
-same-length-2 c = search needs
-
 returns : tie.Need-returns Inv-loop μ-loop
 returns c = search needs
 
-pub fill-spec : {M : Type 1} → statement M
-fill-spec =
+pub fill-words-spec : {M : Type 1} → statement M
+fill-words-spec =
     tie.close
     (tie.spec
     Inv-loop
     μ-loop
-    empty-requires
+    words-needed-requires
+    empty-words-requires
     selections-requires
     loop-holds
     measure-requires
-    enter-requires
+    enter-words-requires
     add-k
     loop-less
     loop-again
     same-length
-    same-length-2
     returns)
