@@ -2,7 +2,6 @@
 -- Assumes nothing.
 use mathlib.Core.Path.{_≡_, sym, _∙_}
 use Prim.Native.Nat.{ℕ, _≤_, _<_}
-use native.Mathlib.Omega.{arith}
 use mathlib.Core.List.{List}
 use lib.ListN.{length}
 use borrow.Author.Tests.{lt-ltb, le-ltb}
@@ -16,19 +15,19 @@ use Rattle.meaning.specs.Bytes.{atEnd, between, numbersIn, readSection, withSec
 use Rattle.meaning.specs.Certificates.{certificateBroken, certificateCells, verdictOnCells, verdictOnCertificate}
 use Rattle.meaning.proofs.Numbers.{SectionFound, goes-on, section-found, section-numbers, stops}
 use Rattle.meaning.proofs.Verdicts.{needed-count}
+use Rattle.requests.specs.Reading.{Within}
+use Rattle.requests.proofs.Reading.{within}
 
 -- a section of a needed count: it is within the bytes, and has that many numbers
 pub record Held (b : List ℕ) (start next count : ℕ) : Type 0 where
-  pub ordered : start ≤ next
-  pub inside : next ≤ length b
+  pub part : Within b start next
   pub long : length (numbersIn (between b start next)) ≡ count
 
 pub held : (needed : ℕ) (b : List ℕ) (p start count next : ℕ) → readSection (Exactly needed) b p ≡ Part start count next → Held b start next needed
 held needed b p start count next e =
     let f : SectionFound (Exactly needed) b p start count next = section-found (Exactly needed) b p start count next e in
     record {
-      ordered = omega (arith, f .ends);
-      inside = f .inside;
+      part = within (Exactly needed) b p start count next e;
       long = section-numbers b start count next (f .ends) (f .inside) ∙ needed-count needed count (f .right);
     }
 

@@ -25,6 +25,9 @@ ghost use Rattle.certificate.specs.Copying.{CopiedFor};
 // The most picks that a label may have in a kind that has certificates: in kind 1, one.
 const MOST_PICKS: u32 = 1;
 
+// Where a list comes as numbers and as a part of the job bytes (`handed`), ws and wb are the weights, vs and vb the values, cs and cb the
+// copies.
+
 // The lowest of 2 to 5 that applies to a job, and 0 for none. Kind 1 alone has certificates.
 fn job_refusal(
     kind: u32,
@@ -315,8 +318,7 @@ fn copy_out(picks: &[u32], n: usize, cells: &[u32], count: usize, out: &mut [u8]
     Written::Bytes(needed as u64)
 }
 
-// Writes the certificate of picks and cells for a job whose lists come as numbers and as parts of the job bytes (`handed`): ws and wb are
-// the weights, vs and vb the values, cs and cb the copies.
+// Writes the certificate of picks and cells for a job, however its lists come.
 fn write_handed(
     kind: u32,
     budget: u32,

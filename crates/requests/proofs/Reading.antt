@@ -28,7 +28,7 @@ unfolding ReadAs brokenOf
 read-broken b found place r e f g = rw (g, e) f
 
 -- the part of a section
-within : (needed : Needed) (b : List ℕ) (p start count next : ℕ) → readSection needed b p ≡ Finds.Part start count next → Within b start next
+pub within : (needed : Needed) (b : List ℕ) (p start count next : ℕ) → readSection needed b p ≡ Finds.Part start count next → Within b start next
 within needed b p start count next e = let f = section-found needed b p start count next e in record { ordered = omega (arith, f .ends); inside = f .inside }
 
 -- a section of one number has it at its start

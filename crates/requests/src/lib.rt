@@ -1,5 +1,5 @@
 // What is asked of a request before it is answered: job bytes are read (refusal 1), a job is held to the rules of its kind (3 to 5) and
-// needs room (6), and claims need a sum (9). Which kind it is, and so refusal 2, is the planner's to say.
+// needs room (6), and claims need a sum (9). Which kinds there are, and so refusal 2, is for the planner, the checker and the writer to say.
 use meaning::Needed;
 use meaning::Section;
 ghost use mathlib.Core.Path.{_≡_};

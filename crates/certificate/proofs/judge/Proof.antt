@@ -104,22 +104,22 @@ returns-3 : tie.Need-returns-3
 returns-3 c = c .refused-at3 .ensures ∙ left-over _ _ _ _ _ (picks-read (c .before .before .before .before .before .before .before)) _ _ _ (cells-read (c .before .before)) (c .before .if1 .taken)
 
 sub-judge-cells : tie.Need-sub-judge-cells
-sub-judge-cells c = picks-held (c .before .before .before .before .before .before) .ordered
+sub-judge-cells c = picks-held (c .before .before .before .before .before .before) .part .ordered
 
 part-judge-cells-start : tie.Need-part-judge-cells-start
-part-judge-cells-start c = picks-held (c .before .before .before .before .before .before) .ordered
+part-judge-cells-start c = picks-held (c .before .before .before .before .before .before) .part .ordered
 
 part-judge-cells-end : tie.Need-part-judge-cells-end
-part-judge-cells-end c = picks-held (c .before .before .before .before .before .before) .inside
+part-judge-cells-end c = picks-held (c .before .before .before .before .before .before) .part .inside
 
 sub-judge-cells-2 : tie.Need-sub-judge-cells-2
-sub-judge-cells-2 c = cells-held (c .before .before) .ordered
+sub-judge-cells-2 c = cells-held (c .before .before) .part .ordered
 
 part-judge-cells-start-2 : tie.Need-part-judge-cells-start-2
-part-judge-cells-start-2 c = cells-held (c .before .before) .ordered
+part-judge-cells-start-2 c = cells-held (c .before .before) .part .ordered
 
 part-judge-cells-end-2 : tie.Need-part-judge-cells-end-2
-part-judge-cells-end-2 c = cells-held (c .before .before) .inside
+part-judge-cells-end-2 c = cells-held (c .before .before) .part .inside
 
 judge-cells-requires : tie.Need-judge-cells-requires
 unfolding between
