@@ -23,7 +23,7 @@ use Rattle.meaning.proofs.Making.{few-blocks}
 use Rattle.meaning.proofs.Laws.{numberOf, kind-number}
 use Rattle.meaning.proofs.Doors.{Kept, not-needed, as-long, still-unrefused, holds-front, solved-in-cells, solved-in-words}
 use Rattle.blocks.specs.Sizes.{Bounded, FewestGrown, WaysGrown, WayDown}
-use Rattle.blocks.specs.Doors.{Accepted, blocks-asked, ways-asked}
+use Rattle.blocks.specs.Doors.{LetIn, blocks-asked, ways-asked}
 use Rattle.blocks.proofs.Growing.{grown-fewest, grown-ways}
 use Rattle.blocks.proofs.Laying.{fewest-row, down-laid}
 
@@ -114,7 +114,7 @@ module _ (j : Job) (words row : List ℕ) (ok : Unrefused block-ways j (lentOf [
 -- ---- the choice between the two
 
 -- a job of kind 5 asks for blocks
-pub asks-blocks : (budget kind : ℕ) (ws cells words picks : List ℕ) → kind ≡ 5 → Accepted (jobOf kind (budget ∷ []) ws [] []) (lentOf cells words picks)
+pub asks-blocks : (budget kind : ℕ) (ws cells words picks : List ℕ) → kind ≡ 5 → LetIn (jobOf kind (budget ∷ []) ws [] []) (lentOf cells words picks)
     → Unrefused fewest-blocks (jobOf 5 (budget ∷ []) ws [] []) (lentOf cells [] picks)
 unfolding jobOf numberOf roomFor roomOf lentOf
 asks-blocks budget kind ws cells words picks e (blocks-asked ok) =
@@ -123,7 +123,7 @@ asks-blocks budget kind ws cells words picks e (blocks-asked ok) =
 asks-blocks budget kind ws cells words picks e (ways-asked ok) = absurd (omega (arith, kind-number kind block-ways (ok .of-kind)))
 
 -- and another for ways
-pub asks-ways : (budget kind : ℕ) (ws cells words picks : List ℕ) → ¬ (kind ≡ 5) → Accepted (jobOf kind (budget ∷ []) ws [] []) (lentOf cells words picks)
+pub asks-ways : (budget kind : ℕ) (ws cells words picks : List ℕ) → ¬ (kind ≡ 5) → LetIn (jobOf kind (budget ∷ []) ws [] []) (lentOf cells words picks)
     → (kind ≡ 6) × Unrefused block-ways (jobOf 6 (budget ∷ []) ws [] []) (lentOf [] words [])
 unfolding jobOf numberOf roomFor roomOf lentOf
 asks-ways budget kind ws cells words picks other (blocks-asked ok) = absurd (other (kind-number kind fewest-blocks (ok .of-kind)))

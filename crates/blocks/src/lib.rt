@@ -13,7 +13,7 @@ ghost use Rattle.meaning.specs.Doors.{SolvedInCells, SolvedInWords};
 ghost use Rattle.numbers.specs.Handed.{handed, weightsHanded};
 ghost use Rattle.rows.specs.Rows.{Swept};
 ghost use Rattle.blocks.specs.Sizes.{Bounded, fewerOf, waysOf, FewestGrown, WaysGrown, leavesFewer, WayDown};
-ghost use Rattle.blocks.specs.Doors.{Accepted};
+ghost use Rattle.blocks.specs.Doors.{LetIn};
 
 // ---- kind 5: the fewest blocks
 
@@ -37,7 +37,7 @@ fn lay_stretch(row: &mut [u32], from: usize, to: usize, w: usize)
 }
 
 // Where a stretch of cells that starts at amount a ends. A stretch of one size runs in vectors; for light sizes that isn't worth its start.
-fn stretch_end(width: usize, a: usize, w: usize) -> usize
+fn lay_end(width: usize, a: usize, w: usize) -> usize
     requires { ⌜ (a < width) × (1 ≤ w) ⌝ }
     ensures { λ r. ⌜ (a < r) × (r ≤ width) ⌝ }
 {
@@ -55,7 +55,7 @@ fn lay(row: &mut [u32], w: u32)
     let w = w as usize;
     let mut a = w;
     while a < row.len() {
-        let end = stretch_end(row.len(), a, w);
+        let end = lay_end(row.len(), a, w);
         lay_stretch(row, a, end, w);
         a = end;
     }
@@ -135,7 +135,7 @@ fn fewest(
 // ---- kind 6: the ways
 
 // The ways for an amount, by those without a size and those for the rest, as far as they can be counted. No sum passes 64 bits.
-fn both(without: u64, rest: u64) -> u64
+fn ways_of(without: u64, rest: u64) -> u64
     ensures { λ r. ⌜ r ≡ waysOf without rest ⌝ }
 {
     if 18_446_744_073_709_551_615 - rest < without {
@@ -153,7 +153,7 @@ fn count(words: &mut [u64], w: u32)
     let w = w as usize;
     let mut a = w;
     while a < words.len() {
-        words[a] = both(words[a], words[a - w]);
+        words[a] = ways_of(words[a], words[a - w]);
         a += 1;
     }
 }
@@ -197,7 +197,7 @@ pub fn solve(
     words: &mut [u64],
     picks: &mut [u32],
 ) -> Answer
-    requires { ⌜ Accepted (weightsHanded kind budget (now weights) (now wbytes)) (lentOf (now cells) (now words) (now picks)) ⌝ }
+    requires { ⌜ LetIn (weightsHanded kind budget (now weights) (now wbytes)) (lentOf (now cells) (now words) (now picks)) ⌝ }
     ensures { λ r. ⌜ Solved (weightsHanded kind budget (now (weights .entry)) (now (wbytes .entry))) (lentOf (now (cells .entry)) (now (words .entry)) (now (picks .entry))) r (lentOf (now (cells .exit)) (now (words .exit)) (now (picks .exit))) ⌝ }
 {
     if kind == 5 {

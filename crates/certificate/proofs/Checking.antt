@@ -12,8 +12,8 @@ use Rattle.meaning.specs.Answers.{judgedOf}
 use Rattle.meaning.specs.Certificates.{Checked, certifiedRefusal, unlessRefused, verdictOf, verdictOnCertificate, verdictOnJob}
 use Rattle.meaning.proofs.Verdicts.{readable-on}
 use Rattle.numbers.specs.Handed.{handed, jobHanded}
-use Rattle.certificate.specs.Asked.{onceJob}
-use Rattle.certificate.proofs.Refusing.{is-kind-1, no-copies}
+use Rattle.claims.specs.Asked.{onceJob}
+use Rattle.claims.proofs.Once.{is-kind-1, no-copies}
 
 module _ (jobB certB : List ℕ) (v : Verdict) where
   -- the verdict is the one on what the job bytes are read as

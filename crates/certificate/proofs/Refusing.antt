@@ -1,21 +1,17 @@
--- What refusals 2 to 5 come to for a job that a certificate may be for, and what such a job keeps.
+-- What refusals 2 to 5 come to for a job that a certificate may be for, and the cells that such a job needs.
 -- Assumes nothing.
 use mathlib.Core.Path.{_≡_, refl, sym, ap, _∙_}
 use mathlib.Core.Option.{Option, none, some}
 use Prim.Native.Nat.{ℕ, zero, suc}
-use mathlib.Core.List.{[]}
-use Rattle.meaning.specs.Lists.{if}
 use Rattle.meaning.specs.Job.{Job, Sort, once, packing, labels}
 use Rattle.meaning.specs.Lent as meaning
 use Rattle.meaning.specs.Lent.{roomFor, roomOf}
-use Rattle.meaning.specs.Refusals.{hasCopies, jobRefusal, rulesOf}
+use Rattle.meaning.specs.Refusals.{jobRefusal, rulesOf}
 use Rattle.meaning.specs.Certificates.{certificateCells, certifiedAs, certifiedRefusal, certifiedSort}
-use Rattle.meaning.proofs.Totals.{empty-of}
-use Rattle.meaning.proofs.Valid.{Valid}
-use Rattle.meaning.proofs.Certified.{MayCertify, may-certify, certified-once, certified-valid}
-use Rattle.requests.specs.declared.Room.{Room}
-use Rattle.requests.specs.Places.{NeededBy, roomFrom}
+use Rattle.rules.specs.declared.Room.{Room}
+use Rattle.rules.specs.Places.{NeededBy, roomFrom}
 use Rattle.requests.proofs.Judging.{earlier-given, none-earlier}
+use Rattle.claims.proofs.Once.{once-sort, is-kind-1}
 
 -- ---- by kind
 
@@ -25,10 +21,6 @@ unfolding certifiedSort
 no-sort zero h = refl
 no-sort (suc zero) h = absurd (h refl)
 no-sort (suc (suc n)) h = refl
-
-pub once-sort : (n : ℕ) → n ≡ 1 → certifiedSort n ≡ some once
-unfolding certifiedSort
-once-sort n e = rw e
 
 module _ (j : Job) (later : ℕ) where
   -- 2: another kind
@@ -54,29 +46,13 @@ module _ (j : Job) (later : ℕ) where
   unfolding certifiedRefusal
   refused-before h = by-sort (certifiedSort (j .kind-number)) h
 
--- ---- a job that none of them refuses
+-- it is where none does
+pub later-asked : (j : Job) → certifiedRefusal j 0 ≡ 0 → (later : ℕ) → certifiedRefusal j later ≡ later
+later-asked j ok later =
+    let one = is-kind-1 j ok in
+    by-rules j later one ∙ none-earlier (rulesOf (packing once)) j later (sym (by-rules j 0 one) ∙ ok)
 
-module _ (j : Job) (ok : certifiedRefusal j 0 ≡ 0) where
-  may : MayCertify j 0
-  may = may-certify j 0 ok
-
-  pub is-kind-1 : j .kind-number ≡ 1
-  is-kind-1 = certified-once (j .kind-number) (may .sort) (may .of-sort) .0
-
-  -- what comes later is asked
-  pub later-asked : (later : ℕ) → certifiedRefusal j later ≡ later
-  later-asked later = by-rules j later is-kind-1 ∙ none-earlier (rulesOf (packing once)) j later (sym (by-rules j 0 is-kind-1) ∙ ok)
-
-  -- it has few labels, a small budget, and as many values as labels
-  pub valid-once : Valid once j
-  valid-once = certified-valid j once (once-sort (j .kind-number) is-kind-1) ok
-
-  -- and no copies
-  pub no-copies : j .copies ≡ []
-  unfolding hasCopies if
-  no-copies = empty-of (j .copies) (valid-once .copied)
-
--- ---- the cells of its certificate
+-- ---- the cells of a certificate
 
 -- the room that kind 1 needs has as many
 pub cells-needed : (j : Job) (n : ℕ) (room : Room) → labels j ≡ n → NeededBy (packing once) n (j .budget) room → certificateCells j ≡ room .cells

@@ -1,5 +1,2 @@
--- The definitions that the contracts of this crate cite beside those of `meaning`.
-pub mod Searching
-pub mod Asked
-pub mod Rows
+-- The definitions that the contracts of this crate cite beside those of `meaning` and `claims`.
 pub mod Copying

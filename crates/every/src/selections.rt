@@ -8,9 +8,9 @@ use crate::bounded::quotient;
 use crate::bounded::times;
 use crate::bounded::wide;
 ghost use mathlib.Core.Path.{_≡_};
-ghost use Prim.Native.Nat.{_+_, _/_, _%_, _<_, min};
+ghost use Prim.Native.Nat.{_/_, _%_, _<_, min};
 ghost use lib.ListN.{length};
-ghost use Rattle.every.specs.Selections.{choicesOf, countOf, restOf, selectionsOf};
+ghost use Rattle.every.specs.Selections.{choicesOf, countOf, selectionsOf};
 
 // What a selection comes to: its weight, its value, how many labels it has, each as often as it is picked, and the number of the last
 // label that it uses, plus one.

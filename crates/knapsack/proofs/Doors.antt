@@ -1,4 +1,4 @@
--- From an accepted job to what the functions ask, and from what they leave to what `meaning` promises.
+-- From a job that is let in to what the functions ask, and from what they leave to what `meaning` promises.
 -- Assumes nothing.
 use mathlib.Core.Path.{_≡_, refl, sym, _∙_, subst}
 use Prim.Native.Nat.{ℕ, _+_, _-_, _*_, _≤_, _<_}
@@ -17,16 +17,16 @@ use Rattle.meaning.specs.Solved.{Gives, TableHolds, Unrefused}
 use Rattle.meaning.specs.Doors.{SolvedInCells}
 use Rattle.meaning.proofs.Valid.{Valid, is-cleared, is-valid, weight-rule, value-rule}
 use Rattle.meaning.proofs.Laws.{numberOf, kind-number}
-use Rattle.meaning.proofs.Doors.{kept, as-long, still-unrefused, holds-front, solved-in-cells}
+use Rattle.meaning.proofs.Doors.{kept, holds-front, solved-in-cells}
 use Rattle.meaning.proofs.Totals.{total-none, empty-of}
 use Rattle.meaning.proofs.Trace.{picks-none, picks-worth}
 use Rattle.knapsack.specs.Tables.{Bounded, limitOf, rowOf, Filled, Climbed}
 use Rattle.knapsack.specs.Ways.{WayBack, WayAlong}
-use Rattle.knapsack.specs.Doors.{Accepted}
+use Rattle.knapsack.specs.Doors.{LetIn}
 use Rattle.knapsack.proofs.FullRows.{row-best, back-picks, back-weight}
 use Rattle.knapsack.proofs.FreeRow.{climbed-best, along-picks, along-weight}
 
--- ---- what an accepted job keeps
+-- ---- what a job keeps that is let in
 
 -- a knapsack that keeps the rules, with room in cells and picks
 pub record Ready (k : Sort) (j : Job) (cells picks : List ℕ) : Type 0 where
@@ -171,7 +171,7 @@ module _ (j : Job) (cells picks row found : List ℕ) (left : ℕ) (a : Unrefuse
 -- ---- the choice among the three
 
 -- kind 3 has no copies, and is the knapsack of any number
-any-free : (j : Job) (cells picks : List ℕ) → j .kind-number ≡ 3 → Accepted j cells picks → Unrefused (packing free) j (lentOf cells [] picks) × (j .copies ≡ [])
+any-free : (j : Job) (cells picks : List ℕ) → j .kind-number ≡ 3 → LetIn j cells picks → Unrefused (packing free) j (lentOf cells [] picks) × (j .copies ≡ [])
 unfolding numberOf hasCopies if
 any-free j cells picks e a = go (a .sort) (sym (kind-number (j .kind-number) (packing (a .sort)) (a .unrefused .of-kind)) ∙ e) (a .unrefused)
   where
@@ -181,7 +181,7 @@ any-free j cells picks e a = go (a .sort) (sym (kind-number (j .kind-number) (pa
     go free n r = (r, empty-of (j .copies) (ready free j cells picks r .valid .copied))
 
 -- another kind is 1 or 2
-pub any-below : (j : Job) (cells picks : List ℕ) → ¬ (j .kind-number ≡ 3) → Accepted j cells picks → j .kind-number < 3
+pub any-below : (j : Job) (cells picks : List ℕ) → ¬ (j .kind-number ≡ 3) → LetIn j cells picks → j .kind-number < 3
 unfolding numberOf
 any-below j cells picks other a = go (a .sort) (kind-number (j .kind-number) (packing (a .sort)) (a .unrefused .of-kind))
   where
@@ -191,19 +191,10 @@ any-below j cells picks other a = go (a .sort) (kind-number (j .kind-number) (pa
     go free e = absurd (other e)
 
 -- so a job of kind 3 is one without copies
-pub job-free : (kind budget : ℕ) (ws vs cs cells picks : List ℕ) → kind ≡ 3 → Accepted (jobOf kind (budget ∷ []) ws vs cs) cells picks
+pub job-free : (kind budget : ℕ) (ws vs cs cells picks : List ℕ) → kind ≡ 3 → LetIn (jobOf kind (budget ∷ []) ws vs cs) cells picks
     → (jobOf kind (budget ∷ []) ws vs cs ≡ jobOf 3 (budget ∷ []) ws vs []) × Unrefused (packing free) (jobOf 3 (budget ∷ []) ws vs []) (lentOf cells [] picks)
 unfolding jobOf
 job-free kind budget ws vs cs cells picks e a =
     let (r, none-of) = any-free (jobOf kind (budget ∷ []) ws vs cs) cells picks e a in
     let same : jobOf kind (budget ∷ []) ws vs cs ≡ jobOf 3 (budget ∷ []) ws vs [] = cc in
     (same, subst (λ (j : Job). Unrefused (packing free) j (lentOf cells [] picks)) same r)
-
--- only the lengths of cells and picks count
-pub accepted-long : (j : Job) (cells picks cells-too picks-too : List ℕ) → length cells ≡ length cells-too → length picks ≡ length picks-too
-    → Accepted j cells picks → Accepted j cells-too picks-too
-unfolding lentOf
-accepted-long j cells picks cells-too picks-too e f a = record {
-  sort = a .sort;
-  unrefused = still-unrefused (packing (a .sort)) j (lentOf cells [] picks) (lentOf cells-too [] picks-too) (as-long e) (as-long refl) (as-long f) (a .unrefused);
-}

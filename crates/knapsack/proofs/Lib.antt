@@ -3,5 +3,5 @@
 -- what the tables hold, and what the ways through them find: kinds 1 and 2, kind 3
 pub mod FullRows
 pub mod FreeRow
--- from an accepted job to what the functions ask, and from what they leave to the promise
+-- from a job that is let in to what the functions ask, and from what they leave to the promise
 pub mod Doors

@@ -7,6 +7,6 @@ use Rattle.meaning.specs.Lent.{lentOf}
 use Rattle.meaning.specs.Solved.{Unrefused}
 
 -- a job of one of the three knapsacks that no refusal meets, with these cells and picks lent. It needs no words
-pub record Accepted (j : Job) (cells picks : List ℕ) : Type 0 where
+pub record LetIn (j : Job) (cells picks : List ℕ) : Type 0 where
   pub sort : Sort
   pub unrefused : Unrefused (packing sort) j (lentOf cells [] picks)

@@ -14,7 +14,7 @@ ghost use Rattle.numbers.specs.Handed.{handed, jobHanded};
 ghost use Rattle.rows.specs.Rows.{SomeCount, Low};
 ghost use Rattle.knapsack.specs.Tables.{Bounded, limitOf, rowOf, Filled, Climbed};
 ghost use Rattle.knapsack.specs.Ways.{WayBack, WayAlong};
-ghost use Rattle.knapsack.specs.Doors.{Accepted};
+ghost use Rattle.knapsack.specs.Doors.{LetIn};
 
 // ---- kinds 1 and 2: a row for each label
 
@@ -154,7 +154,7 @@ fn full_table(
     cells: &mut [u32],
     picks: &mut [u32],
 ) -> Answer
-    requires { ⌜ Accepted (jobHanded kind budget (now weights) (now wbytes) (now values) (now vbytes) (now copies) (now cbytes)) (now cells) (now picks) ⌝ }
+    requires { ⌜ LetIn (jobHanded kind budget (now weights) (now wbytes) (now values) (now vbytes) (now copies) (now cbytes)) (now cells) (now picks) ⌝ }
     requires { ⌜ kind < 3 ⌝ }
     ensures { λ r. ⌜ SolvedInCells (jobHanded kind budget (now (weights .entry)) (now (wbytes .entry)) (now (values .entry)) (now (vbytes .entry)) (now (copies .entry)) (now (cbytes .entry))) (now (cells .entry)) (now (picks .entry)) r (now (cells .exit)) (now (picks .exit)) ⌝ }
 {
@@ -230,7 +230,7 @@ pub fn solve(
     cells: &mut [u32],
     picks: &mut [u32],
 ) -> Answer
-    requires { ⌜ Accepted (jobHanded kind budget (now weights) (now wbytes) (now values) (now vbytes) (now copies) (now cbytes)) (now cells) (now picks) ⌝ }
+    requires { ⌜ LetIn (jobHanded kind budget (now weights) (now wbytes) (now values) (now vbytes) (now copies) (now cbytes)) (now cells) (now picks) ⌝ }
     ensures { λ r. ⌜ SolvedInCells (jobHanded kind budget (now (weights .entry)) (now (wbytes .entry)) (now (values .entry)) (now (vbytes .entry)) (now (copies .entry)) (now (cbytes .entry))) (now (cells .entry)) (now (picks .entry)) r (now (cells .exit)) (now (picks .exit)) ⌝ }
 {
     if kind == 3 {

@@ -12,6 +12,10 @@ plain kind budget weights values copies = jobOf kind (budget ∷ []) weights val
 abbrev pub caseA : Job
 caseA = plain 1 7 (3 ∷ 4 ∷ 5 ∷ []) (4 ∷ 5 ∷ 6 ∷ []) []
 
+-- case C
+abbrev pub caseC : Job
+caseC = plain 1 10 (6 ∷ 5 ∷ 5 ∷ []) (7 ∷ 5 ∷ 5 ∷ []) []
+
 -- J's job
 abbrev pub caseJ : Job
 caseJ = plain 1 2 (2 ∷ []) (3 ∷ []) []

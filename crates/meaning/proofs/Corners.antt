@@ -335,7 +335,7 @@ long-A : length (jobBytes caseA) ≡ 52
 unfolding opens
 long-A = refl
 
-back-A : readJob (jobBytes caseA) ≡ readable caseA
+pub back-A : readJob (jobBytes caseA) ≡ readable caseA
 unfolding opens
 back-A = refl
 

@@ -43,5 +43,6 @@ pub mod Opens
 pub mod Sixteen
 mod Cases
 mod Tables
+mod Versions
 mod Wrong
 mod Corners

@@ -1,14 +1,22 @@
--- The steps of loops over a list, for definitions by recursion on it: a sum grows at the end of the part passed, a test is left over the part to come.
+-- The steps of loops over a list, for definitions by recursion on it: a sum, and a test of all, grow at the end of the part passed.
 -- Assumes nothing.
-use mathlib.Core.Path.{_≡_, sym, ap, _∙_}
+use mathlib.Core.Path.{_≡_, refl, ap, _∙_}
 use Prim.Native.Nat.{ℕ, suc, _+_, _≤_, _<_}
 use native.Mathlib.Numerals.{add-one}
 use native.Mathlib.Omega.{arith}
 use mathlib.Core.Bool.{Bool, true, false, _&&_}
 use mathlib.Core.List.{List, [], _∷_, _++_}
-use lib.ListN.{length, take, drop, drop-of-length-le}
-use lib.Seq.{take-suc, drop-cons, take-length, take-all}
+use lib.ListN.{length, take}
+use lib.Seq.{take-suc, take-length, take-all}
 use Rattle.meaning.specs.Lists.{at, sum, every}
+
+pub and-true : (a : Bool) → (a && true) ≡ a
+and-true true = refl
+and-true false = refl
+
+pub and-assoc : (a b c : Bool) → (a && (b && c)) ≡ ((a && b) && c)
+and-assoc true b c = refl
+and-assoc false b c = refl
 
 pub sum-snoc : (xs : List ℕ) (x : ℕ) → sum (xs ++ (x ∷ [])) ≡ sum xs + x
 unfolding sum
@@ -22,10 +30,11 @@ sum-more xs i h = ap sum (take-suc xs i 0 h) ∙ sum-snoc (take i xs) (at xs i)
 pub sum-all : (xs : List ℕ) → sum (take (length xs) xs) ≡ sum xs
 sum-all xs = ap sum (take-length xs)
 
--- one member passed, the rest to come
-pub every-on : (f : ℕ → Bool) (xs : List ℕ) (i : ℕ) → i < length xs → every f (drop i xs) ≡ (f (at xs i) && every f (drop (suc i) xs))
+-- a test of two lists, one after the other
+pub every-joined : (f : ℕ → Bool) (xs ys : List ℕ) → every f (xs ++ ys) ≡ (every f xs && every f ys)
 unfolding every
-every-on f xs i h = ap (every f) (drop-cons xs i 0 h)
+every-joined f [] ys = refl
+every-joined f (x ∷ xs) ys = ap (λ (b : Bool). f x && b) (every-joined f xs ys) ∙ and-assoc (f x) (every f xs) (every f ys)
 
 -- ---- the same as a loop asks for them
 
@@ -37,15 +46,9 @@ sum-step xs acc i h e = rw (add-one, sum-more xs i h, e)
 pub sum-done : (xs : List ℕ) (acc i : ℕ) → length xs ≤ i → acc ≡ sum (take i xs) → acc ≡ sum xs
 sum-done xs acc i h e = e ∙ ap sum (take-all i xs h)
 
--- the whole test is the test of what is left
-pub every-pass : (f : ℕ → Bool) (xs : List ℕ) (i : ℕ) → i < length xs → f (at xs i) ≡ true → every f xs ≡ every f (drop i xs) → every f xs ≡ every f (drop (i + 1) xs)
-every-pass f xs i h t e = rw add-one (e ∙ every-on f xs i h ∙ rw t)
-
--- a member that fails settles it
-pub every-fail : (f : ℕ → Bool) (xs : List ℕ) (i : ℕ) → i < length xs → f (at xs i) ≡ false → every f xs ≡ every f (drop i xs) → false ≡ every f xs
-every-fail f xs i h t e = sym (e ∙ every-on f xs i h ∙ rw t)
-
--- past the end every member has passed
-pub every-done : (f : ℕ → Bool) (xs : List ℕ) (i : ℕ) → length xs ≤ i → every f xs ≡ every f (drop i xs) → true ≡ every f xs
+-- the code tests member i too
+pub every-step : (f : ℕ → Bool) (xs : List ℕ) (i : ℕ) → i < length xs → every f (take (i + 1) xs) ≡ (every f (take i xs) && f (at xs i))
 unfolding every
-every-done f xs i h e = sym (e ∙ ap (every f) (drop-of-length-le xs h))
+every-step f xs i h =
+    rw add-one
+    (ap (every f) (take-suc xs i 0 h) ∙ every-joined f (take i xs) (at xs i ∷ []) ∙ ap (λ (b : Bool). every f (take i xs) && b) (and-true (f (at xs i))))

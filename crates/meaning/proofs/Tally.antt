@@ -114,6 +114,12 @@ pub tally-step : (f : ℕ → Bool) (k : ℕ) → tally f (upTo (suc k)) ≡ tal
 unfolding upTo tally
 tally-step f k = tally-append f (upTo k) (k ∷ []) ∙ omega arith
 
+-- where each of the first k numbers that passes f passes g, no more of them pass f
+pub tally-each : (f g : ℕ → Bool) (k : ℕ) → ((i : ℕ) → i < k → T (f i) → T (g i)) → tally f (upTo k) ≤ tally g (upTo k)
+unfolding upTo tally
+tally-each f g zero h = zero-le
+tally-each f g (suc k) h = omega (arith, tally-step f k, tally-step g k, tally-each f g k (λ i l. h i (omega arith)), one-le (f k) (g k) (h k (le-refl (suc k))))
+
 -- where each of the first k numbers passes, k do
 pub tally-all : (f : ℕ → Bool) (k : ℕ) → ((i : ℕ) → i < k → T (f i)) → tally f (upTo k) ≡ k
 unfolding upTo tally if

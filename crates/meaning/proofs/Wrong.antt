@@ -1,12 +1,10 @@
--- Wrong versions that the promises rule out: those that document 01 names, each tried on one of its cases.
+-- Wrong answers that the promises rule out, each tried on one job: on bytes that can't be read, by the writer, by the checker, and from C. (Versions has those that document 01 names.)
 -- Assumes nothing.
-use mathlib.Core.Path.{_∙_, _≡_, ap, refl, subst, sym}
-use mathlib.Core.Option.{Option·some-injective}
+use mathlib.Core.Path.{_∙_, _≡_, ap, refl, sym}
 use Prim.Native.Nat.{ℕ}
 use native.Mathlib.Omega.{arith}
 use mathlib.Core.List.{List, [], _∷_}
-use lib.Dec.{lit≤}
-use lib.ListN.{List·getD-append, drop, length, replicate}
+use lib.ListN.{replicate}
 use Rattle.meaning.specs.declared.Answer.{Answer}
 use Rattle.meaning.specs.declared.Answer.the-variants as Says
 use Rattle.meaning.specs.declared.Written.{Written}
@@ -16,58 +14,18 @@ use Rattle.meaning.specs.declared.Verdict.{Verdict}
 use Rattle.meaning.specs.declared.Verdict.the-variants.{Accepted, Refused}
 use Rattle.meaning.specs.Lists.{at}
 use Rattle.meaning.specs.Slices.{Holds}
-use Rattle.meaning.specs.Job.{Job, Kind, packing, once}
 use Rattle.meaning.specs.Lent.{Lent}
-use Rattle.meaning.specs.Bytes.{readable, unreadable}
-use Rattle.meaning.specs.Knapsacks.{BestPicks, FullTable, ValueTable}
-use Rattle.meaning.specs.Answers.{saidOf}
-use Rattle.meaning.specs.Solved.{Unrefused, Gives, Outcome, Solved, TableHolds, SolvedBytes, SolvedRead}
+use Rattle.meaning.specs.Bytes.{jobBytes}
+use Rattle.meaning.specs.Answers.{wroteOf}
+use Rattle.meaning.specs.Solved.{SolvedBytes, SolvedRead}
 use Rattle.meaning.specs.Certificates.{Checked, verdictOf}
 use Rattle.meaning.specs.Writer.{Writes, WritesBytes, WritesRead, bytesNeeded, certificate, newBytes, slicesFit, writerRefusal, writtenAs}
-use Rattle.meaning.specs.Demands.{Accepts, BestList, Demand3, Sound, ValidJob}
-use Rattle.meaning.specs.Trials.{Goes, certJ, jobJ, solve}
-use Rattle.meaning.proofs.OneOfEach.{best-value-unique}
+use Rattle.meaning.specs.Host.{WritesHost, refusalNumber, valueOrPlace}
+use Rattle.meaning.specs.Trials.{certJ, jobJ}
 use Rattle.meaning.proofs.Unique.{said-unique, wrote-unique}
-use Rattle.meaning.proofs.Laws.{unrefused-answered, solved-says}
 use Rattle.meaning.proofs.Certified.{verdict-is}
-use Rattle.meaning.proofs.Small.{picked, picked-out}
 use Rattle.meaning.proofs.Opens.{opens}
-use Rattle.meaning.proofs.Cases.{caseA, caseJ, noLabels}
-
--- ---- the planner on lists, on case A: one that refuses it, one that answers 0 with empty picks, one that writes no cells
-
-answer-A : Gives (packing once) caseA (saidOf (Says.Knapsack 9 7)) (1 ∷ 1 ∷ 0 ∷ [])
-unfolding opens Gives picked
-answer-A = record { picked = picked-out once caseA (1 ∷ 1 ∷ 0 ∷ []) tt; numbers = refl }
-
-module _ (before after : Lent) (ok : Unrefused (packing once) caseA before) where
-  says-A : (a : Answer) → Solved caseA before a after → (a ≡ Says.Knapsack 9 7) × Holds (1 ∷ 1 ∷ 0 ∷ []) (before .picks) (after .picks)
-  says-A a h = solved-says (packing once) caseA before after a (Says.Knapsack 9 7) (1 ∷ 1 ∷ 0 ∷ []) ok answer-A h
-
-  no-refusal : (r : ℕ) → ¬ Solved caseA before (Says.Refused r) after
-  no-refusal r h = let e : Says.Refused r ≡ Says.Knapsack 9 7 = says-A (Says.Refused r) h .0 in let z : _≡_ {A = ℕ} 0 1 = cc in omega arith
-
-  no-value-0 : ¬ Solved caseA before (Says.Knapsack 0 0) after
-  no-value-0 h = let e : Says.Knapsack 0 0 ≡ Says.Knapsack 9 7 = says-A (Says.Knapsack 0 0) h .0 in let z : _≡_ {A = ℕ} 0 9 = cc in omega arith
-
-  -- cell 31 is 9 after the call, whatever stood there
-  last-cell : (a : Answer) → Solved caseA before a after → at (after .cells) 31 ≡ 9
-  unfolding Outcome TableHolds ValueTable FullTable opens BestPicks Gives Holds
-  last-cell a h =
-      let x = unrefused-answered (packing once) caseA before after a ok h in
-      let long : length (x .content .cells) ≡ 32 = x .cells-needed in
-      ap (λ (l : List ℕ). at l 31) (x .cells-hold)
-      ∙ List·getD-append (x .content .cells) (drop (length (x .content .cells)) (before .cells)) 0 31 (omega (arith, long))
-      ∙ best-value-unique (x .table-right 3 7 (lit≤ tt) (lit≤ tt)) (record { picks = 1 ∷ 1 ∷ 0 ∷ []; best = answer-A .picked .one-of; value = refl })
-
--- ---- invented totals, ways or spare: whoever solves a proved trial answers what it says, and writes its picks
-
-trial-says : (j : Job) (a : Answer) (p : List ℕ) → Goes (solve j a p) → (k : Kind) (before after : Lent) (a′ : Answer)
-    → Unrefused k j before → Solved j before a′ after → (a′ ≡ a) × Holds p (before .picks) (after .picks)
-unfolding Goes
-trial-says j a p (k′, m) k before after a′ ok h =
-    let same : k ≡ k′ = Option·some-injective k k′ (sym (ok .of-kind) ∙ m .unrefused .of-kind) in
-    solved-says k j before after a′ a p ok (subst (λ (x : Kind). Gives x j (saidOf a) p) (sym same) (m .answer)) h
+use Rattle.meaning.proofs.Cases.{noLabels}
 
 -- ---- the planner on job bytes: one that gives another number for bytes that can't be read, and one that writes then
 
@@ -113,31 +71,6 @@ module _ (picks cells before after : List ℕ) (a : Written) (w : WritesBytes []
   unfolding WritesBytes WritesRead opens newBytes Holds
   unread-writes-nothing = w .leaves
 
--- ---- the checker: one that accepts everything, and one that refuses everything
-
-accepts-all : (Check : List ℕ → List ℕ → Verdict → Type 0) → ((jobB certB : List ℕ) → (v : ℕ) × Check jobB certB (Accepted v)) → ¬ Demand3 Check
-unfolding opens
-accepts-all Check all-accepted d =
-    let (v, e) = all-accepted [] [] in
-    let s : Sound [] [] v = d .accepted-is-best [] [] v e in
-    let f : unreadable 0 ≡ readable (s .job) = s .valid-job .reads in
-    let z : _≡_ {A = ℕ} 0 1 = cc in
-    omega arith
-
-valid-J : ValidJob jobJ caseJ
-unfolding opens jobJ
-valid-J = record { reads = refl; sort = once; of-sort = refl; not-refused = refl }
-
-best-J : BestList once caseJ (1 ∷ [])
-unfolding opens picked BestPicks BestList
-best-J = picked-out once caseJ (1 ∷ []) tt .one-of
-
-refuses-all : (Check : List ℕ → List ℕ → Verdict → Type 0) → ((jobB certB : List ℕ) (v : ℕ) → ¬ Check jobB certB (Accepted v)) → ¬ Demand3 Check
-unfolding valid-J
-refuses-all Check none-accepted d =
-    let a : Accepts Check jobJ (1 ∷ []) = d .exactly-when-best jobJ caseJ valid-J (1 ∷ []) .1 best-J in
-    none-accepted jobJ (a .certB) (a .value) (a .accepted .verdict)
-
 -- ---- the checker on case J's job: one that names the last cell at fault, one that adds in 32 bits, one that wants exact claims
 
 -- a verdict on the certificate with pick 1 and these cells is the one that computes
@@ -158,3 +91,24 @@ sums-are-whole v checked = only (4_294_967_293 ∷ 0 ∷ 0 ∷ 4_294_967_293 ∷
 claims-may-be-high : (v : Verdict) → Checked jobJ (certJ (0 ∷ 0 ∷ 0 ∷ 9 ∷ 9 ∷ 3 ∷ [])) v → v ≡ Accepted 3
 unfolding opens jobJ certJ verdictOf
 claims-may-be-high v checked = only (0 ∷ 0 ∷ 0 ∷ 9 ∷ 9 ∷ 3 ∷ []) (Accepted 3) v refl checked
+
+-- ---- from C: a checker's entry that gives 0 for everything, or never; and a writer's entry that counts no bytes
+
+entry-refuses : refusalNumber (verdictOf [] []) ≡ 1
+unfolding opens refusalNumber
+entry-refuses = refl
+
+entry-accepts : (refusalNumber (verdictOf jobJ (certJ (0 ∷ 0 ∷ 0 ∷ 9 ∷ 9 ∷ 3 ∷ []))) ≡ 0) × (valueOrPlace (verdictOf jobJ (certJ (0 ∷ 0 ∷ 0 ∷ 9 ∷ 9 ∷ 3 ∷ []))) ≡ 3)
+unfolding opens jobJ certJ refusalNumber valueOrPlace
+entry-accepts = (refl, refl)
+
+-- the second entry names the place of the first cell at fault
+entry-names-the-place : valueOrPlace (verdictOf jobJ (certJ (0 ∷ 9 ∷ 0 ∷ 0 ∷ 0 ∷ 0 ∷ []))) ≡ 4
+unfolding opens jobJ certJ valueOrPlace
+entry-names-the-place = refl
+
+entry-counts : (r bytes : ℕ) (after : List ℕ) → WritesHost (jobBytes noLabels) [] (5 ∷ []) nines r bytes after → (r ≡ 0) × (bytes ≡ 12)
+unfolding WritesBytes WritesRead opens
+entry-counts r bytes after h =
+    let wrote : h .answer ≡ Bytes 12 = written-12 (h .answer) after (h .writes) .0 in
+    (h .refusal ∙ ap (λ (a : Written). wroteOf a .refusal) wrote, h .bytes-are ∙ ap (λ (a : Written). wroteOf a .bytes) wrote)

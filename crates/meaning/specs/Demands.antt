@@ -1,5 +1,5 @@
--- The third demand, of any checker of job bytes and certificate bytes, by what it promises of its verdict. (The first and the second, that a bad request gets its number
--- and writes nothing, and that an answer is the true one, are what `Solved` says, by `TurnedDown` and by `Gives`.)
+-- The third demand, of any checker of job bytes and certificate bytes, by what it promises of its verdict. (The first and the second, that a
+-- bad request gets its number and writes nothing, and that an answer is the true one, are what `Solved` says, by `TurnedDown` and by `Gives`.)
 -- Assumes nothing.
 use mathlib.Core.Path.{_≡_}
 use mathlib.Core.Logic.{_↔_}

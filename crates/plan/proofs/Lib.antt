@@ -1,3 +1,4 @@
 -- The laws that the proofs of this crate cite.
 pub mod Room
 pub mod Replies
+pub mod CaseA

@@ -17,7 +17,7 @@ use Rattle.meaning.specs.Refusals.{kindRefusal}
 use Rattle.meaning.specs.Bytes.{readJob, readable}
 use Rattle.meaning.specs.Blocks.{tooMany}
 use Rattle.meaning.specs.Answers.{saidOf}
-use Rattle.meaning.specs.Solved.{Unrefused, Answered, Gives, Outcome, Solved, SolvedAs, SolvedBytes, SolvedLists, TableHolds, TurnedDown, waysAnswer}
+use Rattle.meaning.specs.Solved.{Unrefused, Gives, Outcome, Solved, SolvedAs, SolvedBytes, SolvedLists, TableHolds, TurnedDown, waysAnswer}
 use Rattle.meaning.proofs.Unique.{said-unique}
 use Rattle.meaning.proofs.Laws.{bytes-solved}
 use Rattle.meaning.proofs.Doors.{kept}

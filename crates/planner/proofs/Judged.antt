@@ -20,10 +20,10 @@ use Rattle.meaning.specs.Solved.{Outcome, Solved, Unrefused}
 use Rattle.meaning.proofs.Laws.{solved-kind, turned-down}
 use Rattle.meaning.proofs.Valid.{has-passed}
 use Rattle.meaning.proofs.Totals.{empty-of}
-use Rattle.requests.specs.declared.Room.{Room}
+use Rattle.rules.specs.declared.Room.{Room}
 use Rattle.blocks.specs.Doors as blocks
 use Rattle.requests.proofs.Judging.{earlier-given, none-earlier}
-use Rattle.requests.specs.Places.{NeededBy, roomFrom}
+use Rattle.rules.specs.Places.{NeededBy, roomFrom}
 
 -- ---- a job of a kind
 
@@ -82,17 +82,17 @@ weights-alone k kind budget ws vs cs no-values no-copies passed =
 -- ---- kinds 1 to 3
 
 -- the knapsack of a kind number
-pub record Sorted (kind : ℕ) : Type 0 where
+pub record SortOf (kind : ℕ) : Type 0 where
   pub sort : Sort
   pub of-kind : kindOf kind ≡ some (packing sort)
 
-pub sorted : (kind : ℕ) → 1 ≤ kind → kind ≤ 3 → Sorted kind
+pub sort-of : (kind : ℕ) → 1 ≤ kind → kind ≤ 3 → SortOf kind
 unfolding kindOf allKinds
-sorted zero h l = absurd (omega arith)
-sorted (suc zero) h l = record { sort = once; of-kind = refl }
-sorted (suc (suc zero)) h l = record { sort = limited; of-kind = refl }
-sorted (suc (suc (suc zero))) h l = record { sort = free; of-kind = refl }
-sorted (suc (suc (suc (suc kind)))) h l = absurd (omega arith)
+sort-of zero h l = absurd (omega arith)
+sort-of (suc zero) h l = record { sort = once; of-kind = refl }
+sort-of (suc (suc zero)) h l = record { sort = limited; of-kind = refl }
+sort-of (suc (suc (suc zero))) h l = record { sort = free; of-kind = refl }
+sort-of (suc (suc (suc (suc kind)))) h l = absurd (omega arith)
 
 -- ---- kinds 5 and 6
 
@@ -101,12 +101,12 @@ pub data Laying (kind : ℕ) : Kind → Type 0 where
   six-is : kind ≡ 6 → Laying kind block-ways
 
 -- the kind of a number
-pub record Laid (kind : ℕ) : Type 0 where
+pub record LaidKind (kind : ℕ) : Type 0 where
   pub which : Kind
   pub is : Laying kind which
 
-pub laid : (kind : ℕ) → 5 ≤ kind → kind ≤ 6 → Laid kind
-laid kind h l =
+pub five-or-six : (kind : ℕ) → 5 ≤ kind → kind ≤ 6 → LaidKind kind
+five-or-six kind h l =
     elim (decLt 5 kind) [
       | yes above ↦ record { which = block-ways; is = six-is (omega arith) }
       | no other ↦ record { which = fewest-blocks; is = five-is (omega arith) }
@@ -137,7 +137,7 @@ pub laid-room : {kind : ℕ} {k : Kind} → Laying kind k → (n budget : ℕ) (
 laid-room (five-is e) n budget room needed = needed .0 e
 laid-room (six-is e) n budget room needed = needed .1 e
 
-pub laid-in : {kind : ℕ} {k : Kind} → Laying kind k → (j : Job) (lent : Lent) → Unrefused k j lent → blocks.Accepted j lent
+pub laid-in : {kind : ℕ} {k : Kind} → Laying kind k → (j : Job) (lent : Lent) → Unrefused k j lent → blocks.LetIn j lent
 laid-in (five-is e) j lent ok = blocks.blocks-asked ok
 laid-in (six-is e) j lent ok = blocks.ways-asked ok
 

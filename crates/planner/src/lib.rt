@@ -2,7 +2,6 @@
 // decides, and from there to the crate of that kind.
 use meaning::Answer;
 use requests::Request;
-ghost use mathlib.Core.Path.{_≡_};
 ghost use mathlib.Core.List.{[], _∷_};
 ghost use Prim.Native.Nat.{_≤_};
 ghost use Rattle.meaning.specs.Job.{jobOf};
@@ -30,14 +29,14 @@ fn pack(
     requires { ⌜ (1 ≤ kind) × (kind ≤ 3) ⌝ }
     ensures { λ r. ⌜ SolvedInCells (jobHanded kind budget (now (ws .entry)) (now (wb .entry)) (now (vs .entry)) (now (vb .entry)) (now (cs .entry)) (now (cb .entry))) (now (cells .entry)) (now (picks .entry)) r (now (cells .exit)) (now (picks .exit)) ⌝ }
 {
-    let rules = requests::knapsack_rules(kind);
+    let rules = rules::knapsack_rules(kind);
     let refused = requests::job_refusal(rules, budget, ws, wb, vs, vb, cs, cb);
     if refused != 0 {
         return Answer::Refused(refused);
     }
     let n = numbers::list_length(ws, wb);
-    let room = requests::knapsack_room(kind, n, budget);
-    if !requests::room_fits(room, cells.len(), 0, picks.len()) {
+    let room = rules::knapsack_room(kind, n, budget);
+    if !rules::room_fits(room, cells.len(), 0, picks.len()) {
         return Answer::Refused(6);
     }
     knapsack::solve(kind, budget, ws, wb, vs, vb, cs, cb, cells, picks)
@@ -56,13 +55,13 @@ fn reach(
 ) -> Answer
     ensures { λ r. ⌜ SolvedInWords (jobHanded 4 budget (now (ws .entry)) (now (wb .entry)) (now (vs .entry)) (now (vb .entry)) (now (cs .entry)) (now (cb .entry))) (now (words .entry)) r (now (words .exit)) ⌝ }
 {
-    let rules = requests::sums_rules();
+    let rules = rules::sums_rules();
     let refused = requests::job_refusal(rules, budget, ws, wb, vs, vb, cs, cb);
     if refused != 0 {
         return Answer::Refused(refused);
     }
-    let room = requests::sums_room(budget);
-    if !requests::room_fits(room, 0, words.len(), 0) {
+    let room = rules::sums_room(budget);
+    if !rules::room_fits(room, 0, words.len(), 0) {
         return Answer::Refused(6);
     }
     sums::solve(budget, ws, wb, words)
@@ -85,14 +84,14 @@ fn lay(
     requires { ⌜ (5 ≤ kind) × (kind ≤ 6) ⌝ }
     ensures { λ r. ⌜ Solved (jobHanded kind budget (now (ws .entry)) (now (wb .entry)) (now (vs .entry)) (now (vb .entry)) (now (cs .entry)) (now (cb .entry))) (lentOf (now (cells .entry)) (now (words .entry)) (now (picks .entry))) r (lentOf (now (cells .exit)) (now (words .exit)) (now (picks .exit))) ⌝ }
 {
-    let rules = requests::blocks_rules();
+    let rules = rules::blocks_rules();
     let refused = requests::job_refusal(rules, budget, ws, wb, vs, vb, cs, cb);
     if refused != 0 {
         return Answer::Refused(refused);
     }
     let n = numbers::list_length(ws, wb);
-    let room = requests::blocks_room(kind, n, budget);
-    if !requests::room_fits(room, cells.len(), words.len(), picks.len()) {
+    let room = rules::blocks_room(kind, n, budget);
+    if !rules::room_fits(room, cells.len(), words.len(), picks.len()) {
         return Answer::Refused(6);
     }
     blocks::solve(kind, budget, ws, wb, cells, words, picks)
@@ -111,13 +110,13 @@ fn share(
 ) -> Answer
     ensures { λ r. ⌜ SolvedInPicks (jobHanded 7 budget (now (ws .entry)) (now (wb .entry)) (now (vs .entry)) (now (vb .entry)) (now (cs .entry)) (now (cb .entry))) (now (picks .entry)) r (now (picks .exit)) ⌝ }
 {
-    let rules = requests::shares_rules();
+    let rules = rules::shares_rules();
     let refused = requests::job_refusal(rules, budget, ws, wb, vs, vb, cs, cb);
     if refused != 0 {
         return Answer::Refused(refused);
     }
-    let room = requests::shares_room(numbers::list_length(ws, wb));
-    if !requests::room_fits(room, 0, 0, picks.len()) {
+    let room = rules::shares_room(numbers::list_length(ws, wb));
+    if !rules::room_fits(room, 0, 0, picks.len()) {
         return Answer::Refused(6);
     }
     if !requests::has_sum(ws, wb) {

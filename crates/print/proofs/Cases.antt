@@ -47,7 +47,7 @@ greatest-64 = refl
 -- ---- answers
 
 -- case A in full
-case-a : linesOf 1 (Says.Knapsack 9 7) (1 ∷ 1 ∷ 0 ∷ []) ≡ ascii "kind 1\nvalue 9\nweight 7\npicks 1 1 0\n"
+pub case-a : linesOf 1 (Says.Knapsack 9 7) (1 ∷ 1 ∷ 0 ∷ []) ≡ ascii "kind 1\nvalue 9\nweight 7\npicks 1 1 0\n"
 unfolding opens
 case-a = refl
 

@@ -2,7 +2,6 @@
 // output in one call. What that call does with them can't be said in a contract.
 use libc::STDOUT_FILENO;
 use meaning::Answer;
-ghost use mathlib.Core.Path.{_≡_};
 ghost use Prim.Native.Nat.{_+_, _≤_};
 ghost use lib.ListN.{length};
 ghost use Rattle.print.specs.Lines.{afterBlank, lineOf, picksLine, headLines, linesOf};

@@ -6,20 +6,19 @@ use native.Mathlib.Numerals.{add-one}
 use native.Mathlib.Nat.{zero-add}
 use native.Mathlib.Omega.{arith}
 use mathlib.Core.Bool.{Bool, true, false, not, _&&_}
-use mathlib.Core.List.{List, [], _∷_}
+use mathlib.Core.List.{List, [], _∷_, _++_}
 use lib.Dec.{leb, ltb, eqb, leb·zero}
-use lib.ListN.{length, drop, drop-of-length-le}
-use lib.Seq.{drop-cons}
+use lib.ListN.{length, drop, drop-of-length-le, take}
+use lib.Seq.{drop-cons, take-all}
 use borrow.Author.Tests.{le-leb, lt-leb, lt-ltb, eq-eqb, ne-eqb}
 use Rattle.meaning.specs.Lists.{at, if, sum, every}
-use Rattle.meaning.specs.Job.{Job, Sort, once, limited, free, packing, labels}
+use Rattle.meaning.specs.Job.{Job, labels}
 use Rattle.meaning.specs.Refusals as meaning
-use Rattle.meaning.specs.Refusals.{ascendingFrom, boundsFit, eachWithin, jobRefusal, listsFit, numbersFit, rulesOf, knapsackRules, hasCopies, leastValue, mostLabels, mostBudget, mostValue, mostCopies, leastCopies}
-use Rattle.meaning.proofs.Laws.{numberOf}
-use Rattle.meaning.proofs.Loops.{every-pass, every-fail, every-done}
-use Rattle.requests.specs.declared.Rules.{Rules}
-use Rattle.requests.specs.declared.WeightRule.the-variants.{Positive}
-use Rattle.requests.specs.Judging.{rulesFrom, ruleFrom, EachWithin}
+use Rattle.meaning.specs.Refusals.{ascendingFrom, boundsFit, eachWithin, jobRefusal, listsFit, numbersFit, mostValue, mostCopies, leastCopies}
+use Rattle.meaning.proofs.Loops.{and-assoc, and-true, every-joined, every-step}
+use Rattle.rules.specs.declared.Rules.{Rules}
+use Rattle.rules.specs.Ruling.{rulesFrom, ruleFrom}
+use Rattle.requests.specs.Judging.{EachWithin}
 
 -- ---- the numbers of a list
 
@@ -30,44 +29,36 @@ not-all-0 [] = refl
 not-all-0 (zero ∷ xs) = simp zero-add (not-all-0 xs)
 not-all-0 (suc x ∷ xs) = simp (leb·zero (suc x), lt-leb (suc x) 0 (omega arith), lt-ltb 0 (suc x + sum xs) (omega arith))
 
--- the first i numbers are within bounds
-pub record Passing (low high : ℕ) (xs : List ℕ) (i : ℕ) : Type 0 where
-  pub within : eachWithin low high xs ≡ eachWithin low high (drop i xs)
-  pub up-from : every (leb low) xs ≡ every (leb low) (drop i xs)
+module _ (low high : ℕ) where
+  -- no number is outside
+  pub none-tested : EachWithin low high [] true
+  unfolding eachWithin every
+  none-tested = record { within = refl; up-from = λ e. refl }
 
-module _ (low high : ℕ) (xs : List ℕ) where
-  pub none-passed : Passing low high xs 0
-  none-passed = record { within = refl; up-from = refl }
+  -- one number more, by the code's test of it
+  pub one-tested : (xs : List ℕ) (i : ℕ) (r : Bool) → i < length xs → at xs i ≤ 4_294_967_295 → EachWithin low high (take i xs) r
+      → EachWithin low high (take (i + 1) xs) ((r && leb low (at xs i)) && leb (at xs i) high)
+  unfolding eachWithin
+  one-tested xs i r h fits so-far = record {
+    within = rw (every-step (λ x. leb low x && leb x high) xs i h, ← so-far .within) (sym (and-assoc r (leb low (at xs i)) (leb (at xs i) high)));
+    up-from = λ e. rw (every-step (leb low) xs i h, ← so-far .up-from e, le-leb (at xs i) high (omega arith)) (and-true (r && leb low (at xs i)));
+  }
 
-  module _ (i : ℕ) (so-far : Passing low high xs i) where
-    pub all-passed : length xs ≤ i → EachWithin low high xs true
-    unfolding eachWithin
-    all-passed h = record {
-      within = every-done (λ x. leb low x && leb x high) xs i h (so-far .within);
-      up-from = λ e. every-done (leb low) xs i h (so-far .up-from);
-    }
+  -- past the end all have been tested
+  pub all-tested : (xs : List ℕ) (i : ℕ) (r : Bool) → length xs ≤ i → EachWithin low high (take i xs) r → EachWithin low high xs r
+  all-tested xs i r h so-far = rw (take-all i xs h) at so-far
 
-    module _ (h : i < length xs) where
-      pub one-passed : low ≤ at xs i → at xs i ≤ high → Passing low high xs (i + 1)
-      unfolding eachWithin
-      one-passed a b = record {
-        within = every-pass (λ x. leb low x && leb x high) xs i h (rw (le-leb low (at xs i) a, le-leb (at xs i) high b)) (so-far .within);
-        up-from = every-pass (leb low) xs i h (le-leb low (at xs i) a) (so-far .up-from);
-      }
+  -- two lists, one after the other
+  pub joined : (xs ys : List ℕ) (r s : Bool) → EachWithin low high xs r → EachWithin low high ys s → EachWithin low high (xs ++ ys) (r && s)
+  unfolding eachWithin
+  joined xs ys r s a b = record {
+    within = rw (a .within, b .within) (sym (every-joined (λ x. leb low x && leb x high) xs ys));
+    up-from = λ e. rw (a .up-from e, b .up-from e) (sym (every-joined (leb low) xs ys));
+  }
 
-      pub too-small : at xs i < low → EachWithin low high xs false
-      unfolding eachWithin
-      too-small a = record {
-        within = every-fail (λ x. leb low x && leb x high) xs i h (rw (lt-leb low (at xs i) a)) (so-far .within);
-        up-from = λ e. every-fail (leb low) xs i h (lt-leb low (at xs i) a) (so-far .up-from);
-      }
-
-      pub too-large : low ≤ at xs i → high < at xs i → at xs i ≤ 4_294_967_295 → EachWithin low high xs false
-      unfolding eachWithin
-      too-large a b fits = record {
-        within = every-fail (λ x. leb low x && leb x high) xs i h (rw (le-leb low (at xs i) a, lt-leb (at xs i) high b)) (so-far .within);
-        up-from = λ e. absurd (omega arith);
-      }
+-- the test by bounds that are these
+pub within-as : {low high least most : ℕ} {xs : List ℕ} {r : Bool} → low ≡ least → high ≡ most → EachWithin low high xs r → r ≡ eachWithin least most xs
+within-as e f h = rw (← e, ← f) (h .within)
 
 -- ascending: one number passed, the rest to come
 pub ascends : (xs : List ℕ) (low i : ℕ) → i < length xs → low ≤ at xs i → ascendingFrom low (drop i xs) ≡ ascendingFrom (at xs i + 1) (drop (i + 1) xs)
@@ -82,23 +73,6 @@ descends xs low i h down = ap (ascendingFrom low) (drop-cons xs i 0 h) ∙ rw (l
 pub all-ascend : (xs : List ℕ) (low i : ℕ) → length xs ≤ i → ascendingFrom low (drop i xs) ≡ true
 unfolding ascendingFrom
 all-ascend xs low i h = ap (ascendingFrom low) (drop-of-length-le xs h)
-
--- ---- the rules of kinds 1 to 3
-
--- the least value, as it was set for a kind number
-pub data Floor (kind floor : ℕ) : Type 0 where
-  one-for-3 : kind ≡ 3 → floor ≡ 1 → Floor kind floor
-  none-else : ¬ (kind ≡ 3) → floor ≡ 0 → Floor kind floor
-
-pub knapsack-as : (k : Sort) (kind floor : ℕ) → kind ≡ numberOf (packing k) → Floor kind floor
-    → rulesFrom (record { valued = true; copied = eqb kind 2; labels = mostLabels; budget = mostBudget; weights = Positive; floor = floor }) false ≡ rulesOf (packing k)
-unfolding rulesFrom ruleFrom rulesOf knapsackRules numberOf hasCopies leastValue
-knapsack-as once kind floor e (one-for-3 a b) = absurd (omega arith)
-knapsack-as once kind floor e (none-else a b) = rw (e, b)
-knapsack-as limited kind floor e (one-for-3 a b) = absurd (omega arith)
-knapsack-as limited kind floor e (none-else a b) = rw (e, b)
-knapsack-as free kind floor e (one-for-3 a b) = rw (e, b)
-knapsack-as free kind floor e (none-else a b) = absurd (a e)
 
 -- ---- 3 and 4, by lengths
 

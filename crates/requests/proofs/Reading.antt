@@ -135,8 +135,17 @@ pub unread : (b : List ℕ) {r : Request} (place : ℕ) → r ≡ Broken place �
 unfolding ReadAs
 unread b place e h = rw e at h
 
-module _ {b : List ℕ} {r : Request} (kind budget weights weights-end values values-end copies copies-end : ℕ) where
-  pub read-in : r ≡ Parts kind budget weights weights-end values values-end copies copies-end → ReadAs b r
-      → PartsRead b kind budget weights weights-end values values-end copies copies-end
+-- the numbers of a request that was read, as a match on it hands them over
+abbrev pub RequestNumbers : Type 0
+RequestNumbers = ℕ × (ℕ × (ℕ × (ℕ × (ℕ × (ℕ × (ℕ × (ℕ × Unit)))))))
+
+module _ (b : List ℕ) (p : RequestNumbers) where
+  -- the bytes are those of the job that they tell
+  abbrev pub PartsIn : Type 0
+  PartsIn = PartsRead b (p .0) (p .1 .0) (p .1 .1 .0) (p .1 .1 .1 .0) (p .1 .1 .1 .1 .0) (p .1 .1 .1 .1 .1 .0) (p .1 .1 .1 .1 .1 .1 .0) (p .1 .1 .1 .1 .1 .1 .1 .0)
+
+  pub read-in : {r : Request}
+      → r ≡ Parts (p .0) (p .1 .0) (p .1 .1 .0) (p .1 .1 .1 .0) (p .1 .1 .1 .1 .0) (p .1 .1 .1 .1 .1 .0) (p .1 .1 .1 .1 .1 .1 .0) (p .1 .1 .1 .1 .1 .1 .1 .0)
+      → ReadAs b r → PartsIn
   unfolding ReadAs
   read-in e h = rw e at h

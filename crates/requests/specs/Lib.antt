@@ -1,4 +1,3 @@
 -- The definitions that the contracts of this crate cite beside those of `meaning`.
 pub mod Reading
 pub mod Judging
-pub mod Places

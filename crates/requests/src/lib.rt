@@ -1,19 +1,21 @@
-// What is asked of a request before it is answered: job bytes are read (refusal 1), a job is held to the rules of its kind (3 to 5) and
-// needs room (6), and claims need a sum (9). Which kinds there are, and so refusal 2, is for the planner, the checker and the writer to say.
+// What is asked of a request before it is answered: job bytes are read (refusal 1), a job is held to the rules of its kind (3 to 5), and
+// claims need a sum (9). The rules, and the room that 6 asks for, are those of `rules`; which kinds there are, and so refusal 2, is for the
+// planner, the checker and the writer to say.
 use meaning::Needed;
 use meaning::Section;
+use rules::Rules;
+use rules::WeightRule;
 ghost use mathlib.Core.Path.{_≡_};
-ghost use mathlib.Core.Option.{some};
-ghost use Prim.Native.Nat.{ℕ, _≤_};
-ghost use mathlib.Core.Bool.{Bool, true, false, _&&_};
+ghost use Prim.Native.Nat.{ℕ};
+ghost use mathlib.Core.Bool.{Bool, _&&_};
 ghost use lib.Dec.{ltb, leb, eqb};
 ghost use Rattle.meaning.specs.Lists.{sum, if};
-ghost use Rattle.meaning.specs.Job.{Sort, packing, subset-sums, fewest-blocks, block-ways, sharing, kindOf};
-ghost use Rattle.meaning.specs.Refusals.{ascendingFrom, numbersFit, jobRefusal, rulesOf, weightRules, mostLabels, mostBudget};
+ghost use Rattle.meaning.specs.Bytes.{numbersIn};
+ghost use Rattle.meaning.specs.Refusals.{ascendingFrom, numbersFit, jobRefusal};
 ghost use Rattle.numbers.specs.Handed.{handed, jobHanded};
+ghost use Rattle.rules.specs.Ruling.{rulesFrom, ruleFrom};
 ghost use Rattle.requests.specs.Reading.{ReadAs, brokenOf};
-ghost use Rattle.requests.specs.Judging.{rulesFrom, ruleFrom, EachWithin};
-ghost use Rattle.requests.specs.Places.{NeededBy};
+ghost use Rattle.requests.specs.Judging.{EachWithin};
 
 // ---- refusal 1
 
@@ -82,114 +84,44 @@ pub fn read_job(job: &[u8]) -> Request
     }
 }
 
-// ---- the rules of a kind, and their bounds, each in one place
-
-// n in kinds 1 to 4.
-const MOST_LABELS: usize = 1_024;
-// n in kinds 5 and 6.
-const MOST_SIZES: usize = 64;
-// n in kind 7.
-const MOST_CLAIMS: usize = 1_024;
-// C in kinds 1 to 6.
-const MOST_BUDGET: u32 = 65_535;
-// C in kind 7: any number.
-const MOST_SHARED: u32 = 4_294_967_295;
-// Values.
-const MOST_VALUE: u32 = 65_535;
-// Copies, at most.
-const MOST_COPIES: u32 = 65_535;
-// Copies, at least.
-const LEAST_COPIES: u32 = 0;
-// Weights: any number from 1 up.
-const MOST_WEIGHT: u32 = 4_294_967_295;
-
-// What a kind asks of its weights.
-pub enum WeightRule {
-    Positive,
-    Ascending,
-    Anything,
-}
-
-// Whether a kind uses values, and copies; its bounds on n and on C; its rule on weights; its least value.
-pub struct Rules {
-    valued: bool,
-    copied: bool,
-    labels: usize,
-    budget: u32,
-    weights: WeightRule,
-    floor: u32,
-}
-
-// The rules of kinds 1 to 3.
-pub fn knapsack_rules(kind: u32) -> Rules
-    requires { ⌜ (1 ≤ kind) × (kind ≤ 3) ⌝ }
-    ensures { λ r. ⌜ ((k : Sort) → kindOf kind ≡ some (packing k) → rulesFrom r false ≡ rulesOf (packing k)) ⌝ }
-{
-    let floor = if kind == 3 { 1 } else { 0 };
-    Rules {
-        valued: true,
-        copied: kind == 2,
-        labels: MOST_LABELS,
-        budget: MOST_BUDGET,
-        weights: WeightRule::Positive,
-        floor,
-    }
-}
-
-// The rules of a kind that uses weights alone.
-fn weight_rules(labels: usize, budget: u32, weights: WeightRule) -> Rules
-    ensures { λ r. ⌜ ((needs-sum : Bool) → rulesFrom r needs-sum ≡ weightRules labels budget (ruleFrom weights) needs-sum) ⌝ }
-{
-    Rules {
-        valued: false,
-        copied: false,
-        labels,
-        budget,
-        weights,
-        floor: 0,
-    }
-}
-
-// The rules of kind 4.
-pub fn sums_rules() -> Rules
-    ensures { λ r. ⌜ rulesFrom r false ≡ rulesOf subset-sums ⌝ }
-{
-    weight_rules(MOST_LABELS, MOST_BUDGET, WeightRule::Positive)
-}
-
-// The rules of kinds 5 and 6.
-pub fn blocks_rules() -> Rules
-    ensures { λ r. ⌜ (rulesFrom r false ≡ rulesOf fewest-blocks) × (rulesFrom r false ≡ rulesOf block-ways) ⌝ }
-{
-    weight_rules(MOST_SIZES, MOST_BUDGET, WeightRule::Ascending)
-}
-
-// The rules of kind 7, but for its claims' sum.
-pub fn shares_rules() -> Rules
-    ensures { λ r. ⌜ rulesFrom r true ≡ rulesOf sharing ⌝ }
-{
-    weight_rules(MOST_CLAIMS, MOST_SHARED, WeightRule::Anything)
-}
-
 // ---- tests of a list's numbers
+
+// Whether each of these numbers is from low to high. The loop has no way out, so that it runs in vectors.
+fn numbers_within(numbers: &[u32], low: u32, high: u32) -> bool
+    ensures { λ r. ⌜ EachWithin low high (now (numbers .entry)) r ⌝ }
+{
+    let mut within = true;
+    let mut i = 0;
+    while i < numbers.len() {
+        let x = numbers[i];
+        within = within & (low <= x) & (x <= high);
+        i += 1;
+    }
+    within
+}
+
+// The same of the numbers in bytes.
+fn bytes_within(bytes: &[u8], low: u32, high: u32) -> bool
+    ensures { λ r. ⌜ EachWithin low high (numbersIn (now (bytes .entry))) r ⌝ }
+{
+    let n = bytes.len() / 4;
+    let mut within = true;
+    let mut i = 0;
+    while i < n {
+        let x = numbers::number_in(bytes, i);
+        within = within & (low <= x) & (x <= high);
+        i += 1;
+    }
+    within
+}
 
 // Whether each number of a list is from low to high.
 fn each_within(numbers: &[u32], bytes: &[u8], low: u32, high: u32) -> bool
     ensures { λ r. ⌜ EachWithin low high (handed (now (numbers .entry)) (now (bytes .entry))) r ⌝ }
 {
-    let n = numbers::list_length(numbers, bytes);
-    let mut i = 0;
-    while i < n {
-        let x = numbers::item(numbers, bytes, i);
-        if x < low {
-            return false;
-        }
-        if high < x {
-            return false;
-        }
-        i += 1;
-    }
-    true
+    let listed = numbers_within(numbers, low, high);
+    let packed = bytes_within(bytes, low, high);
+    listed & packed
 }
 
 // Whether the numbers of a list are 1 or more and strictly ascending.
@@ -222,7 +154,7 @@ fn keeps(rule: WeightRule, weights: &[u32], wbytes: &[u8]) -> bool
     ensures { λ r. ⌜ r ≡ ruleFrom rule (handed (now (weights .entry)) (now (wbytes .entry))) ⌝ }
 {
     match rule {
-        WeightRule::Positive => each_within(weights, wbytes, 1, MOST_WEIGHT),
+        WeightRule::Positive => each_within(weights, wbytes, 1, u32::MAX),
         WeightRule::Ascending => ascending(weights, wbytes),
         WeightRule::Anything => true,
     }
@@ -267,10 +199,12 @@ fn numbers_fit(
     if !keeps(rule, weights, wbytes) {
         return false;
     }
-    if !each_within(values, vbytes, rules.floor, MOST_VALUE) {
+    let worth = rules::value_bounds(rules);
+    if !each_within(values, vbytes, worth.least, worth.most) {
         return false;
     }
-    each_within(copies, cbytes, LEAST_COPIES, MOST_COPIES)
+    let counts = rules::copies_bounds();
+    each_within(copies, cbytes, counts.least, counts.most)
 }
 
 // The lowest of 3 to 5 that applies to a job, and 0 for none.
@@ -301,89 +235,4 @@ pub fn job_refusal(
         return 5;
     }
     0
-}
-
-// ---- refusal 6
-
-// How many places of each lent slice a job needs.
-pub struct Room {
-    pub cells: usize,
-    pub words: usize,
-    pub picks: usize,
-}
-
-// Kinds 1 to 3: a row for each label and one before them, or one row in kind 3.
-pub fn knapsack_room(kind: u32, n: usize, budget: u32) -> Room
-    requires { ⌜ (1 ≤ kind) × (kind ≤ 3) ⌝ }
-    requires { ⌜ (n ≤ mostLabels) × (budget ≤ mostBudget) ⌝ }
-    ensures { λ r. ⌜ ((k : Sort) → kindOf kind ≡ some (packing k) → NeededBy (packing k) n budget r) ⌝ }
-{
-    let width = budget as usize + 1;
-    if kind == 3 {
-        return Room {
-            cells: width,
-            words: 0,
-            picks: n,
-        };
-    }
-    Room {
-        cells: (n + 1) * width,
-        words: 0,
-        picks: n,
-    }
-}
-
-// Kind 4: a bit for each total.
-pub fn sums_room(budget: u32) -> Room
-    ensures { λ r. ⌜ ((n : ℕ) → NeededBy subset-sums n budget r) ⌝ }
-{
-    Room {
-        cells: 0,
-        words: (budget / 64) as usize + 1,
-        picks: 0,
-    }
-}
-
-// Kinds 5 and 6: a cell or a word for each amount.
-pub fn blocks_room(kind: u32, n: usize, budget: u32) -> Room
-    requires { ⌜ (5 ≤ kind) × (kind ≤ 6) ⌝ }
-    ensures { λ r. ⌜ (kind ≡ 5 → NeededBy fewest-blocks n budget r) × (kind ≡ 6 → NeededBy block-ways n budget r) ⌝ }
-{
-    let width = budget as usize + 1;
-    if kind == 5 {
-        return Room {
-            cells: width,
-            words: 0,
-            picks: n,
-        };
-    }
-    Room {
-        cells: 0,
-        words: width,
-        picks: 0,
-    }
-}
-
-// Kind 7: picks alone.
-pub fn shares_room(n: usize) -> Room
-    ensures { λ r. ⌜ ((budget : ℕ) → NeededBy sharing n budget r) ⌝ }
-{
-    Room {
-        cells: 0,
-        words: 0,
-        picks: n,
-    }
-}
-
-// Whether slices of these lengths have room.
-pub fn room_fits(room: Room, cells: usize, words: usize, picks: usize) -> bool
-    ensures { λ r. ⌜ r ≡ (leb (room .cells) cells && leb (room .words) words && leb (room .picks) picks) ⌝ }
-{
-    if cells < room.cells {
-        return false;
-    }
-    if words < room.words {
-        return false;
-    }
-    room.picks <= picks
 }

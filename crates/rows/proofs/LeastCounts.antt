@@ -1,7 +1,7 @@
 -- The least count of a label that is worth what a cell holds, tried from 0 up.
 -- Assumes nothing.
 use mathlib.Core.Path.{_≡_, sym, ap, _∙_}
-use Prim.Native.Nat.{ℕ, _+_, _-_, _*_, _≤_, _<_}
+use Prim.Native.Nat.{ℕ, _+_, _*_, _≤_, _<_}
 use native.Mathlib.Nat.{mul-add, mul-le-mul-left, mul-le-mul-right, one-mul}
 use native.Mathlib.Omega.{arith}
 use Rattle.rows.specs.Rows.{Worth, SomeCount, Least}

@@ -178,7 +178,7 @@ pub fn raise_up(row: &mut [u32], w: u32, v: u32)
 // ---- the next row of a table
 
 // From which budget on a row is raised: the weight, or the end of the row where none of the label may be picked.
-fn reach(width: usize, w: u32, most: u32) -> usize
+fn raised_from(width: usize, w: u32, most: u32) -> usize
     ensures { λ r. ⌜ ((most ≡ 0) → r ≡ width) × ((0 < most) → r ≡ w) ⌝ }
 {
     if most == 0 {
@@ -212,7 +212,7 @@ pub fn next_row(cells: &mut [u32], from: usize, width: usize, w: u32, v: u32, li
 {
     let to = from + width;
     let most = most_held(limit, width, w);
-    let start = reach(width, w, most);
+    let start = raised_from(width, w, most);
     copy(cells, from, to, start);
     raise(cells, from, to, width, start, v);
     add_parts(&mut cells[to..to + width], w, v, most);

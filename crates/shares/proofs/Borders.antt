@@ -1,43 +1,25 @@
--- Kind 7: the border. The labels at it or before it are those that get a unit.
+-- Kind 7: the border. The labels at it or before it, and the first of those next behind it, are those that get a unit.
 -- Assumes nothing.
-use mathlib.Core.Path.{_≡_, refl, sym}
-use mathlib.Core.Logic.{_⊎_, inl, inr}
-use Prim.Native.Nat.{ℕ, _+_, _-_, _≤_, _<_}
+use mathlib.Core.Path.{_≡_, refl, sym, ap, subst, _∙_}
+use mathlib.Core.Logic.{inl, inr}
+use Prim.Native.Nat.{ℕ, zero, suc, _+_, _-_, _≤_, _<_}
+use native.Mathlib.Decide.{ℕ-discrete}
+use native.Mathlib.Nat.{le-refl}
 use native.Mathlib.Omega.{arith}
-use mathlib.Core.Bool.{Bool, true, false}
-use lib.Dec.{T, leb, ltb, eqb}
-use mir.Facts.{ltb-yes, leb-yes, yes-ltb, yes-leb}
-use borrow.Author.Tests.{eqb-true, eq-eqb, ne-eqb, lt-ltb, le-ltb}
-use Rattle.meaning.specs.Lists.{at, sum, upTo, if}
+use mathlib.Core.Bool.{Bool, true, false, _&&_}
+use lib.Dec.{T, ltb, eqb}
+use mir.Facts.{leb-yes, yes-leb}
+use mir.Val.{boolByte}
+use borrow.Author.Tests.{eq-eqb, ne-eqb, lt-ltb, le-ltb, le-leb, lt-leb}
+use Rattle.meaning.specs.Lists.{sum, upTo, if, tally}
 use Rattle.meaning.specs.Job.{Job, labels}
 use Rattle.meaning.specs.Shares.{remainderOf, spareOf, precedes, rankOf}
 use Rattle.meaning.proofs.UpTo.{upTo-in}
-use Rattle.meaning.proofs.Tally.{tally-le, tally-lt, tally-all, tally-none, tally-most}
+use Rattle.meaning.proofs.Tally.{tally-le, tally-lt, tally-all, tally-none, tally-each, tally-step, tally-more, tally-most}
 use Rattle.meaning.proofs.Ranks.{precedes-out, precedes-in, not-self}
 use Rattle.meaning.proofs.SharesSum.{sumOver, spare-few}
 use Rattle.rows.proofs.Stores.{by}
-use Rattle.shares.specs.Borders.{aheadOf, aheadIn, Spans, countOf, Between, RunOut, just-enough, before-next}
-
--- ---- the order: six laws that `aheadOf` must have, and nothing below looks at its text
-
--- what the test says: the remainder is larger, or equal and the turn no lower
-data Stands (r n i border turn : ℕ) : Type 0 where
-  larger : border < r → Stands r n i border turn
-  equal : border ≡ r → turn ≤ n - 1 - i → Stands r n i border turn
-
-module _ (r n i border turn : ℕ) where
-  ahead-out : T (aheadOf r n i border turn) → Stands r n i border turn
-  unfolding aheadOf if
-  ahead-out h = go (eqb r border) refl h
-    where
-      go : (e : Bool) → eqb r border ≡ e → T (if e (leb turn (n - 1 - i)) (ltb border r)) → Stands r n i border turn
-      go true e t = equal (sym (eqb-true r border e)) (leb-yes t)
-      go false e t = larger (ltb-yes t)
-
-  ahead-in : Stands r n i border turn → T (aheadOf r n i border turn)
-  unfolding aheadOf if
-  ahead-in (larger l) = rw (ne-eqb r border (λ e. omega arith)) (yes-ltb l)
-  ahead-in (equal e l) = rw (eq-eqb r border (sym e)) (yes-leb l)
+use Rattle.shares.specs.Borders.{aheadOf, aheadIn, behindIn, Spans, Narrowed, countOf, behindOf, getsOf, NoLower, RunOut}
 
 module _ (j : Job) where
   abbrev rem : ℕ → ℕ
@@ -49,122 +31,186 @@ module _ (j : Job) where
   abbrev S : ℕ
   S = sum (j .weights)
 
-  -- first law: who goes before one that stands at a border or before it stands at the next border or before it
-  before-ahead : (border turn i m : ℕ) → i < n → T (aheadIn j border turn i) → T (precedes j m i) → T (aheadIn j border (turn + 1) m)
-  before-ahead border turn i m inside a p = ahead-in (rem m) n m border (turn + 1) (join (ahead-out (rem i) n i border turn a) (precedes-out j m i p))
+  -- ---- the order: what `aheadOf` says, and six laws of it and `precedes`. Nothing after them looks at the text of either
+
+  ahead-out : (border i : ℕ) → T (aheadIn j border i) → border ≤ rem i
+  unfolding aheadOf
+  ahead-out border i t = leb-yes t
+
+  ahead-in : (border i : ℕ) → border ≤ rem i → T (aheadIn j border i)
+  unfolding aheadOf
+  ahead-in border i l = yes-leb l
+
+  -- first law: who stands at a border or before it does so at a lower one
+  lower-border : (lower border i : ℕ) → lower ≤ border → T (aheadIn j border i) → T (aheadIn j lower i)
+  lower-border lower border i h t = ahead-in lower i (omega (arith, ahead-out border i t))
+
+  -- second law: who goes before a label that stands there stands there too
+  before-ahead : (border i m : ℕ) → T (aheadIn j border i) → T (precedes j m i) → T (aheadIn j border m)
+  before-ahead border i m t p =
+      let l = ahead-out border i t in
+      ahead-in border m (elim (precedes-out j m i p) [ inl a ↦ omega arith | inr b ↦ omega arith ])
+
+  -- third law: who stands at the border that a label is next behind, or before it, goes before the label
+  ahead-before : (i m : ℕ) → T (aheadIn j (rem i + 1) m) → T (precedes j m i)
+  ahead-before i m t = precedes-in j m i (inl (omega (arith, ahead-out (rem i + 1) m t)))
+
+  -- fourth law: of the labels with lower numbers, these and those next behind it go before the label
+  front-step : (i m : ℕ) → m < i → if (precedes j m i) 1 0 ≡ if (aheadIn j (rem i + 1) m) 1 0 + if (behindIn j (rem i + 1) m) 1 0
+  unfolding precedes aheadOf if
+  front-step i m h =
+      by (rem i) (rem m)
+      (λ l. rw (lt-ltb (rem i) (rem m) l, le-leb (rem i + 1) (rem m) (omega arith), ne-eqb (rem m + 1) (rem i + 1) (λ e. omega arith)))
+      (λ ge. rw (le-ltb (rem i) (rem m) ge, lt-leb (rem i + 1) (rem m) (omega arith), lt-ltb m i h) (go (ℕ-discrete (rem m) (rem i))))
     where
-      join : Stands (rem i) n i border turn → (rem i < rem m) ⊎ ((rem m ≡ rem i) × (m < i)) → Stands (rem m) n m border (turn + 1)
-      join (larger l) (inl y) = larger (omega arith)
-      join (larger l) (inr y) = larger (omega arith)
-      join (equal e l) (inl y) = larger (omega arith)
-      join (equal e l) (inr y) = equal (omega arith) (omega arith)
+      go : Dec (rem m ≡ rem i) → _≡_ {A = ℕ} (if (eqb (rem m) (rem i) && true) 1 0) (0 + if (eqb (rem m + 1) (rem i + 1)) 1 0)
+      go (yes e) = rw (eq-eqb (rem m) (rem i) e, eq-eqb (rem m + 1) (rem i + 1) (omega arith))
+      go (no ne) = rw (ne-eqb (rem m) (rem i) ne, ne-eqb (rem m + 1) (rem i + 1) (λ e. ne (omega arith)))
 
-  -- second law: who stands at a border or before it goes before one that does not
-  ahead-before : (border turn i m : ℕ) → ¬ T (aheadIn j border turn i) → T (aheadIn j border turn m) → T (precedes j m i)
-  ahead-before border turn i m not-i a = precedes-in j m i (by (rem i) (rem m) inl (λ ge. inr (same ge (ahead-out (rem m) n m border turn a))))
+  -- fifth law: of the others, these alone
+  rest-step : (i m : ℕ) → i ≤ m → _≡_ {A = ℕ} (if (precedes j m i) 1 0) (if (aheadIn j (rem i + 1) m) 1 0)
+  unfolding precedes aheadOf if
+  rest-step i m h =
+      by (rem i) (rem m) (λ l. rw (lt-ltb (rem i) (rem m) l, le-leb (rem i + 1) (rem m) (omega arith)))
+      (λ ge. rw (le-ltb (rem i) (rem m) ge, lt-leb (rem i + 1) (rem m) (omega arith), le-ltb m i h) (go (eqb (rem m) (rem i))))
     where
-      never : {C : Type 0} → Stands (rem i) n i border turn → C
-      never s = absurd (not-i (ahead-in (rem i) n i border turn s))
+      go : (e : Bool) → _≡_ {A = ℕ} (if (e && false) 1 0) 0
+      go true = refl
+      go false = refl
 
-      same : rem m ≤ rem i → Stands (rem m) n m border turn → (rem m ≡ rem i) × (m < i)
-      same ge (larger l) = never (larger (omega arith))
-      same ge (equal e l) =
-          by border (rem i) (λ less. never (larger less))
-          (λ le. (omega arith, by m i (λ less. less) (λ more. never (equal (omega arith) (omega arith)))))
+  -- sixth law: a test of two numbers that passes and fails with the code's
+  same-test : (r border a b : ℕ) → (border ≤ r → a < b) → (r < border → b ≤ a) → aheadOf r border ≡ ltb a b
+  unfolding aheadOf
+  same-test r border a b pass fail = by r border (λ l. lt-leb border r l ∙ sym (le-ltb a b (fail l))) (λ g. le-leb border r g ∙ sym (lt-ltb a b (pass g)))
 
-  -- third law: whose remainder is no less than the border's stands at turn 0 or before it
-  all-ahead : (border i : ℕ) → border ≤ rem i → T (aheadIn j border 0 i)
-  all-ahead border i h = ahead-in (rem i) n i border 0 (by border (rem i) larger (λ le. equal (omega arith) (omega arith)))
+  -- ---- labels counted as a loop does: those at a border or before it, and those next behind it
 
-  -- fourth law: whose remainder is less doesn't
-  none-ahead : (border i : ℕ) → rem i < border → ¬ T (aheadIn j border 0 i)
-  none-ahead border i h t = low (ahead-out (rem i) n i border 0 t)
+  pub ahead-more : (border i count rest : ℕ) (b : Bool) → b ≡ aheadOf rest border → rest ≡ rem i → count ≡ tally (aheadIn j border) (upTo i)
+      → count + boolByte b ≡ tally (aheadIn j border) (upTo (i + 1))
+  ahead-more border i count rest b test e = tally-more (aheadIn j border) i count b (test ∙ ap (λ (r : ℕ). aheadOf r border) e)
+
+  pub behind-none : (border : ℕ) → 0 ≡ behindOf j border 0
+  unfolding behindOf upTo tally
+  behind-none border = refl
+
+  pub behind-more : (border i seen rest : ℕ) → rest ≡ rem i → seen ≡ behindOf j border i → seen + boolByte (eqb (rest + 1) border) ≡ behindOf j border (i + 1)
+  unfolding behindOf
+  behind-more border i seen rest e = tally-more (behindIn j border) i seen (eqb (rest + 1) border) (ap (λ (r : ℕ). eqb (r + 1) border) e)
+
+  pub behind-most : (border i : ℕ) → behindOf j border i ≤ i
+  unfolding behindOf
+  behind-most border i = tally-most (behindIn j border) i
+
+  -- ---- ranks
+
+  front-rank : (i k : ℕ) → k ≤ i → tally (λ m. precedes j m i) (upTo k) ≡ tally (aheadIn j (rem i + 1)) (upTo k) + behindOf j (rem i + 1) k
+  unfolding upTo tally behindOf
+  front-rank i zero h = refl
+  front-rank i (suc k) h =
+      omega (arith, tally-step (λ m. precedes j m i) k, tally-step (aheadIn j (rem i + 1)) k, tally-step (behindIn j (rem i + 1)) k, front-rank i k (omega arith), front-step i k h)
+
+  rest-rank : (i k : ℕ) → i ≤ k → tally (λ m. precedes j m i) (upTo k) ≡ tally (aheadIn j (rem i + 1)) (upTo k) + behindOf j (rem i + 1) i
+  rest-rank i zero h = let e : i ≡ 0 = omega arith in rw e (front-rank 0 0 (le-refl 0))
+  rest-rank i (suc k) h =
+      by k i (λ less. let e : i ≡ suc k = omega arith in rw e (front-rank (suc k) (suc k) (le-refl (suc k))))
+      (λ more. omega (arith, tally-step (λ m. precedes j m i) k, tally-step (aheadIn j (rem i + 1)) k, rest-rank i k more, rest-step i k more))
+
+  -- a label next behind a border goes after those at it or before it, and after those next behind it with lower numbers
+  behind-rank : (border i : ℕ) → rem i + 1 ≡ border → i < n → rankOf j i ≡ countOf j border + behindOf j border i
+  unfolding rankOf countOf
+  behind-rank border i e h = subst (λ (b : ℕ). rankOf j i ≡ countOf j b + behindOf j b i) e (rest-rank i n (omega arith))
+
+  -- of the labels at a border or before it, not all go before one of them
+  high-rank : (border i : ℕ) → border ≤ rem i → i < n → rankOf j i < countOf j border
+  unfolding rankOf countOf
+  high-rank border i l h =
+      let t = ahead-in border i l in
+      tally-lt (λ m. precedes j m i) (aheadIn j border) (upTo n) (λ m p. before-ahead border i m t p) i (upTo-in n i h) t (not-self j i)
+
+  -- all of them go before one next behind it
+  low-rank : (i : ℕ) → countOf j (rem i + 1) ≤ rankOf j i
+  unfolding rankOf countOf
+  low-rank i = tally-le (aheadIn j (rem i + 1)) (λ m. precedes j m i) (upTo n) (λ m t. ahead-before i m t)
+
+  -- who gets a unit: one at the border or before it, and one next behind it while fewer than `left` such were seen
+  pub gets-served : (border left : ℕ) → RunOut j border left → (i seen : ℕ) → i < n → seen ≡ behindOf j border i
+      → getsOf (rem i) border seen left ≡ ltb (rankOf j i) (spareOf j)
+  unfolding getsOf if
+  gets-served border left out i seen h counted = by seen left (λ some. rw (lt-ltb seen left some) (one some)) (λ none. rw (le-ltb seen left none) (no-more none))
     where
-      low : Stands (rem i) n i border 0 → ⊥
-      low (larger l) = omega arith
-      low (equal e l) = omega arith
+      next : rem i + 1 ≡ border → rankOf j i ≡ countOf j border + seen
+      next e = omega (arith, behind-rank border i e h)
 
-  -- fifth law: past the highest turn comes the next remainder
-  past-ahead : 0 < n → (border i : ℕ) → T (aheadIn j border n i) → T (aheadIn j (border + 1) 0 i)
-  past-ahead some border i t = ahead-in (rem i) n i (border + 1) 0 (next (ahead-out (rem i) n i border n t))
-    where
-      next : Stands (rem i) n i border n → Stands (rem i) n i (border + 1) 0
-      next (larger l) = by (border + 1) (rem i) larger (λ le. equal (omega arith) (omega arith))
-      next (equal e l) = absurd (omega arith)
+      high : border ≤ rem i → rankOf j i < spareOf j
+      high l = omega (arith, high-rank border i l h, out .whole)
 
-  -- sixth law: who stands at a border or before it does so at a lower turn
-  lower-turn : (border turn i : ℕ) → T (aheadIn j border (turn + 1) i) → T (aheadIn j border turn i)
-  lower-turn border turn i t = ahead-in (rem i) n i border turn (lower (ahead-out (rem i) n i border (turn + 1) t))
-    where
-      lower : Stands (rem i) n i border (turn + 1) → Stands (rem i) n i border turn
-      lower (larger l) = larger l
-      lower (equal e l) = equal e (omega arith)
+      low : rem i + 1 < border → spareOf j ≤ rankOf j i
+      low l = omega (arith, low-rank i, out .no-lower .enough (rem i + 1) l)
+
+      one : seen < left → aheadOf (rem i + 1) border ≡ ltb (rankOf j i) (spareOf j)
+      one some =
+          same-test (rem i + 1) border (rankOf j i) (spareOf j)
+          (λ l. by (rem i) border (λ less. omega (arith, next (omega arith), out .whole)) high)
+          low
+
+      no-more : left ≤ seen → aheadOf (rem i + 0) border ≡ ltb (rankOf j i) (spareOf j)
+      no-more none =
+          same-test (rem i + 0) border (rankOf j i) (spareOf j)
+          (λ l. high (omega arith))
+          (λ l. by (rem i + 1) border low (λ le. omega (arith, next (omega arith), out .whole)))
 
   -- ---- where the units run out
 
-  module _ (claimed least greatest : ℕ) (reach : Spans j claimed n least greatest) where
-    -- at the least remainder or before it stand all labels
-    pub all-found : n ≡ countOf j least 0
-    unfolding countOf
-    all-found = sym (tally-all (aheadIn j least 0) n (λ i h. all-ahead least i (reach .above i h)))
+  -- where enough labels stand at a border or before it, the units don't run out below the next
+  pub next-lowest : (border count : ℕ) → count ≡ countOf j border → spareOf j ≤ count → NoLower j (border + 1)
+  unfolding countOf
+  next-lowest border count e h = record { enough = λ lower l. omega (arith, tally-le (aheadIn j border) (aheadIn j lower) (upTo n) (λ i t. lower-border lower border i (omega arith) t)) }
 
-    -- and where there are units to give, they run out at the greatest
-    pub between-remainders : 0 < S → 0 < spareOf j → Between j least 0 (greatest + 1) 0
+  module _ (claimed least greatest : ℕ) (reach : Spans j claimed n least greatest) where
+    -- not at the least remainder or below
+    pub not-at-least : 0 < S → NoLower j (least + 1)
     unfolding spareOf sumOver labels countOf
-    between-remainders pos some = record {
-      enough = omega (arith, spare-few j pos, all-found);
-      too-few = omega (arith, tally-none (aheadIn j (greatest + 1) 0) n (λ i h. none-ahead (greatest + 1) i (omega (arith, reach .below i h))));
-    }
+    not-at-least pos = record { enough = λ lower l. omega (arith, spare-few j pos, tally-all (aheadIn j lower) n (λ i h. ahead-in lower i (omega (arith, reach .above i h)))) }
+
+    -- past the greatest stands none
+    pub none-found : 0 ≡ countOf j (greatest + 1)
+    unfolding countOf
+    none-found = sym (tally-none (aheadIn j (greatest + 1)) n (λ i h t. omega (arith, reach .below i h, ahead-out (greatest + 1) i t)))
 
     pub some-span : 0 < S → 0 < spareOf j → least < greatest + 1
     unfolding spareOf sumOver labels
-    some-span pos some = omega (arith, spare-few j pos, reach .above 0 (omega (arith, spare-few j pos)), reach .below 0 (omega (arith, spare-few j pos)))
+    some-span pos some = let one : 0 < n = omega (arith, spare-few j pos) in omega (arith, reach .above 0 one, reach .below 0 one)
 
-  -- past the highest turn comes the next remainder
-  pub out-at-turn : (border : ℕ) → 0 < spareOf j → RunOut j border 0 (border + 1) 0 → RunOut j border 0 border n × (0 < n)
-  unfolding countOf
-  out-at-turn border units (just-enough e) = (just-enough e, omega (arith, tally-most (aheadIn j border 0) n))
-  out-at-turn border units (before-next b) =
-      let some : 0 < n = omega (arith, b .enough, tally-most (aheadIn j border 0) n) in
-      (before-next (record { enough = b .enough; too-few = omega (arith, b .too-few, tally-le (aheadIn j border n) (aheadIn j (border + 1) 0) (upTo n) (past-ahead some border)) }), some)
+  -- where no label stands between two numbers, the ends of the halving may be moved past them
+  module _ (low high least greatest : ℕ) (near : Narrowed j n low high least greatest) where
+    pub low-up : NoLower j (low + 1) → NoLower j (least + 1)
+    unfolding countOf
+    low-up lowest = record {
+      enough = λ lower l.
+          by lower (low + 1) (lowest .enough lower)
+          (λ g. omega (arith, lowest .enough low (omega arith), tally-each (aheadIn j low) (aheadIn j lower) n (λ i h t. ahead-in lower i (omega (arith, near .above i h (ahead-out low i t))))));
+    }
 
-  -- `found` labels stand at the low border or before it
-  module _ (low low-turn high high-turn spare found : ℕ) (whole : spare ≡ spareOf j) (counted : found ≡ countOf j low low-turn) where
-    -- while they are more than the units, a count at another border says on which side of it the units run out
-    module _ (out : RunOut j low low-turn high high-turn) (more : spare < found) (border turn count : ℕ) (there : count ≡ countOf j border turn) where
-      side : RunOut j low low-turn high high-turn → Between j low low-turn high high-turn
-      side (just-enough e) = absurd (omega arith)
-      side (before-next b) = b
+    pub high-down : countOf j high ≡ countOf j (greatest + 1)
+    unfolding countOf
+    high-down =
+        omega (
+          arith,
+          tally-le (aheadIn j high) (aheadIn j (greatest + 1)) (upTo n) (λ i t. lower-border (greatest + 1) high i (omega (arith, near .within)) t),
+          tally-each (aheadIn j (greatest + 1)) (aheadIn j high) n (λ i h t. ahead-in high i (by (rem i) high (λ l. absurd (omega (arith, near .below i h l, ahead-out (greatest + 1) i t))) (λ g. g))),
+        )
 
-      pub raise-low : spare ≤ count → RunOut j border turn high high-turn
-      raise-low h = before-next (record { enough = omega arith; too-few = side out .too-few })
+    pub still-some : countOf j high < spareOf j → NoLower j (low + 1) → least < greatest + 1
+    unfolding countOf
+    still-some few lowest =
+        by greatest least
+        (λ l. absurd (omega (arith, lowest .enough low (omega arith), tally-each (aheadIn j low) (aheadIn j high) n (λ i h t. ahead-in high i (by (rem i) high (λ k. absurd (omega (arith, near .below i h k, near .above i h (ahead-out low i t)))) (λ g. g))))))
+        (λ g. omega arith)
 
-      pub lower-high : count < spare → RunOut j low low-turn border turn
-      lower-high h = before-next (record { enough = side out .enough; too-few = omega arith })
+  -- when the halving ends, they run out at the high border
+  module _ (low high found spare : ℕ) (units : spare ≡ spareOf j) (counted : found ≡ countOf j high) (fits : found ≤ spare) (lowest : NoLower j (low + 1)) where
+    pub none-between : high ≤ low + 1 → RunOut j high (spare - found)
+    none-between h = record { whole = omega arith; no-lower = record { enough = λ lower l. lowest .enough lower (omega arith) } }
 
-    -- once they aren't, no other border has a say
-    pub out-here : RunOut j low low-turn high high-turn → found ≤ spare → (next next-turn : ℕ) → RunOut j low low-turn next next-turn
-    out-here (just-enough e) h next next-turn = just-enough e
-    out-here (before-next b) h next next-turn = just-enough (omega (arith, b .enough))
-
-  -- the labels at the border or before it are those that get a unit
-  pub ahead-served : (border turn : ℕ) → RunOut j border turn border (turn + 1) → (i : ℕ) → i < n → aheadIn j border turn i ≡ ltb (rankOf j i) (spareOf j)
-  unfolding rankOf countOf
-  ahead-served border turn out i inside = go (aheadIn j border turn i) refl
-    where
-      enough : RunOut j border turn border (turn + 1) → spareOf j ≤ countOf j border turn
-      enough (just-enough e) = omega arith
-      enough (before-next b) = b .enough
-
-      -- who is at the border or before it: those that go before it are fewer than the units
-      low-rank : RunOut j border turn border (turn + 1) → T (aheadIn j border turn i) → rankOf j i < spareOf j
-      low-rank (just-enough e) a =
-          omega (arith, tally-lt (λ m. precedes j m i) (aheadIn j border turn) (upTo n) (λ m p. lower-turn border turn m (before-ahead border turn i m inside a p)) i (upTo-in n i inside) a (not-self j i))
-      low-rank (before-next b) a =
-          omega (arith, b .too-few, tally-le (λ m. precedes j m i) (aheadIn j border (turn + 1)) (upTo n) (λ m p. before-ahead border turn i m inside a p))
-
-      go : (e : Bool) → aheadIn j border turn i ≡ e → e ≡ ltb (rankOf j i) (spareOf j)
-      go true e = sym (lt-ltb (rankOf j i) (spareOf j) (low-rank out (rw e tt)))
-      go false e =
-          sym (le-ltb (rankOf j i) (spareOf j)
-          (omega (arith, enough out, tally-le (aheadIn j border turn) (λ m. precedes j m i) (upTo n) (λ m a. ahead-before border turn i m (λ t. rw e at t) a))))
+    pub just-enough : spare ≤ found → RunOut j high (spare - found)
+    just-enough h = record { whole = omega arith; no-lower = record { enough = λ lower l. next-lowest high found counted (omega arith) .enough lower (omega arith) } }

@@ -6,12 +6,12 @@ use native.Mathlib.Nat.{div-add-mod', div-le-of-le-mul, mul-le-mul-left, mul-com
 use native.Mathlib.Numerals.{add-one}
 use native.Mathlib.Omega.{arith}
 use mathlib.Core.List.{List, [], _∷_, map}
-use mathlib.Core.Bool.{Bool}
+use mathlib.Core.Bool.{Bool, true, false}
 use lib.Dec.{ltb}
 use mir.Val.{boolByte}
 use lib.ListN.{length, take}
 use lib.Seq.{ext-getD}
-use borrow.Author.Tests.{le-ltb}
+use borrow.Author.Tests.{lt-ltb, le-ltb}
 use Rattle.meaning.specs.Lists.{at, sum, upTo, if}
 use Rattle.meaning.specs.Job.{Job, labels}
 use Rattle.meaning.specs.Shares.{startOf, remainderOf, spareOf, rankOf, shareOf, sharesOf}
@@ -20,9 +20,14 @@ use Rattle.meaning.proofs.Loops.{sum-more, sum-done}
 use Rattle.meaning.proofs.SharesSum.{sumOver, starts-within, shares-sum}
 use Rattle.meaning.proofs.Tally.{one-or-none}
 use Rattle.rows.proofs.Stores.{by}
-use Rattle.shares.specs.Borders.{Started, Spans}
+use Rattle.shares.specs.Borders.{Started, Spans, Narrowed}
 
--- ---- lists
+-- ---- tests and lists
+
+-- a test counts for one at most
+pub one-at-most : (b : Bool) → boolByte b ≤ 1
+one-at-most true = omega arith
+one-at-most false = omega arith
 
 -- the first members sum to no more than all
 front-within : (xs : List ℕ) (i : ℕ) → sum (take i xs) ≤ sum xs
@@ -103,17 +108,50 @@ module _ (j : Job) where
   unfolding shareOf
   share-given i start b e f = rw (one-or-none b, f, e)
 
--- ---- how far the remainders reach
+-- ---- remainders
 
 -- a remainder is below S
 pub remainder-within : (j : Job) (i : ℕ) → 0 < sum (j .weights) → remainderOf j i < sum (j .weights)
 unfolding remainderOf
 remainder-within j i pos = mod-lt (j .budget * at (j .weights) i) pos
 
+-- of no label they reach anywhere
+pub spans-none : (j : Job) (claimed least : ℕ) → 0 < claimed → Spans j claimed 0 least 0
+spans-none j claimed least pos = record { above = λ i h. absurd (omega arith); below = λ i h. absurd (omega arith); within = pos }
+
 -- one label more
-pub spans-more : (j : Job) (claimed i least greatest left : ℕ) → left ≡ remainderOf j i → left < claimed → Spans j claimed i least greatest → Spans j claimed (i + 1) (min least left) (max greatest left)
-spans-more j claimed i least greatest left e h d = record {
+pub spans-more : (j : Job) (claimed i least greatest rest : ℕ) → rest ≡ remainderOf j i → rest < claimed → Spans j claimed i least greatest → Spans j claimed (i + 1) (min least rest) (max greatest rest)
+spans-more j claimed i least greatest rest e h d = record {
   above = λ k l. by k i (λ b. omega (arith, d .above k b)) (λ b. let here : k ≡ i = omega arith in omega (arith, ap (remainderOf j) here));
   below = λ k l. by k i (λ b. omega (arith, d .below k b)) (λ b. let here : k ≡ i = omega arith in omega (arith, ap (remainderOf j) here));
   within = omega (arith, d .within);
 }
+
+-- ---- the same of the remainders between two numbers
+
+-- one more for the least, and one more for the greatest
+lowered-least : (least rest low : ℕ) → low ≤ least → let l = if (ltb rest low) least (min least rest) in (low ≤ l) × (l ≤ least) × (low ≤ rest → l ≤ rest)
+unfolding if
+lowered-least least rest low h =
+    by rest low (λ under. rw (lt-ltb rest low under) (h, omega arith, λ g. absurd (omega arith))) (λ over. rw (le-ltb rest low over) (omega arith, omega arith, λ g. omega arith))
+
+raised-greatest : (greatest rest high : ℕ) → greatest < high
+    → let g = if (ltb rest high) (max greatest rest) greatest in (g < high) × (greatest ≤ g) × (rest < high → rest ≤ g)
+unfolding if
+raised-greatest greatest rest high h =
+    by rest high (λ under. rw (lt-ltb rest high under) (omega arith, omega arith, λ g. omega arith)) (λ over. rw (le-ltb rest high over) (h, omega arith, λ g. absurd (omega arith)))
+
+pub narrowed-none : (j : Job) (low high : ℕ) → low < high → Narrowed j 0 low high high low
+narrowed-none j low high h = record { not-below = omega arith; within = h; above = λ i l. absurd (omega arith); below = λ i l. absurd (omega arith) }
+
+pub narrowed-more : (j : Job) (i low high least greatest rest : ℕ) → rest ≡ remainderOf j i → Narrowed j i low high least greatest
+    → Narrowed j (i + 1) low high (if (ltb rest low) least (min least rest)) (if (ltb rest high) (max greatest rest) greatest)
+narrowed-more j i low high least greatest rest e d =
+    let (from, less, covers) = lowered-least least rest low (d .not-below) in
+    let (to, more, covered) = raised-greatest greatest rest high (d .within) in
+    record {
+      not-below = from;
+      within = to;
+      above = λ k l g. by k i (λ b. omega (arith, d .above k b g, less)) (λ b. let here : k ≡ i = omega arith in let same = ap (remainderOf j) here in omega (arith, same, covers (omega (arith, same))));
+      below = λ k l g. by k i (λ b. omega (arith, d .below k b g, more)) (λ b. let here : k ≡ i = omega arith in let same = ap (remainderOf j) here in omega (arith, same, covered (omega (arith, same))));
+    }

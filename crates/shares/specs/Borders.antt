@@ -1,7 +1,7 @@
 -- Kind 7: the starts as they are kept, and the border that parts the labels that get a spare unit from the others.
 -- Assumes nothing.
 use mathlib.Core.Path.{_≡_}
-use Prim.Native.Nat.{ℕ, _-_, _≤_, _<_}
+use Prim.Native.Nat.{ℕ, _+_, _≤_, _<_}
 use mathlib.Core.Bool.{Bool}
 use mathlib.Core.List.{List}
 use lib.Dec.{leb, ltb, eqb}
@@ -23,25 +23,43 @@ pub record Spans (j : Job) (claimed n least greatest : ℕ) : Type 0 where
   pub below : (i : ℕ) → i < n → remainderOf j i ≤ greatest
   pub within : greatest < claimed
 
--- label i of n, which has this remainder, stands at a border or before it. A border is a remainder and a turn: of n labels the last has
--- turn 0, and the first the highest
-unfoldable pub aheadOf : ℕ → ℕ → ℕ → ℕ → ℕ → Bool
-aheadOf remainder n i border turn = if (eqb remainder border) (leb turn (n - 1 - i)) (ltb border remainder)
+-- of the remainders of the first n labels, those that are not below `low` and below `high` reach from `least` to `greatest`
+pub record Narrowed (j : Job) (n low high least greatest : ℕ) : Type 0 where
+  pub not-below : low ≤ least
+  pub within : greatest < high
+  pub above : (i : ℕ) → i < n → low ≤ remainderOf j i → least ≤ remainderOf j i
+  pub below : (i : ℕ) → i < n → remainderOf j i < high → remainderOf j i ≤ greatest
 
--- label i of a job stands at a border or before it
-abbrev pub aheadIn : Job → ℕ → ℕ → ℕ → Bool
-aheadIn j border turn i = aheadOf (remainderOf j i) (labels j) i border turn
+-- a label with this remainder stands at a border or before it. A border is a remainder too, and the larger goes first
+unfoldable pub aheadOf : ℕ → ℕ → Bool
+aheadOf remainder border = leb border remainder
+
+-- label i of a job does
+abbrev pub aheadIn : Job → ℕ → ℕ → Bool
+aheadIn j border i = aheadOf (remainderOf j i) border
 
 -- how many labels do
-unfoldable pub countOf : Job → ℕ → ℕ → ℕ
-countOf j border turn = tally (aheadIn j border turn) (upTo (labels j))
+unfoldable pub countOf : Job → ℕ → ℕ
+countOf j border = tally (aheadIn j border) (upTo (labels j))
 
--- the units run out between two borders: as many labels as there are units, or more, stand at the one or before it, and fewer at the other
-pub record Between (j : Job) (low low-turn high high-turn : ℕ) : Type 0 where
-  pub enough : spareOf j ≤ countOf j low low-turn
-  pub too-few : countOf j high high-turn < spareOf j
+-- label i stands next behind a border
+abbrev pub behindIn : Job → ℕ → ℕ → Bool
+behindIn j border i = eqb (remainderOf j i + 1) border
 
--- the units run out at the low border: just so many labels stand at it or before it as there are units, or at the high one fewer do
-pub data RunOut (j : Job) (low low-turn high high-turn : ℕ) : Type 0 where
-  just-enough : countOf j low low-turn ≡ spareOf j → RunOut j low low-turn high high-turn
-  before-next : Between j low low-turn high high-turn → RunOut j low low-turn high high-turn
+-- how many of the first i labels do
+unfoldable pub behindOf : Job → ℕ → ℕ → ℕ
+behindOf j border i = tally (behindIn j border) (upTo i)
+
+-- a label with this remainder gets a unit, where `seen` labels with lower numbers stand next behind the border: as long as they are fewer than the
+-- units left, it counts as one further ahead
+unfoldable pub getsOf : ℕ → ℕ → ℕ → ℕ → Bool
+getsOf remainder border seen left = aheadOf (remainder + if (ltb seen left) 1 0) border
+
+-- the units don't run out at a lower border: as many labels as there are units, or more, stand at it or before it
+pub record NoLower (j : Job) (border : ℕ) : Type 0 where
+  pub enough : (lower : ℕ) → lower < border → spareOf j ≤ countOf j lower
+
+-- the units run out at a border: each label at it or before it gets one, and `left` are left for those next behind it
+pub record RunOut (j : Job) (border left : ℕ) : Type 0 where
+  pub whole : countOf j border + left ≡ spareOf j
+  pub no-lower : NoLower j border

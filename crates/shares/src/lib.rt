@@ -5,7 +5,8 @@ ghost use mathlib.Core.Path.{_≡_};
 ghost use mathlib.Core.List.{[]};
 ghost use Prim.Native.Nat.{_+_, _*_, _/_, _%_, _≤_, _<_, max, min};
 ghost use lib.ListN.{length};
-ghost use Rattle.meaning.specs.Lists.{sum};
+ghost use lib.Dec.{ltb};
+ghost use Rattle.meaning.specs.Lists.{sum, if};
 ghost use Rattle.meaning.specs.Job.{sharing};
 ghost use Rattle.meaning.specs.Lent.{lentOf};
 ghost use Rattle.meaning.specs.Refusals.{mostClaims};
@@ -13,7 +14,7 @@ ghost use Rattle.meaning.specs.Shares.{startOf, remainderOf, spareOf, sharesOf}
 ghost use Rattle.meaning.specs.Solved.{Unrefused};
 ghost use Rattle.meaning.specs.Doors.{SolvedInPicks};
 ghost use Rattle.numbers.specs.Handed.{handed, weightsHanded};
-ghost use Rattle.shares.specs.Borders.{Started, Spans, aheadOf, aheadIn, countOf, RunOut};
+ghost use Rattle.shares.specs.Borders.{Started, Spans, Narrowed, aheadOf, countOf, getsOf, RunOut};
 
 // ---- the starts
 
@@ -55,7 +56,62 @@ fn remainder(product: u64, start: u32, claimed: u64) -> u64
     product - start as u64 * claimed
 }
 
-// The remainder of label i, by its start.
+// The lesser of two numbers.
+fn lesser(a: u64, b: u64) -> u64
+    ensures { λ r. ⌜ r ≡ min a b ⌝ }
+{
+    if a < b { a } else { b }
+}
+
+// The greater of two numbers.
+fn greater(a: u64, b: u64) -> u64
+    ensures { λ r. ⌜ r ≡ max a b ⌝ }
+{
+    if a < b { b } else { a }
+}
+
+// What the starts leave: the spare, and the least and the greatest remainder.
+struct Leavings {
+    spare: u32,
+    least: u64,
+    greatest: u64,
+}
+
+// Every start into its place. The spare is the budget less each start in turn.
+fn write_starts(
+    budget: u32,
+    weights: &[u32],
+    wbytes: &[u8],
+    claimed: u64,
+    shares: &mut [u32],
+) -> Leavings
+    requires { ⌜ (claimed ≡ sum (handed (now weights) (now wbytes))) × (0 < claimed) ⌝ }
+    requires { ⌜ length (now shares) ≡ length (handed (now weights) (now wbytes)) ⌝ }
+    ensures { λ r. ⌜ Started (weightsHanded 7 budget (now (weights .entry)) (now (wbytes .entry))) claimed (now (shares .exit)) × ((r .spare ≡ spareOf (weightsHanded 7 budget (now (weights .entry)) (now (wbytes .entry)))) × Spans (weightsHanded 7 budget (now (weights .entry)) (now (wbytes .entry))) claimed (length (now (shares .exit))) (r .least) (r .greatest)) ⌝ }
+{
+    let mut spare = budget;
+    let mut least = claimed;
+    let mut greatest: u64 = 0;
+    let mut i = 0;
+    while i < shares.len() {
+        let claim = numbers::item(weights, wbytes, i);
+        let product = wide_product(budget, claim);
+        let whole = start(product, claimed);
+        let rest = remainder(product, whole, claimed);
+        shares[i] = whole;
+        spare -= whole;
+        least = lesser(least, rest);
+        greatest = greater(greatest, rest);
+        i += 1;
+    }
+    Leavings {
+        spare,
+        least,
+        greatest,
+    }
+}
+
+// The remainder of label i, by the start that is kept.
 fn remainder_at(
     budget: u32,
     weights: &[u32],
@@ -72,61 +128,13 @@ fn remainder_at(
     remainder(wide_product(budget, claim), start, claimed)
 }
 
-// Every start into its place. Gives the spare, which is the budget less each start in turn.
-fn write_starts(
-    budget: u32,
-    weights: &[u32],
-    wbytes: &[u8],
-    claimed: u64,
-    shares: &mut [u32],
-) -> u32
-    requires { ⌜ (claimed ≡ sum (handed (now weights) (now wbytes))) × (0 < claimed) ⌝ }
-    requires { ⌜ length (now shares) ≡ length (handed (now weights) (now wbytes)) ⌝ }
-    ensures { λ r. ⌜ Started (weightsHanded 7 budget (now (weights .entry)) (now (wbytes .entry))) claimed (now (shares .exit)) × (r ≡ spareOf (weightsHanded 7 budget (now (weights .entry)) (now (wbytes .entry)))) ⌝ }
-{
-    let mut spare = budget;
-    let mut i = 0;
-    while i < shares.len() {
-        let claim = numbers::item(weights, wbytes, i);
-        let whole = start(wide_product(budget, claim), claimed);
-        shares[i] = whole;
-        spare -= whole;
-        i += 1;
-    }
-    spare
-}
-
 // ---- the border
 
-// Whether label i of n, with this remainder, stands at a border or before it: nothing else here knows who goes before whom.
-fn ahead(remainder: u64, n: usize, i: usize, border: u64, turn: u64) -> bool
-    requires { ⌜ i < n ⌝ }
-    ensures { λ r. ⌜ r ≡ aheadOf remainder n i border turn ⌝ }
+// Whether a label with this remainder stands at a border or before it. A border is a remainder too, and the larger goes first.
+fn ahead(remainder: u64, border: u64) -> bool
+    ensures { λ r. ⌜ r ≡ aheadOf remainder border ⌝ }
 {
-    if remainder == border {
-        return turn <= (n - 1 - i) as u64;
-    }
-    border < remainder
-}
-
-// The same of a label of the job, whose start is kept.
-fn stands(
-    budget: u32,
-    weights: &[u32],
-    wbytes: &[u8],
-    claimed: u64,
-    n: usize,
-    i: usize,
-    start: u32,
-    border: u64,
-    turn: u64,
-) -> bool
-    requires { ⌜ (claimed ≡ sum (handed (now weights) (now wbytes))) × ((n ≡ length (handed (now weights) (now wbytes))) × (i < n)) ⌝ }
-    requires { ⌜ start ≡ startOf (weightsHanded 7 budget (now weights) (now wbytes)) i ⌝ }
-    ensures { λ r. ⌜ r ≡ aheadIn (weightsHanded 7 budget (now (weights .entry)) (now (wbytes .entry))) border turn i ⌝ }
-{
-    let left = remainder_at(budget, weights, wbytes, claimed, i, start);
-    ahead(left, n, i, border, turn)
+    border <= remainder
 }
 
 // How many labels stand at a border or before it.
@@ -137,122 +145,138 @@ fn count_ahead(
     claimed: u64,
     starts: &[u32],
     border: u64,
-    turn: u64,
 ) -> usize
     requires { ⌜ Started (weightsHanded 7 budget (now weights) (now wbytes)) claimed (now starts) ⌝ }
-    ensures { λ r. ⌜ r ≡ countOf (weightsHanded 7 budget (now (weights .entry)) (now (wbytes .entry))) border turn ⌝ }
+    ensures { λ r. ⌜ r ≡ countOf (weightsHanded 7 budget (now (weights .entry)) (now (wbytes .entry))) border ⌝ }
 {
-    let n = starts.len();
     let mut count: usize = 0;
     let mut i = 0;
-    while i < n {
-        let start = starts[i];
-        count += stands(budget, weights, wbytes, claimed, n, i, start, border, turn) as usize;
+    while i < starts.len() {
+        let rest = remainder_at(budget, weights, wbytes, claimed, i, starts[i]);
+        count += ahead(rest, border) as usize;
         i += 1;
     }
     count
 }
 
-// The lesser of two numbers.
-fn lesser(a: u64, b: u64) -> u64
-    ensures { λ r. ⌜ r ≡ min a b ⌝ }
+// The least remainder so far that is not below `low`, with one more remainder.
+fn lowered(least: u64, rest: u64, low: u64) -> u64
+    ensures { λ r. ⌜ r ≡ if (ltb rest low) least (min least rest) ⌝ }
 {
-    if a < b { a } else { b }
+    if rest < low {
+        least
+    } else {
+        lesser(least, rest)
+    }
 }
 
-// The greater of two numbers.
-fn greater(a: u64, b: u64) -> u64
-    ensures { λ r. ⌜ r ≡ max a b ⌝ }
+// The greatest so far that is below `high`, with one more.
+fn raised(greatest: u64, rest: u64, high: u64) -> u64
+    ensures { λ r. ⌜ r ≡ if (ltb rest high) (max greatest rest) greatest ⌝ }
 {
-    if a < b { b } else { a }
+    if rest < high {
+        greater(greatest, rest)
+    } else {
+        greatest
+    }
 }
 
-// The remainders' least and greatest.
-struct Span {
+// The least and the greatest remainder of some labels.
+struct Reach {
     least: u64,
     greatest: u64,
 }
 
-// How far the remainders reach: the border lies among them, so that few halvings find it where they are close.
-fn outermost(budget: u32, weights: &[u32], wbytes: &[u8], claimed: u64, starts: &[u32]) -> Span
-    requires { ⌜ Started (weightsHanded 7 budget (now weights) (now wbytes)) claimed (now starts) ⌝ }
-    ensures { λ r. ⌜ Spans (weightsHanded 7 budget (now (weights .entry)) (now (wbytes .entry))) claimed (length (now (starts .entry))) (r .least) (r .greatest) ⌝ }
+// How far the remainders reach that are not below `low` and below `high`.
+fn reach_between(
+    budget: u32,
+    weights: &[u32],
+    wbytes: &[u8],
+    claimed: u64,
+    starts: &[u32],
+    low: u64,
+    high: u64,
+) -> Reach
+    requires { ⌜ Started (weightsHanded 7 budget (now weights) (now wbytes)) claimed (now starts) × (low < high) ⌝ }
+    ensures { λ r. ⌜ Narrowed (weightsHanded 7 budget (now (weights .entry)) (now (wbytes .entry))) (length (now (starts .entry))) low high (r .least) (r .greatest) ⌝ }
 {
-    let mut least = claimed;
-    let mut greatest: u64 = 0;
+    let mut least = high;
+    let mut greatest = low;
     let mut i = 0;
     while i < starts.len() {
-        let left = remainder_at(budget, weights, wbytes, claimed, i, starts[i]);
-        least = lesser(least, left);
-        greatest = greater(greatest, left);
+        let rest = remainder_at(budget, weights, wbytes, claimed, i, starts[i]);
+        least = lowered(least, rest, low);
+        greatest = raised(greatest, rest, high);
         i += 1;
     }
-    Span { least, greatest }
+    Reach { least, greatest }
 }
 
-// The remainder at which the units run out, by halving. It ends as soon as just so many labels are found as there are units.
-fn border_remainder(
+// Where the units run out: each label at the border or before it gets one, and so many are left for the labels next behind it.
+struct Border {
+    remainder: u64,
+    left: usize,
+}
+
+// The border, by halving between the least and the greatest remainder. It ends as soon as none is left for the labels behind. A half without a label
+// shows that remainders lie close together: then both ends are moved to the nearest ones.
+fn find_border(
     budget: u32,
     weights: &[u32],
     wbytes: &[u8],
     claimed: u64,
     starts: &[u32],
-    spare: u32,
-) -> u64
+    leavings: Leavings,
+) -> Border
     requires { ⌜ Started (weightsHanded 7 budget (now weights) (now wbytes)) claimed (now starts) ⌝ }
-    requires { ⌜ (spare ≡ spareOf (weightsHanded 7 budget (now weights) (now wbytes))) × (0 < spare) ⌝ }
-    ensures { λ r. ⌜ RunOut (weightsHanded 7 budget (now (weights .entry)) (now (wbytes .entry))) r 0 (r + 1) 0 ⌝ }
+    requires { ⌜ (leavings .spare ≡ spareOf (weightsHanded 7 budget (now weights) (now wbytes))) × ((0 < leavings .spare) × Spans (weightsHanded 7 budget (now weights) (now wbytes)) claimed (length (now starts)) (leavings .least) (leavings .greatest)) ⌝ }
+    ensures { λ r. ⌜ RunOut (weightsHanded 7 budget (now (weights .entry)) (now (wbytes .entry))) (r .remainder) (r .left) ⌝ }
 {
-    let reach = outermost(budget, weights, wbytes, claimed, starts);
-    let units = spare as usize;
-    let mut low = reach.least;
-    let mut high = reach.greatest + 1;
-    let mut found = starts.len();
-    while units < found && 1 < high - low {
-        let middle = low + (high - low) / 2;
-        let count = count_ahead(budget, weights, wbytes, claimed, starts, middle, 0);
-        if units <= count {
-            low = middle;
-            found = count;
+    let units = leavings.spare as usize;
+    let mut low = leavings.least;
+    let mut high = leavings.greatest + 1;
+    // `found` labels stand at `high` or before it, and `more` at `low` or before it
+    let mut found: usize = 0;
+    let mut more = starts.len();
+    let mut close = false;
+    while found < units && 1 < high - low {
+        if close {
+            let reach = reach_between(budget, weights, wbytes, claimed, starts, low, high);
+            low = reach.least;
+            high = reach.greatest + 1;
+            close = false;
         } else {
-            high = middle;
+            let middle = low + (high - low) / 2;
+            let count = count_ahead(budget, weights, wbytes, claimed, starts, middle);
+            if count <= units {
+                close = count == found;
+                high = middle;
+                found = count;
+            } else {
+                close = count == more;
+                low = middle;
+                more = count;
+            }
         }
     }
-    low
-}
-
-// The turn at which they run out among the labels with that remainder, in the same way.
-fn border_turn(
-    budget: u32,
-    weights: &[u32],
-    wbytes: &[u8],
-    claimed: u64,
-    starts: &[u32],
-    spare: u32,
-    border: u64,
-) -> u64
-    requires { ⌜ Started (weightsHanded 7 budget (now weights) (now wbytes)) claimed (now starts) ⌝ }
-    requires { ⌜ (spare ≡ spareOf (weightsHanded 7 budget (now weights) (now wbytes))) × ((0 < spare) × RunOut (weightsHanded 7 budget (now weights) (now wbytes)) border 0 (border + 1) 0) ⌝ }
-    ensures { λ r. ⌜ RunOut (weightsHanded 7 budget (now (weights .entry)) (now (wbytes .entry))) border r border (r + 1) ⌝ }
-{
-    let units = spare as usize;
-    let mut low: u64 = 0;
-    let mut high = starts.len() as u64;
-    let mut found = count_ahead(budget, weights, wbytes, claimed, starts, border, 0);
-    while units < found && 1 < high - low {
-        let middle = low + (high - low) / 2;
-        let count = count_ahead(budget, weights, wbytes, claimed, starts, border, middle);
-        if units <= count {
-            low = middle;
-            found = count;
-        } else {
-            high = middle;
-        }
+    let left = units - found;
+    Border {
+        remainder: high,
+        left,
     }
-    low
 }
 
-// One unit to each label at the border or before it, in place: a label's start is read before it is raised.
+// Whether a label gets a unit, where `seen` labels with lower numbers stand next behind the border: as long as they are fewer than the units left, a
+// label counts as one further ahead than it is.
+fn gets(remainder: u64, border: u64, seen: usize, left: usize) -> bool
+    requires { ⌜ remainder < 18_446_744_073_709_551_615 ⌝ }
+    ensures { λ r. ⌜ r ≡ getsOf remainder border seen left ⌝ }
+{
+    let counted = remainder + (seen < left) as u64;
+    ahead(counted, border)
+}
+
+// The units go to the labels at the border or before it, and to the first ones next behind it. A label's start is read before its share takes its place.
 fn give(
     budget: u32,
     weights: &[u32],
@@ -260,18 +284,20 @@ fn give(
     claimed: u64,
     shares: &mut [u32],
     border: u64,
-    turn: u64,
+    left: usize,
 )
     requires { ⌜ Started (weightsHanded 7 budget (now weights) (now wbytes)) claimed (now shares) ⌝ }
-    requires { ⌜ RunOut (weightsHanded 7 budget (now weights) (now wbytes)) border turn border (turn + 1) ⌝ }
+    requires { ⌜ RunOut (weightsHanded 7 budget (now weights) (now wbytes)) border left ⌝ }
     ensures { λ _. ⌜ now (shares .exit) ≡ sharesOf (weightsHanded 7 budget (now (weights .entry)) (now (wbytes .entry))) ⌝ }
 {
-    let n = shares.len();
+    let mut seen: usize = 0;
     let mut i = 0;
-    while i < n {
+    while i < shares.len() {
         let start = shares[i];
-        shares[i] = start
-            + stands(budget, weights, wbytes, claimed, n, i, start, border, turn) as u32;
+        let rest = remainder_at(budget, weights, wbytes, claimed, i, start);
+        shares[i] = start + gets(rest, border, seen, left) as u32;
+        let next = rest + 1;
+        seen += (next == border) as usize;
         i += 1;
     }
 }
@@ -285,13 +311,21 @@ fn share(budget: u32, weights: &[u32], wbytes: &[u8], shares: &mut [u32]) -> u32
     ensures { λ r. ⌜ (now (shares .exit) ≡ sharesOf (weightsHanded 7 budget (now (weights .entry)) (now (wbytes .entry)))) × (r ≡ spareOf (weightsHanded 7 budget (now (weights .entry)) (now (wbytes .entry)))) ⌝ }
 {
     let claimed = claims_sum(weights, wbytes);
-    let spare = write_starts(budget, weights, wbytes, claimed, shares);
+    let leavings = write_starts(budget, weights, wbytes, claimed, shares);
+    let spare = leavings.spare;
     if spare == 0 {
         return 0;
     }
-    let border = border_remainder(budget, weights, wbytes, claimed, shares, spare);
-    let turn = border_turn(budget, weights, wbytes, claimed, shares, spare, border);
-    give(budget, weights, wbytes, claimed, shares, border, turn);
+    let border = find_border(budget, weights, wbytes, claimed, shares, leavings);
+    give(
+        budget,
+        weights,
+        wbytes,
+        claimed,
+        shares,
+        border.remainder,
+        border.left,
+    );
     spare
 }
 

@@ -1,11 +1,11 @@
 -- What shifts and `|` do to the bits of a word, and what a store does to the bits of a slice.
 -- Assumes nothing.
-use mathlib.Core.Path.{_≡_, ap, ap₂, sym, subst, _∙_}
+use mathlib.Core.Path.{_≡_, refl, ap, ap₂, sym, subst, _∙_}
 use Prim.Native.Nat.{ℕ, suc, _+_, _-_, _*_, _/_, _%_, _^_, _≤_, _<_, max}
 use native.Mathlib.Nat.{mod-lt, div-eq-of-lt, lt-of-lt-of-le, mul-assoc}
 use native.Mathlib.Omega.{arith}
 use mathlib.Core.List.{List}
-use lib.Arith.{digits-mod}
+use lib.Arith.{bin-ind, digits-mod}
 use lib.Pow.{pow-pos, pow-mono, pow-add, shr-shr, shl-shr, field, mod-mod-pow}
 use lib.Bits.{bitOr, or-shr, or-step, shifted-even}
 use lib.ListN.{length, set}
@@ -25,6 +25,17 @@ or-low a b = ap (λ (x : ℕ). x % 2) (or-step a b) ∙ digits-mod (bitOr (a / 2
 pub bit-or : (a b k : ℕ) → bitOf (bitOr a b) k ≡ max (bitOf a k) (bitOf b k)
 unfolding bitOf
 bit-or a b k = ap (λ (x : ℕ). x % 2) (or-shr a b k) ∙ or-low (a / 2 ^ k) (b / 2 ^ k)
+
+-- three words give the same, whichever two are joined first
+pub or-assoc : (a b c : ℕ) → bitOr (bitOr a b) c ≡ bitOr a (bitOr b c)
+or-assoc = bin-ind (λ (a : ℕ). (b c : ℕ) → bitOr (bitOr a b) c ≡ bitOr a (bitOr b c))
+    (λ b c. refl)
+    (λ a half b c.
+    or-step (bitOr a b) c
+    ∙ ap₂ (λ (x y : ℕ). x * 2 + y)
+    (ap (λ (x : ℕ). bitOr x (c / 2)) (or-shr a b 1) ∙ half (b / 2) (c / 2) ∙ ap (bitOr (a / 2)) (sym (or-shr b c 1)))
+    (omega (arith, or-low a b, or-low b c))
+    ∙ sym (or-step a (bitOr b c)))
 
 -- nothing stands at or above a bound
 pub bit-above : (a m k : ℕ) → a < 2 ^ m → m ≤ k → bitOf a k ≡ 0

@@ -36,44 +36,6 @@ pub record NewWord (s : List ℕ) (w m y : ℕ) : Type 0 where
   pub short : (u : ℕ) → u / 64 ≡ m → u < w → bitOf y (u % 64) ≡ bit s u
   pub long : (u : ℕ) → u / 64 ≡ m → w ≤ u → bitOf y (u % 64) ≡ max (bit s u) (bit s (u - w))
 
--- moved up by whole words
-pub new-words : (s : List ℕ) (q m : ℕ) → q ≤ m → NewWord s (64 * q) m (bitOr (at s m) (at s (m - q)))
-new-words s q m h = record {
-  short = λ u e l. absurd (omega arith);
-  long = λ u e l.
-      let k = u % 64 in
-      omega (arith, bit-or (at s m) (at s (m - q)) k, bit-in s m k u (omega arith) (omega arith), bit-in s (m - q) k (u - 64 * q) (omega arith) (omega arith));
-}
-
-module _ (s : List ℕ) (q r : ℕ) (some : 0 < r) (few : r < 64) where
-  -- moved up by words and bits: the bits of two words
-  pub new-bits : (m : ℕ) → q < m → at s (m - q - 1) < 2 ^ 64
-      → NewWord s (64 * q + r) m (bitOr (bitOr (at s m) (at s (m - q) * 2 ^ r % 2 ^ 64)) (at s (m - q - 1) / 2 ^ (64 - r)))
-  new-bits m h narrow =
-      let high = at s (m - q) in
-      let low = at s (m - q - 1) in
-      let w = 64 * q + r in
-      record {
-        short = λ u e l. absurd (omega arith);
-        long = λ u e l.
-            let k = u % 64 in
-            let three : bitOf (bitOr (bitOr (at s m) (high * 2 ^ r % 2 ^ 64)) (low / 2 ^ (64 - r))) k ≡ max (max (bit s u) (bitOf (high * 2 ^ r % 2 ^ 64) k)) (bitOf low (64 - r + k)) =
-            omega (arith, bit-or (bitOr (at s m) (high * 2 ^ r % 2 ^ 64)) (low / 2 ^ (64 - r)) k, bit-or (at s m) (high * 2 ^ r % 2 ^ 64) k, bit-in s m k u (omega arith) (omega arith), bit-shr low (64 - r) k) in
-            by k r
-            (λ b. omega (arith, three, bit-shl-low high r k b (omega arith), bit-in s (m - q - 1) (64 - r + k) (u - w) (omega arith) (omega arith)))
-            (λ b. omega (arith, three, bit-shl high r k b (omega arith), bit-above low 64 (64 - r + k) narrow (omega arith), bit-in s (m - q) (k - r) (u - w) (omega arith) (omega arith)));
-      }
-
-  -- the lowest word that is reached: the bits of one
-  pub new-lowest : NewWord s (64 * q + r) q (bitOr (at s q) (at s 0 * 2 ^ r % 2 ^ 64))
-  new-lowest =
-      let both : (u : ℕ) → u / 64 ≡ q → bitOf (bitOr (at s q) (at s 0 * 2 ^ r % 2 ^ 64)) (u % 64) ≡ max (bit s u) (bitOf (at s 0 * 2 ^ r % 2 ^ 64) (u % 64)) =
-      λ u e. omega (arith, bit-or (at s q) (at s 0 * 2 ^ r % 2 ^ 64) (u % 64), bit-in s q (u % 64) u (omega arith) (omega arith)) in
-      record {
-        short = λ u e l. omega (arith, both u e, bit-shl-low (at s 0) r (u % 64) (omega arith) (omega arith));
-        long = λ u e l. omega (arith, both u e, bit-shl (at s 0) r (u % 64) (omega arith) (omega arith), bit-in s 0 (u % 64 - r) (u - (64 * q + r)) (omega arith) (omega arith));
-      }
-
 module _ (s : List ℕ) (w len : ℕ) where
   -- one word more
   pub added-more : (t : List ℕ) (n m y : ℕ) → n ≡ m + 1 → m < length t → Added s t w n len → NewWord s w m y → Added s (set t m y) w m len
@@ -93,6 +55,52 @@ module _ (s : List ℕ) (w len : ℕ) where
         short = λ u a b l. by u (64 * lo) (λ c. bit-same s t u (d .below (u / 64) (omega arith))) (λ c. d .short u c b l);
         long = λ u a b l. d .long u (omega arith) b l;
         below = λ m l. absurd (omega arith);
+      }
+
+-- moved up by whole words
+pub new-words : (s : List ℕ) (q m : ℕ) → q ≤ m → NewWord s (64 * q) m (bitOr (at s m) (at s (m - q)))
+new-words s q m h = record {
+  short = λ u e l. absurd (omega arith);
+  long = λ u e l.
+      let k = u % 64 in
+      omega (arith, bit-or (at s m) (at s (m - q)) k, bit-in s m k u (omega arith) (omega arith), bit-in s (m - q) k (u - 64 * q) (omega arith) (omega arith));
+}
+
+module _ (s : List ℕ) (q r : ℕ) (some : 0 < r) (few : r < 64) where
+  -- moved up by words and bits: the bits of two words
+  new-bits : (m : ℕ) → q < m → at s (m - q - 1) < 2 ^ 64
+      → NewWord s (64 * q + r) m (bitOr (bitOr (at s m) (at s (m - q) * 2 ^ r % 2 ^ 64)) (at s (m - q - 1) / 2 ^ (64 - r)))
+  new-bits m h narrow =
+      let high = at s (m - q) in
+      let low = at s (m - q - 1) in
+      let w = 64 * q + r in
+      record {
+        short = λ u e l. absurd (omega arith);
+        long = λ u e l.
+            let k = u % 64 in
+            let three : bitOf (bitOr (bitOr (at s m) (high * 2 ^ r % 2 ^ 64)) (low / 2 ^ (64 - r))) k ≡ max (max (bit s u) (bitOf (high * 2 ^ r % 2 ^ 64) k)) (bitOf low (64 - r + k)) =
+            omega (arith, bit-or (bitOr (at s m) (high * 2 ^ r % 2 ^ 64)) (low / 2 ^ (64 - r)) k, bit-or (at s m) (high * 2 ^ r % 2 ^ 64) k, bit-in s m k u (omega arith) (omega arith), bit-shr low (64 - r) k) in
+            by k r
+            (λ b. omega (arith, three, bit-shl-low high r k b (omega arith), bit-in s (m - q - 1) (64 - r + k) (u - w) (omega arith) (omega arith)))
+            (λ b. omega (arith, three, bit-shl high r k b (omega arith), bit-above low 64 (64 - r + k) narrow (omega arith), bit-in s (m - q) (k - r) (u - w) (omega arith) (omega arith)));
+      }
+
+  -- and so one word more, as what it takes are still the old words
+  pub bits-more : (t : List ℕ) (n m len : ℕ) → n ≡ m + 1 → q < m → m < length t → at t (m - q - 1) < 2 ^ 64 → Added s t (64 * q + r) n len
+      → Added s (set t m (bitOr (bitOr (at t m) (at t (m - q) * 2 ^ r % 2 ^ 64)) (at t (m - q - 1) / 2 ^ (64 - r)))) (64 * q + r) m len
+  bits-more t n m len e h inside narrow d =
+      let kept = d .below in
+      added-more s (64 * q + r) len t n m _ e inside d
+      (rw (kept m (omega arith), kept (m - q) (omega arith), kept (m - q - 1) (omega arith)) (new-bits m h (omega (arith, kept (m - q - 1) (omega arith)))))
+
+  -- the lowest word that is reached: the bits of one
+  pub new-lowest : NewWord s (64 * q + r) q (bitOr (at s q) (at s 0 * 2 ^ r % 2 ^ 64))
+  new-lowest =
+      let both : (u : ℕ) → u / 64 ≡ q → bitOf (bitOr (at s q) (at s 0 * 2 ^ r % 2 ^ 64)) (u % 64) ≡ max (bit s u) (bitOf (at s 0 * 2 ^ r % 2 ^ 64) (u % 64)) =
+      λ u e. omega (arith, bit-or (at s q) (at s 0 * 2 ^ r % 2 ^ 64) (u % 64), bit-in s q (u % 64) u (omega arith) (omega arith)) in
+      record {
+        short = λ u e l. omega (arith, both u e, bit-shl-low (at s 0) r (u % 64) (omega arith) (omega arith));
+        long = λ u e l. omega (arith, both u e, bit-shl (at s 0) r (u % 64) (omega arith) (omega arith), bit-in s 0 (u % 64 - r) (u - (64 * q + r)) (omega arith) (omega arith));
       }
 
 -- ---- the last word cut off

@@ -27,17 +27,38 @@ fn add_words(words: &mut [u64], q: usize)
     }
 }
 
-// A label that weighs q words and r bits: each word takes the bits of two, the lowest that it reaches those of one. The two are not
-// joined before the word takes them: only so does the loop run in vectors.
+// So many words are few: starting a vector loop for each label costs more than it brings. From about 20 words on it pays.
+const FEW: usize = 16;
+
+// A label that weighs q words and r bits, in vectors. Few words don't take it here; of more, all do but the lowest that it reaches. Returns
+// the first that has. A word takes the bits of two, and the two aren't joined before: only so does the loop run in vectors.
+fn add_in_vectors(words: &mut [u64], q: usize, r: usize) -> usize
+    requires { ⌜ (q < length (now words)) × ((0 < r) × (r < 64)) ⌝ }
+    ensures { λ m. ⌜ ((q < m) × (m ≤ length (now (words .entry)))) × Added (now (words .entry)) (now (words .exit)) (64 * q + r) m (length (now (words .entry))) ⌝ }
+{
+    let mut m = words.len();
+    if m <= FEW {
+        return m;
+    }
+    let back = 64 - r;
+    while q + 1 < m {
+        m -= 1;
+        words[m] = words[m] | (words[m - q] << r) | (words[m - q - 1] >> back);
+    }
+    m
+}
+
+// A label that weighs q words and r bits: each word takes the bits of two, the lowest that it reaches those of one. Only few words are left
+// to this loop. The two are joined before a word takes them, which is one double shift and keeps the loop out of vectors.
 fn add_bits(words: &mut [u64], q: usize, r: usize)
     requires { ⌜ (q < length (now words)) × ((0 < r) × (r < 64)) ⌝ }
     ensures { λ _. ⌜ Added (now (words .entry)) (now (words .exit)) (64 * q + r) 0 (length (now (words .entry))) ⌝ }
 {
     let back = 64 - r;
-    let mut m = words.len();
+    let mut m = add_in_vectors(words, q, r);
     while q + 1 < m {
         m -= 1;
-        words[m] = words[m] | (words[m - q] << r) | (words[m - q - 1] >> back);
+        words[m] = words[m] | ((words[m - q] << r) | (words[m - q - 1] >> back));
     }
     words[q] = words[q] | (words[0] << r);
 }
@@ -92,17 +113,16 @@ fn is_set(words: &[u64], t: usize) -> bool
     (words[t / 64] >> (t % 64)) % 2 == 1
 }
 
-// How many bits are set, bit by bit.
+// How many bits are set, a word at a time.
 fn count_totals(words: &[u64]) -> u32
     requires { ⌜ 64 * length (now words) ≤ mostBudget + 1 ⌝ }
     ensures { λ r. ⌜ r ≡ tally (isSet (now (words .entry))) (upTo (64 * length (now (words .entry)))) ⌝ }
 {
-    let end = 64 * words.len();
     let mut count: u32 = 0;
-    let mut t = 0;
-    while t < end {
-        count += is_set(words, t) as u32;
-        t += 1;
+    let mut m = 0;
+    while m < words.len() {
+        count += u64::count_ones(words[m]);
+        m += 1;
     }
     count
 }

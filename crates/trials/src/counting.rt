@@ -1,10 +1,8 @@
 // What came of the drawn jobs, counted, and the lines that say it.
 use crate::comparing::Same;
-use crate::drawing;
-use crate::drawing::sum;
-use crate::lending::lesser;
 use crate::lines;
 use every::Outcome;
+use jobs::lesser;
 ghost use Prim.Native.Nat.{_<_};
 
 // Of how many jobs that differ it is said how.
@@ -41,7 +39,7 @@ pub const COUNTS: usize = 46;
 // One more of what is counted at a place.
 fn tick(counts: &mut [u64], place: usize) {
     if place < counts.len() {
-        counts[place] = sum(counts[place], 1);
+        counts[place] = std::num::wrapping_add_u64(counts[place], 1);
     }
 }
 
@@ -98,12 +96,14 @@ fn count_tie(outcome: Outcome, counts: &mut [u64]) {
     }
 }
 
-// Counts a job by its kind, and, as bytes, whether it is damaged.
-fn count_job(job: u64, as_bytes: bool, counts: &mut [u64]) {
-    let kind = drawing::kind_of(job);
-    if !as_bytes {
-        tick(counts, OF_KIND + lesser(kind as usize, 8));
-    } else if drawing::is_damaged(job) {
+// Counts a job by its kind.
+pub fn count_kind(kind: u32, counts: &mut [u64]) {
+    tick(counts, OF_KIND + lesser(kind as usize, 8));
+}
+
+// Counts a job whose bytes are damaged.
+pub fn count_damage(damaged: bool, counts: &mut [u64]) {
+    if damaged {
         tick(counts, DAMAGED);
     }
 }
@@ -119,9 +119,8 @@ fn count_difference(job: u64, as_bytes: bool, same: Same, counts: &mut [u64]) {
     tick(counts, DIFFER);
 }
 
-// Counts what came of a job.
+// Counts what came of a job as lists or as bytes.
 pub fn note(job: u64, as_bytes: bool, outcome: Outcome, same: Same, counts: &mut [u64]) {
-    count_job(job, as_bytes, counts);
     tick(counts, place_of(as_bytes, outcome));
     count_tie(outcome, counts);
     count_difference(job, as_bytes, same, counts);
@@ -174,7 +173,7 @@ pub fn print_all(jobs: u64, counts: &[u64]) {
     kind_lines(counts);
     print::number(
         b"jobs of another kind",
-        sum(counted(counts, OF_KIND), counted(counts, OF_KIND + 8)),
+        std::num::wrapping_add_u64(counted(counts, OF_KIND), counted(counts, OF_KIND + 8)),
     );
     print::number(b"jobs whose bytes were damaged", counted(counts, DAMAGED));
     refusals_line(counts);

@@ -7,16 +7,17 @@ use crate::comparing::compared;
 use crate::comparing::outcome_of;
 use crate::counting;
 use crate::counting::COUNTS;
+use crate::counting::count_damage;
+use crate::counting::count_kind;
 use crate::counting::note;
-use crate::drawing;
-use crate::job_bytes;
-use crate::jobs::Job;
-use crate::jobs::part;
-use crate::lending::fitting;
-use crate::lending::fitting_bytes;
-use crate::lending::fitting_words;
 use crate::solving::by_bytes;
 use crate::solving::by_lists;
+use jobs::Job;
+use jobs::draw;
+use jobs::draw_bytes;
+use jobs::fitting;
+use jobs::fitting_words;
+use jobs::part;
 
 // How many jobs are drawn.
 const JOBS: u64 = 100_000;
@@ -67,9 +68,9 @@ fn every_by_lists(job: Job, numbers: &[u32], tables: Tables) -> Left {
         part(numbers, 0, job.weights),
         part(numbers, job.weights, job.values),
         part(numbers, job.values, job.copies),
-        &mut cells[..c],
-        &mut words[..w],
-        &mut picks[..p],
+        &mut cells[0..c],
+        &mut words[0..w],
+        &mut picks[0..p],
     );
     Left {
         outcome,
@@ -89,7 +90,7 @@ fn every_by_bytes(job: Job, bytes: &[u8], tables: Tables) -> Left {
     let c = fitting(&cells, job.cells);
     let w = fitting_words(&words, job.words);
     let p = fitting(&picks, job.picks);
-    let outcome = every::solve_bytes(bytes, &mut cells[..c], &mut words[..w], &mut picks[..p]);
+    let outcome = every::solve_bytes(bytes, &mut cells[0..c], &mut words[0..w], &mut picks[0..p]);
     Left {
         outcome,
         tables: Tables {
@@ -105,29 +106,21 @@ fn try_lists(number: u64, job: Job, numbers: &[u32], tables: Tables, counts: &mu
     let planner = left_by_lists(job, numbers, tables);
     let every = every_by_lists(job, numbers, tables);
     let same = compared(planner, every);
+    count_kind(job.kind, counts);
     note(number, false, every.outcome, same, counts);
     planner.tables
-}
-
-// The bytes of a job, of which a third are damaged. Answers how many they are.
-fn bytes_of(number: u64, job: Job, numbers: &[u32], bytes: &mut [u8]) -> usize {
-    let length = job_bytes::write(bytes, job, numbers);
-    if drawing::is_damaged(number) {
-        drawing::damage(number, bytes, length)
-    } else {
-        length
-    }
 }
 
 // Tries a job as bytes. Answers what the slices hold then.
 fn try_bytes(number: u64, job: Job, numbers: &[u32], tables: Tables, counts: &mut [u64]) -> Tables {
     let mut space = [0u8; 128];
-    let written = bytes_of(number, job, numbers, &mut space);
-    let length = fitting_bytes(&space, written);
-    let bytes = &space[..length];
+    let drawn = draw_bytes(number, job, numbers, &mut space);
+    let count = drawn.count;
+    let bytes = &space[0..count];
     let planner = left_by_bytes(job, bytes, tables);
     let every = every_by_bytes(job, bytes, tables);
     let same = compared(planner, every);
+    count_damage(drawn.damaged, counts);
     note(number, true, every.outcome, same, counts);
     planner.tables
 }
@@ -135,7 +128,7 @@ fn try_bytes(number: u64, job: Job, numbers: &[u32], tables: Tables, counts: &mu
 // Draws a job and tries it, both ways. Answers what the slices hold then.
 fn draw_job(number: u64, tables: Tables, counts: &mut [u64]) -> Tables {
     let mut numbers = [0u32; 24];
-    let job = drawing::draw(number, &mut numbers);
+    let job = draw(number, &mut numbers);
     let after = try_lists(number, job, &numbers, tables, counts);
     try_bytes(number, job, &numbers, after, counts)
 }

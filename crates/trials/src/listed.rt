@@ -1,15 +1,13 @@
 // The trials that standard input lists: the cases of document 01, each answered as lists where its mark is `-`, and also as bytes where it is `*`;
 // and its bounds, whose mark is `>`, with what came at the bound and one past it. Slices held something else before. Lines with none of these
 // marks are words for who reads the list.
-use crate::job_bytes;
-use crate::jobs::Job;
-use crate::lending::fitting;
-use crate::lending::fitting_bytes;
-use crate::lending::lesser;
 use crate::lines;
-use crate::reading::find;
-use crate::reading::job_at;
 use crate::solving;
+use jobs::Job;
+use jobs::find;
+use jobs::fitting;
+use jobs::job_at;
+use jobs::lesser;
 use libc::STDIN_FILENO;
 use meaning::Answer;
 ghost use Prim.Native.Nat.{_≤_};
@@ -41,7 +39,7 @@ fn by_bytes(job: Job, bytes: &[u8], picks: &mut [u32]) -> Answer {
 // The lines of an answer.
 fn show(job: Job, answer: Answer, picks: &[u32]) {
     let shown = fitting(picks, lesser(job.weights, 1_024));
-    print::answer(job.kind, answer, &picks[..shown]);
+    print::answer(job.kind, answer, &picks[0..shown]);
 }
 
 // A case as lists.
@@ -65,9 +63,8 @@ fn case_as_bytes(line: &[u8], colon: usize)
     let mut bytes = [0u8; 128];
     let mut picks = [9u32; 1_024];
     let job = job_at(line, colon, &mut numbers);
-    let written = job_bytes::write(&mut bytes, job, &numbers);
-    let length = fitting_bytes(&bytes, written);
-    let answer = by_bytes(job, &bytes[..length], &mut picks);
+    let length = jobs::write(&mut bytes, job, &numbers);
+    let answer = by_bytes(job, &bytes[0..length], &mut picks);
     name(line, colon);
     lines::named(b" as", length as u64);
     lines::text(b" bytes\n");
@@ -124,5 +121,5 @@ fn run_lines(text: &[u8]) {
 pub fn run() {
     let mut text = [0u8; 16_384];
     let length = io::read_full(STDIN_FILENO, &mut text);
-    run_lines(&text[..length]);
+    run_lines(&text[0..length]);
 }

@@ -2,14 +2,9 @@
 // that are drawn, each answered by the planner and by `every`, which tries every selection. The gate holds the print to the file stdout.
 mod comparing;
 mod counting;
-mod drawing;
 mod generated;
-mod job_bytes;
-mod jobs;
-mod lending;
 mod lines;
 mod listed;
-mod reading;
 mod solving;
 
 // Runs all trials.

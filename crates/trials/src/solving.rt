@@ -1,8 +1,8 @@
 // The planner, by lists and by bytes, on as many places as are lent.
-use crate::jobs::Job;
-use crate::jobs::part;
-use crate::lending::fitting;
-use crate::lending::fitting_words;
+use jobs::Job;
+use jobs::fitting;
+use jobs::fitting_words;
+use jobs::part;
 use meaning::Answer;
 
 // The planner's answer to lists.
@@ -22,9 +22,9 @@ pub fn by_lists(
         part(numbers, 0, job.weights),
         part(numbers, job.weights, job.values),
         part(numbers, job.values, job.copies),
-        &mut cells[..c],
-        &mut words[..w],
-        &mut picks[..p],
+        &mut cells[0..c],
+        &mut words[0..w],
+        &mut picks[0..p],
     )
 }
 
@@ -39,5 +39,5 @@ pub fn by_bytes(
     let c = fitting(cells, job.cells);
     let w = fitting_words(words, job.words);
     let p = fitting(picks, job.picks);
-    planner::solve_bytes(bytes, &mut cells[..c], &mut words[..w], &mut picks[..p])
+    planner::solve_bytes(bytes, &mut cells[0..c], &mut words[0..w], &mut picks[0..p])
 }

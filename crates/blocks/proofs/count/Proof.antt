@@ -1,3 +1,5 @@
+-- `blocks::count` meets its contract: the amounts so far are swept, each by the new ways one size before it.
+-- Assumes nothing.
 use mathlib.Core.Path.{_≡_, refl}
 use Prim.Native.Nat.{_-_, _≤_, max}
 use native.Mathlib.Omega.{arith}
@@ -19,23 +21,23 @@ abbrev μ-loop : tie.MeasureT-loop
 loop-holds : tie.Need-loop-holds Inv-loop μ-loop
 loop-holds c = let a = c .before .args in (omega arith, omega arith, refl, swept-none waysOf (a .words .now) (a .w) (a .w))
 
-mul-both : tie.Need-mul-both Inv-loop μ-loop
-mul-both c = search needs
+mul-ways-of : tie.Need-mul-ways-of Inv-loop μ-loop
+mul-ways-of c = search needs
 
-slice-read-both : tie.Need-slice-read-both Inv-loop μ-loop
-slice-read-both c = search needs
+slice-read-ways-of : tie.Need-slice-read-ways-of Inv-loop μ-loop
+slice-read-ways-of c = search needs
 
-sub-both : tie.Need-sub-both Inv-loop μ-loop
-sub-both c = search needs
+sub-ways-of : tie.Need-sub-ways-of Inv-loop μ-loop
+sub-ways-of c = search needs
 
-mul-both-2 : tie.Need-mul-both-2 Inv-loop μ-loop
-mul-both-2 c = search needs
+mul-ways-of-2 : tie.Need-mul-ways-of-2 Inv-loop μ-loop
+mul-ways-of-2 c = search needs
 
-slice-read-both-2 : tie.Need-slice-read-both-2 Inv-loop μ-loop
-slice-read-both-2 c = search needs
+slice-read-ways-of-2 : tie.Need-slice-read-ways-of-2 Inv-loop μ-loop
+slice-read-ways-of-2 c = search needs
 
-both-requires : tie.Need-both-requires Inv-loop μ-loop
-both-requires c κs = search needs
+ways-of-requires : tie.Need-ways-of-requires Inv-loop μ-loop
+ways-of-requires c κs = search needs
 
 mul-words : tie.Need-mul-words Inv-loop μ-loop
 mul-words c = search needs
@@ -56,7 +58,7 @@ loop-again c =
       omega arith,
       omega arith,
       simp length-set (l .inv .2),
-      swept-more waysOf (a .words .now) (a .w) (l .words) (a .w) (l .a) (c .both .result) (omega arith) (omega arith) (omega arith) (l .inv .0) (l .inv .3) (c .both .ensures),
+      swept-more waysOf (a .words .now) (a .w) (l .words) (a .w) (l .a) (c .ways-of .result) (omega arith) (omega arith) (omega arith) (l .inv .0) (l .inv .3) (c .ways-of .ensures),
     )
 
 same-length : tie.Need-same-length Inv-loop μ-loop
@@ -75,12 +77,12 @@ count-spec =
     Inv-loop
     μ-loop
     loop-holds
-    mul-both
-    slice-read-both
-    sub-both
-    mul-both-2
-    slice-read-both-2
-    both-requires
+    mul-ways-of
+    slice-read-ways-of
+    sub-ways-of
+    mul-ways-of-2
+    slice-read-ways-of-2
+    ways-of-requires
     mul-words
     slice-write-words
     add-a

@@ -1,3 +1,5 @@
+-- `blocks::fewest` meets its contract: the last cell shows the mark and nothing is laid (`no-blocks`), or blocks are laid (`blocks-laid`).
+-- Assumes nothing.
 use mathlib.Core.Path.{_≡_, refl, sym, ap, _∙_}
 use Prim.Native.Nat.{ℕ, _+_, _-_, _≤_}
 use native.Mathlib.Nat.{add-sub-cancel}
@@ -27,20 +29,20 @@ module _ (s : tie.Start) where
   abbrev job : Job
   job = jobOf 5 (s .args .budget ∷ []) sizes [] []
 
-  record Room : Type 0 where
-    cells : s .args .budget + 1 ≤ length (s .args .cells .now)
-    picks : length sizes ≤ length (s .args .picks .now)
+  record Kept : Type 0 where
+    cells-room : s .args .budget + 1 ≤ length (s .args .cells .now)
+    picks-room : length sizes ≤ length (s .args .picks .now)
     bounds : Bounded (s .args .budget + 1) sizes
 
-  ok : Room
+  ok : Kept
   unfolding jobOf labels roomFor roomOf lentOf rulesOf
   ok =
       let lent = lentOf (s .args .cells .now) [] (s .args .picks .now) in
       let keeps = kept fewest-blocks job lent (s .pre) in
-      record { cells = keeps .cells-room; picks = keeps .picks-room; bounds = bounded fewest-blocks job lent refl keeps }
+      record { cells-room = keeps .cells-room; picks-room = keeps .picks-room; bounds = bounded fewest-blocks job lent refl keeps }
 
   lent : length (take (s .args .budget + 1) (s .args .cells .now)) ≡ s .args .budget + 1
-  lent = length-take-le (s .args .budget + 1) (s .args .cells .now) (ok .cells)
+  lent = length-take-le (s .args .budget + 1) (s .args .cells .now) (ok .cells-room)
 
 -- what the call of `fill_fewest` leaves
 module _ (f : tie.After-fill-fewest) where
@@ -75,7 +77,7 @@ module _ (f : tie.After-fill-fewest) where
 
   -- and the first picks are one for each size
   picks-long : length (take (f .before .before .list-length .result) (start .args .picks .now)) ≡ length (sizes start)
-  picks-long = length-take-le (f .before .before .list-length .result) (start .args .picks .now) (omega (arith, counted, ok start .picks)) ∙ counted
+  picks-long = length-take-le (f .before .before .list-length .result) (start .args .picks .now) (omega (arith, counted, ok start .picks-room)) ∙ counted
 
 list-length-requires : tie.Need-list-length-requires
 list-length-requires c κs = search needs
@@ -84,7 +86,7 @@ add-width : tie.Need-add-width
 add-width c = search needs
 
 slice-relend-prefix-fill-fewest : tie.Need-slice-relend-prefix-fill-fewest
-slice-relend-prefix-fill-fewest c = ok (c .before .before .before .before .before) .cells
+slice-relend-prefix-fill-fewest c = ok (c .before .before .before .before .before) .cells-room
 
 slice-aggregate-fill-fewest : tie.Need-slice-aggregate-fill-fewest
 slice-aggregate-fill-fewest c = sym (lent (c .before .before .before .before .before .before))
@@ -118,7 +120,7 @@ slice-aggregate-way-down : tie.Need-slice-aggregate-way-down
 slice-aggregate-way-down c = let f = c .before .before .before .before .before in sym (row-long f) ∙ ap length (sym (row-front f))
 
 slice-relend-prefix-way-down : tie.Need-slice-relend-prefix-way-down
-slice-relend-prefix-way-down c = let f = c .before .before .before .before .before in omega (arith, counted f, ok (start f) .picks)
+slice-relend-prefix-way-down c = let f = c .before .before .before .before .before in omega (arith, counted f, ok (start f) .picks-room)
 
 slice-aggregate-way-down-2 : tie.Need-slice-aggregate-way-down-2
 slice-aggregate-way-down-2 c = let f = c .before .before .before .before .before .before in counted f ∙ sym (picks-long f)

@@ -1,3 +1,5 @@
+-- `blocks::fill_fewest` meets its contract: the row so far is grown size by size, from one in which amount 0 shows 0 and all others the mark.
+-- Assumes nothing.
 use mathlib.Core.Path.{_≡_, refl, sym, _∙_}
 use Prim.Native.Nat.{ℕ, _-_, _≤_, _<_}
 use native.Mathlib.Numerals.{add-one}

@@ -1,3 +1,5 @@
+-- `blocks::fill_ways` meets its contract: the row so far is grown size by size, from one in which amount 0 alone has a way.
+-- Assumes nothing.
 use mathlib.Core.Path.{_≡_, refl, sym, _∙_}
 use Prim.Native.Nat.{ℕ, _-_, _≤_, _<_}
 use native.Mathlib.Numerals.{add-one}

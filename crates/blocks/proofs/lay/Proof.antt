@@ -1,3 +1,5 @@
+-- `blocks::lay` meets its contract: the row is swept stretch by stretch (`swept-on`), wherever a stretch ends.
+-- Assumes nothing.
 use mathlib.Core.Path.{_≡_, refl, _∙_}
 use Prim.Native.Nat.{_-_, _≤_, max}
 use native.Mathlib.Omega.{arith}
@@ -19,14 +21,14 @@ abbrev μ-loop : tie.MeasureT-loop
 loop-holds : tie.Need-loop-holds Inv-loop μ-loop
 loop-holds c = let a = c .before .args in (omega arith, omega arith, refl, swept-none fewerOf (a .row .now) (a .w) (a .w))
 
-stretch-end-requires : tie.Need-stretch-end-requires Inv-loop μ-loop
-stretch-end-requires c κs = search needs
+lay-end-requires : tie.Need-lay-end-requires Inv-loop μ-loop
+lay-end-requires c κs = search needs
 
 lay-stretch-requires : tie.Need-lay-stretch-requires Inv-loop μ-loop
 lay-stretch-requires c κs =
     let l = c .before .before .before .loop in
     let s = c .before .before .before .before .before in
-    let end = c .before .stretch-end .ensures in
+    let end = c .before .lay-end .ensures in
     (s .pre, (l .inv .0, (omega arith, omega arith)))
 
 loop-less : tie.Need-loop-less Inv-loop μ-loop
@@ -36,7 +38,7 @@ loop-again : tie.Need-loop-again Inv-loop μ-loop
 loop-again c =
     let l = c .before .before .before .before .before .before .loop in
     let a = c .before .before .before .before .before .before .before .before .args in
-    let end = c .before .before .before .before .stretch-end in
+    let end = c .before .before .before .before .lay-end in
     let made = c .before .before .lay-stretch in (
       omega (arith, end .ensures),
       omega (arith, end .ensures),
@@ -60,7 +62,7 @@ lay-spec =
     Inv-loop
     μ-loop
     loop-holds
-    stretch-end-requires
+    lay-end-requires
     lay-stretch-requires
     loop-less
     loop-again

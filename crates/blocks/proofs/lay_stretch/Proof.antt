@@ -1,3 +1,5 @@
+-- `blocks::lay_stretch` meets its contract: the amounts so far are swept, each by the new cell one size before it.
+-- Assumes nothing.
 use mathlib.Core.Path.{_≡_, refl}
 use Prim.Native.Nat.{_-_, _≤_}
 use native.Mathlib.Omega.{arith}

@@ -1,3 +1,5 @@
+-- `blocks::leads` meets its contract: a size above the amount leads nowhere, and for any other the two cells are compared.
+-- Assumes nothing.
 use native.Mathlib.Omega.{arith}
 use borrow.Author.Tests.{lt-leb, le-leb}
 use Rattle.blocks.specs.Sizes.{leavesFewer}

@@ -1,3 +1,5 @@
+-- `blocks::solve` meets its contract: a job that is let in is of kind 5 or of kind 6, and the slices that its kind isn't lent stay.
+-- Assumes nothing.
 use mathlib.Core.Path.{_≡_}
 use Prim.Native.Nat.{ℕ}
 use mathlib.Core.List.{List}

@@ -1,3 +1,5 @@
+-- `blocks::way_down` meets its contract: the way has come down to size i; each turn lays one block of it, or passes it.
+-- Assumes nothing.
 use mathlib.Core.Path.{_≡_, refl, sym, subst, _∙_}
 use Prim.Native.Nat.{ℕ, _+_, _-_, _≤_, _<_}
 use native.Mathlib.Omega.{arith}

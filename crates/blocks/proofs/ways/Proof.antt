@@ -1,3 +1,5 @@
+-- `blocks::ways` meets its contract: the last cell alone decides, by the mark (`too-many`) or the ways that it shows (`ways-counted`).
+-- Assumes nothing.
 use mathlib.Core.Path.{_≡_, refl, sym, _∙_}
 use Prim.Native.Nat.{ℕ, _+_, _-_, _≤_, _<_}
 use native.Mathlib.Omega.{arith}

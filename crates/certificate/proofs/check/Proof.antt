@@ -3,15 +3,14 @@
 use mathlib.Core.Path.{sym, _∙_}
 use borrow.Author.Needs.{needs}
 use Rattle.meaning.specs.Bytes.{between}
-use Rattle.requests.specs.Reading.{PartsRead}
-use Rattle.requests.proofs.Reading.{unread, read-in}
+use Rattle.requests.proofs.Reading.{PartsIn, unread, read-in}
 use Rattle.certificate.proofs.Checking.{not-read, job-refused, once-ok, once-judged}
 use Rattle.certificate.proofs.check.Statement.{statement}
 use Rattle.certificate.proofs.check.Tie as tie
 
 -- the job's parts
-parts : (c : tie.After-request) → let p = c .request .given .0 in PartsRead (c .before .before .before .before .before .args .job .now) (p .0) (p .1 .0) (p .1 .1 .0) (p .1 .1 .1 .0) (p .1 .1 .1 .1 .0) (p .1 .1 .1 .1 .1 .0) (p .1 .1 .1 .1 .1 .1 .0) (p .1 .1 .1 .1 .1 .1 .1 .0)
-parts c = let p = c .request .given .0 in read-in (p .0) (p .1 .0) (p .1 .1 .0) (p .1 .1 .1 .0) (p .1 .1 .1 .1 .0) (p .1 .1 .1 .1 .1 .0) (p .1 .1 .1 .1 .1 .1 .0) (p .1 .1 .1 .1 .1 .1 .1 .0) (c .request .given .1) (c .before .before .read-job .ensures)
+parts : (c : tie.After-request) → PartsIn (c .before .before .before .before .before .args .job .now) (c .request .given .0)
+parts c = read-in _ _ (c .request .given .1) (c .before .before .read-job .ensures)
 
 read-job-requires : tie.Need-read-job-requires
 read-job-requires c κs = search needs
@@ -22,13 +21,13 @@ enum-known-request c = search needs
 enum-told : tie.Need-enum-told
 enum-told c = search needs
 
-refused-at-requires : tie.Need-refused-at-requires
-refused-at-requires c κs = search needs
+refused-with-requires : tie.Need-refused-with-requires
+refused-with-requires c κs = search needs
 
 returns : tie.Need-returns
 returns c =
     let told = c .before .enum-told .given in
-    not-read _ _ _ (told .0 .0) (unread _ (told .0 .0) (told .1) (c .before .before .before .read-job .ensures)) (c .refused-at .ensures)
+    not-read _ _ _ (told .0 .0) (unread _ (told .0 .0) (told .1) (c .before .before .before .read-job .ensures)) (c .refused-with .ensures)
 
 sub-weights : tie.Need-sub-weights
 sub-weights c = parts (c .before) .weights-within .ordered
@@ -69,12 +68,12 @@ slice-aggregate-job-refusal-3 c = search needs
 job-refusal-requires : tie.Need-job-refusal-requires
 job-refusal-requires c κs = search needs
 
-refused-at-requires-2 : tie.Need-refused-at-requires-2
-refused-at-requires-2 c κs = search needs
+refused-with-requires-2 : tie.Need-refused-with-requires-2
+refused-with-requires-2 c κs = search needs
 
 returns-2 : tie.Need-returns-2
 unfolding between
-returns-2 c = job-refused _ _ _ _ (parts (c .before .before .before .before .before .before .before .before .before .before) .read) _ (c .before .before .job-refusal .ensures) (c .before .if1 .taken) (c .refused-at2 .ensures)
+returns-2 c = job-refused _ _ _ _ (parts (c .before .before .before .before .before .before .before .before .before .before) .read) _ (c .before .before .job-refusal .ensures) (c .before .if1 .taken) (c .refused-with2 .ensures)
 
 judge-requires : tie.Need-judge-requires
 judge-requires c κs = once-ok _ _ _ _ _ (sym (c .if1 .left) ∙ c .before .job-refusal .ensures)
@@ -90,7 +89,7 @@ check-spec =
     read-job-requires
     enum-known-request
     enum-told
-    refused-at-requires
+    refused-with-requires
     returns
     sub-weights
     part-weights-start
@@ -105,7 +104,7 @@ check-spec =
     slice-aggregate-job-refusal-2
     slice-aggregate-job-refusal-3
     job-refusal-requires
-    refused-at-requires-2
+    refused-with-requires-2
     returns-2
     judge-requires
     returns-3)

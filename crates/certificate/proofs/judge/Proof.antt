@@ -15,8 +15,9 @@ use Rattle.meaning.specs.Certificates.{certificateCells}
 use Rattle.meaning.proofs.Numbers.{numbers-long}
 use Rattle.meaning.proofs.Valid.{cells-32}
 use Rattle.numbers.specs.Handed.{handed}
-use Rattle.certificate.specs.Asked.{onceJob}
-use Rattle.certificate.proofs.Refusing.{cells-needed, valid-once}
+use Rattle.claims.specs.Asked.{onceJob}
+use Rattle.claims.proofs.Once.{valid-once}
+use Rattle.certificate.proofs.Refusing.{cells-needed}
 use Rattle.certificate.proofs.Reading.{Held, held, picks-broken, cells-broken, left-over, all-read}
 use Rattle.certificate.proofs.judge.Statement.{statement}
 use Rattle.certificate.proofs.judge.Tie as tie
@@ -68,13 +69,13 @@ enum-known-first c = search needs
 enum-told : tie.Need-enum-told
 enum-told c = search needs
 
-refused-at-requires : tie.Need-refused-at-requires
-refused-at-requires c κs = search needs
+refused-with-requires : tie.Need-refused-with-requires
+refused-with-requires c κs = search needs
 
 returns : tie.Need-returns
 returns c =
     let told = c .before .enum-told .given in
-    c .refused-at .ensures ∙ picks-broken _ _ (told .0 .0) (ap (λ (n : ℕ). readSection (Exactly n) (c .before .before .before .before .before .before .before .before .args .certificate .now) 0) (labels-are _ _ _) ∙ sym (c .before .before .before .read-section .ensures) ∙ told .1)
+    c .refused-with .ensures ∙ picks-broken _ _ (told .0 .0) (ap (λ (n : ℕ). readSection (Exactly n) (c .before .before .before .before .before .before .before .before .args .certificate .now) 0) (labels-are _ _ _) ∙ sym (c .before .before .before .read-section .ensures) ∙ told .1)
 
 cast-t15-2 : tie.Need-cast-t15-2
 cast-t15-2 c = omega (arith, cells-are (c .before .before .before .before .before), cells-32 once _ (valid-once _ (c .before .before .before .before .before .before .before .before .before .pre)))
@@ -88,20 +89,20 @@ enum-known-second c = search needs
 enum-told-2 : tie.Need-enum-told-2
 enum-told-2 c = search needs
 
-refused-at-requires-2 : tie.Need-refused-at-requires-2
-refused-at-requires-2 c κs = search needs
+refused-with-requires-2 : tie.Need-refused-with-requires-2
+refused-with-requires-2 c κs = search needs
 
 returns-2 : tie.Need-returns-2
 returns-2 c =
     let told = c .before .enum-told2 .given in
-    c .refused-at2 .ensures ∙ cells-broken _ _ _ _ _ (picks-read (c .before .before .before .before .before)) (told .0 .0)
+    c .refused-with2 .ensures ∙ cells-broken _ _ _ _ _ (picks-read (c .before .before .before .before .before)) (told .0 .0)
     (ap (λ (n : ℕ). readSection (Exactly n) (c .before .before .before .before .before .before .before .before .before .before .before .before .before .args .certificate .now) (c .before .before .before .before .before .before .first .given .0 .1 .1 .0)) (cells-are (c .before .before .before .before .before .before .before .before .before)) ∙ sym (c .before .before .before .read-section2 .ensures) ∙ told .1)
 
-refused-at-requires-3 : tie.Need-refused-at-requires-3
-refused-at-requires-3 c κs = search needs
+refused-with-requires-3 : tie.Need-refused-with-requires-3
+refused-with-requires-3 c κs = search needs
 
 returns-3 : tie.Need-returns-3
-returns-3 c = c .refused-at3 .ensures ∙ left-over _ _ _ _ _ (picks-read (c .before .before .before .before .before .before .before)) _ _ _ (cells-read (c .before .before)) (c .before .if1 .taken)
+returns-3 c = c .refused-with3 .ensures ∙ left-over _ _ _ _ _ (picks-read (c .before .before .before .before .before .before .before)) _ _ _ (cells-read (c .before .before)) (c .before .if1 .taken)
 
 sub-judge-cells : tie.Need-sub-judge-cells
 sub-judge-cells c = picks-held (c .before .before .before .before .before .before) .part .ordered
@@ -138,15 +139,15 @@ judge-spec =
     read-section-requires
     enum-known-first
     enum-told
-    refused-at-requires
+    refused-with-requires
     returns
     cast-t15-2
     read-section-requires-2
     enum-known-second
     enum-told-2
-    refused-at-requires-2
+    refused-with-requires-2
     returns-2
-    refused-at-requires-3
+    refused-with-requires-3
     returns-3
     sub-judge-cells
     part-judge-cells-start

@@ -1,17 +1,15 @@
 -- `certificate::write_bytes` meets its contract: what the bytes are read as is written for, part by part.
 -- Assumes nothing.
 use Rattle.meaning.specs.Bytes.{between}
-use Rattle.requests.specs.Reading.{PartsRead}
-use Rattle.requests.proofs.Reading.{unread, read-in}
+use Rattle.requests.proofs.Reading.{PartsIn, unread, read-in}
 use Rattle.certificate.proofs.Copying.{no-job, job-in-bytes}
 use borrow.Author.Needs.{needs}
 use Rattle.certificate.proofs.write_bytes.Statement.{statement}
 use Rattle.certificate.proofs.write_bytes.Tie as tie
 
 -- the job's parts
-parts : (c : tie.After-request) → let p = c .request .given .0 in
-    PartsRead (c .before .before .before .before .before .before .before .args .job .now) (p .0) (p .1 .0) (p .1 .1 .0) (p .1 .1 .1 .0) (p .1 .1 .1 .1 .0) (p .1 .1 .1 .1 .1 .0) (p .1 .1 .1 .1 .1 .1 .0) (p .1 .1 .1 .1 .1 .1 .1 .0)
-parts c = let p = c .request .given .0 in read-in (p .0) (p .1 .0) (p .1 .1 .0) (p .1 .1 .1 .0) (p .1 .1 .1 .1 .0) (p .1 .1 .1 .1 .1 .0) (p .1 .1 .1 .1 .1 .1 .0) (p .1 .1 .1 .1 .1 .1 .1 .0) (c .request .given .1) (c .before .before .read-job .ensures)
+parts : (c : tie.After-request) → PartsIn (c .before .before .before .before .before .before .before .args .job .now) (c .request .given .0)
+parts c = read-in _ _ (c .request .given .1) (c .before .before .read-job .ensures)
 
 read-job-requires : tie.Need-read-job-requires
 read-job-requires c κs = search needs

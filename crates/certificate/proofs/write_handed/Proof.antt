@@ -7,8 +7,9 @@ use Rattle.meaning.specs.Job.{Job, once, jobOf, kindOf, allKinds, labels}
 use Rattle.meaning.specs.Certificates.{certificateCells, certifiedRefusal}
 use Rattle.meaning.proofs.Valid.{labels-32, cells-32}
 use Rattle.numbers.specs.Handed.{jobHanded}
+use Rattle.claims.proofs.Once.{is-kind-1, valid-once}
 use Rattle.certificate.specs.Copying.{CopiedFor}
-use Rattle.certificate.proofs.Refusing.{is-kind-1, valid-once, cells-needed}
+use Rattle.certificate.proofs.Refusing.{cells-needed}
 use Rattle.certificate.proofs.Copying.{turned-away}
 use Rattle.certificate.proofs.write_handed.Statement.{statement}
 use Rattle.certificate.proofs.write_handed.Tie as tie

@@ -1,6 +1,7 @@
+-- `knapsack::allowed` meets its contract: once in kind 1, and otherwise as often as the copies say.
+-- Assumes nothing.
 use borrow.Author.Tests.{eq-eqb, ne-eqb}
 use mathlib.Core.Path.{_∙_}
-use Prim.Native.Nat.{_-_}
 use Rattle.meaning.specs.Lists.{if}
 use Rattle.knapsack.specs.Tables.{limitOf}
 use Rattle.knapsack.proofs.allowed.Statement.{statement}

@@ -1,3 +1,5 @@
+-- `knapsack::fill` meets its contract: the rows so far are filled, and the last of them is low enough to make the next (`filled-low`).
+-- Assumes nothing.
 use mathlib.Core.Path.{_≡_, refl, _∙_}
 use Prim.Native.Nat.{ℕ, _+_, _-_, _*_, _≤_, _<_}
 use native.Mathlib.Nat.{zero-mul}

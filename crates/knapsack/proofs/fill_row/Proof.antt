@@ -1,3 +1,5 @@
+-- `knapsack::fill_row` meets its contract: the row so far is made label by label, and is low enough for the next (`climbed-low`).
+-- Assumes nothing.
 use native.Mathlib.Numerals.{add-one}
 use mathlib.Core.Path.{_≡_, refl, _∙_}
 use Prim.Native.Nat.{ℕ, _-_, _≤_, _<_}

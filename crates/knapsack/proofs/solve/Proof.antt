@@ -1,3 +1,5 @@
+-- `knapsack::solve` meets its contract: a job of kind 3 that is let in has no copies (`job-free`), and any other is below kind 3 (`any-below`).
+-- Assumes nothing.
 use mathlib.Core.Path.{_≡_}
 use Prim.Native.Nat.{ℕ}
 use mathlib.Core.List.{List, [], _∷_}

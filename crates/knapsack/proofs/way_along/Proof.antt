@@ -1,3 +1,5 @@
+-- `knapsack::way_along` meets its contract: the way has come to a label; each turn takes one of it, which weighs something, or passes it.
+-- Assumes nothing.
 use mathlib.Core.Path.{_≡_, refl, sym, _∙_}
 use native.Mathlib.Numerals.{add-one}
 use Prim.Native.Nat.{ℕ, _+_, _-_, _≤_, _<_}

@@ -1,3 +1,5 @@
+-- `knapsack::way_back` meets its contract: the way has come back to row i, and the picks from i on are the counts that it found (`way-more`).
+-- Assumes nothing.
 use native.Mathlib.Nat.{suc-mul}
 use lib.Seq.{drop-length}
 use mathlib.Core.Path.{_≡_, refl}

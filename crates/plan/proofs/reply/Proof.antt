@@ -11,8 +11,7 @@ use Rattle.meaning.specs.Job.{Job, jobOf, labels}
 use Rattle.meaning.specs.Lent.{lentOf}
 use Rattle.meaning.specs.Bytes.{between}
 use Rattle.numbers.specs.Handed.{jobHanded}
-use Rattle.requests.specs.Reading.{PartsRead}
-use Rattle.requests.proofs.Reading.{unread, read-in}
+use Rattle.requests.proofs.Reading.{PartsIn, unread, read-in}
 use Rattle.print.proofs.Lengths.{lines-room}
 use Rattle.plan.specs.Picks.{picksWritten}
 use Rattle.plan.specs.Replies.{ourSlices}
@@ -23,9 +22,8 @@ use Rattle.plan.proofs.reply.Statement.{statement}
 use Rattle.plan.proofs.reply.Tie as tie
 
 -- the job's parts
-parts : (c : tie.After-request) → let p = c .request .given .0 in
-    PartsRead (c .before .before .before .before .before .before .before .before .before .before .before .before .args .job .now) (p .0) (p .1 .0) (p .1 .1 .0) (p .1 .1 .1 .0) (p .1 .1 .1 .1 .0) (p .1 .1 .1 .1 .1 .0) (p .1 .1 .1 .1 .1 .1 .0) (p .1 .1 .1 .1 .1 .1 .1 .0)
-parts c = let p = c .request .given .0 in read-in (p .0) (p .1 .0) (p .1 .1 .0) (p .1 .1 .1 .0) (p .1 .1 .1 .1 .0) (p .1 .1 .1 .1 .1 .0) (p .1 .1 .1 .1 .1 .1 .0) (p .1 .1 .1 .1 .1 .1 .1 .0) (c .request .given .1) (c .before .before .read-job .ensures)
+parts : (c : tie.After-request) → PartsIn (c .before .before .before .before .before .before .before .before .before .before .before .before .args .job .now) (c .request .given .0)
+parts c = read-in _ _ (c .request .given .1) (c .before .before .read-job .ensures)
 
 -- the job
 abbrev job : tie.After-request → Job

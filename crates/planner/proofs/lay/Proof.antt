@@ -10,7 +10,7 @@ use Rattle.meaning.specs.Refusals as meaning
 use Rattle.meaning.specs.Refusals.{jobRefusal, rulesOf, roomFits}
 use Rattle.meaning.specs.Solved.{Unrefused}
 use Rattle.numbers.specs.Handed.{jobHanded, weightsHanded}
-use Rattle.planner.proofs.Judged.{turned-away, too-short, let-in, weights-alone, fits-as, Laid, laid, laid-kind, laid-rules, laid-alone, laid-claims, laid-room, laid-in}
+use Rattle.planner.proofs.Judged.{turned-away, too-short, let-in, weights-alone, fits-as, LaidKind, five-or-six, laid-kind, laid-rules, laid-alone, laid-claims, laid-room, laid-in}
 use Rattle.planner.proofs.lay.Statement.{statement}
 use Rattle.planner.proofs.lay.Tie as tie
 
@@ -22,8 +22,8 @@ module _ (s : tie.Start) where
   abbrev bare : Job
   bare = weightsHanded (s .args .kind) (s .args .budget) (s .args .ws .now) (s .args .wb .now)
 
-  one-of-two : Laid (s .args .kind)
-  one-of-two = laid (s .args .kind) (s .pre .0) (s .pre .1)
+  one-of-two : LaidKind (s .args .kind)
+  one-of-two = five-or-six (s .args .kind) (s .pre .0) (s .pre .1)
 
   abbrev kind : Kind
   kind = one-of-two .which

@@ -13,7 +13,7 @@ use Rattle.meaning.specs.Refusals.{jobRefusal, rulesOf, knapsackRules, claimsFi
 use Rattle.meaning.specs.Doors.{SolvedInCells}
 use Rattle.numbers.specs.Handed.{jobHanded}
 use Rattle.knapsack.proofs.Doors.{words-needed}
-use Rattle.planner.proofs.Judged.{Sorted, sorted, turned-away, too-short, let-in, few, small, unneeded, fits-as}
+use Rattle.planner.proofs.Judged.{SortOf, sort-of, turned-away, too-short, let-in, few, small, unneeded, fits-as}
 use Rattle.planner.proofs.pack.Statement.{statement}
 use Rattle.planner.proofs.pack.Tie as tie
 
@@ -22,8 +22,8 @@ module _ (s : tie.Start) where
   abbrev job : Job
   job = jobHanded (s .args .kind) (s .args .budget) (s .args .ws .now) (s .args .wb .now) (s .args .vs .now) (s .args .vb .now) (s .args .cs .now) (s .args .cb .now)
 
-  one-of-three : Sorted (s .args .kind)
-  one-of-three = sorted (s .args .kind) (s .pre .0) (s .pre .1)
+  one-of-three : SortOf (s .args .kind)
+  one-of-three = sort-of (s .args .kind) (s .pre .0) (s .pre .1)
 
   abbrev kind : Kind
   kind = packing (one-of-three .sort)

@@ -3,16 +3,14 @@
 use Rattle.meaning.specs.Bytes.{between}
 use Rattle.meaning.specs.Lent.{lentOf}
 use Rattle.meaning.proofs.Laws.{solved-unreadable, solved-bytes}
-use Rattle.requests.specs.Reading.{PartsRead}
-use Rattle.requests.proofs.Reading.{unread, read-in}
+use Rattle.requests.proofs.Reading.{PartsIn, unread, read-in}
 use borrow.Author.Needs.{needs}
 use Rattle.planner.proofs.solve_bytes.Statement.{statement}
 use Rattle.planner.proofs.solve_bytes.Tie as tie
 
 -- the job's parts
-parts : (c : tie.After-request) → let p = c .request .given .0 in
-    PartsRead (c .before .before .before .before .before .before .before .args .job .now) (p .0) (p .1 .0) (p .1 .1 .0) (p .1 .1 .1 .0) (p .1 .1 .1 .1 .0) (p .1 .1 .1 .1 .1 .0) (p .1 .1 .1 .1 .1 .1 .0) (p .1 .1 .1 .1 .1 .1 .1 .0)
-parts c = let p = c .request .given .0 in read-in (p .0) (p .1 .0) (p .1 .1 .0) (p .1 .1 .1 .0) (p .1 .1 .1 .1 .0) (p .1 .1 .1 .1 .1 .0) (p .1 .1 .1 .1 .1 .1 .0) (p .1 .1 .1 .1 .1 .1 .1 .0) (c .request .given .1) (c .before .before .read-job .ensures)
+parts : (c : tie.After-request) → PartsIn (c .before .before .before .before .before .before .before .args .job .now) (c .request .given .0)
+parts c = read-in _ _ (c .request .given .1) (c .before .before .read-job .ensures)
 
 read-job-requires : tie.Need-read-job-requires
 read-job-requires c κs = search needs

@@ -8,7 +8,7 @@ use borrow.Author.Needs.{needs}
 use Rattle.meaning.specs.Job.{Job, jobOf, labels}
 use Rattle.meaning.specs.Refusals.{listsFit, boundsFit}
 use Rattle.numbers.specs.Handed.{jobHanded}
-use Rattle.requests.specs.Judging.{rulesFrom}
+use Rattle.rules.specs.Ruling.{rulesFrom}
 use Rattle.requests.proofs.Judging.{lists-as, bounds-as, refused-3, refused-4, refused-5, not-yet}
 use Rattle.requests.proofs.job_refusal.Statement.{statement}
 use Rattle.requests.proofs.job_refusal.Tie as tie

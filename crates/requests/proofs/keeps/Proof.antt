@@ -2,7 +2,7 @@
 -- Assumes nothing.
 use mathlib.Core.Path.{refl}
 use Rattle.meaning.specs.Refusals.{positive, anything}
-use Rattle.requests.specs.Judging.{ruleFrom}
+use Rattle.rules.specs.Ruling.{ruleFrom}
 use borrow.Author.Needs.{needs}
 use Rattle.requests.proofs.keeps.Statement.{statement}
 use Rattle.requests.proofs.keeps.Tie as tie

@@ -1,4 +1,4 @@
--- `requests::members` meets its contract.
+-- `requests::members` meets its contract: n where the list is used, and none where it isn't.
 -- Assumes nothing.
 use Rattle.meaning.specs.Lists.{if}
 use Rattle.requests.proofs.members.Statement.{statement}

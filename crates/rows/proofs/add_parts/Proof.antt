@@ -1,3 +1,5 @@
+-- `rows::add_parts` meets its contract: a row with up to m of the label holds up to m and a part of it, once the part is raised (`topped-part`).
+-- Assumes nothing.
 use mathlib.Core.Path.{_≡_, refl, _∙_}
 use Prim.Native.Nat.{ℕ, _-_, _*_, _%_, _≤_, min}
 use native.Mathlib.Nat.{mod-eq-of-lt}
@@ -23,28 +25,28 @@ abbrev μ-loop : tie.MeasureT-loop
 μ-loop row₀ w v most m₀ row m = most - m
 
 -- the function's entry, from the loop's head
-abbrev start : tie.At-loop Inv-loop μ-loop → tie.Start Inv-loop μ-loop
-start c = c .before .before .before
+abbrev entry : tie.At-loop Inv-loop μ-loop → tie.Start Inv-loop μ-loop
+entry c = c .before .before .before
 
-fits : (c : tie.After-raise-down-arg Inv-loop μ-loop) → let a = start (c .before .before .before) .args in PartFits (a .w) (a .v) (c .before .lesser2 .result) (length (a .row .now))
+fits : (c : tie.After-raise-down-arg Inv-loop μ-loop) → let a = entry (c .before .before .before) .args in PartFits (a .w) (a .v) (c .before .lesser2 .result) (length (a .row .now))
 fits c =
-    let s = start (c .before .before .before) in
+    let s = entry (c .before .before .before) in
     let a = s .args in
     part-fits (a .w) (a .v) (c .before .lesser2 .result) (a .most) (length (a .row .now)) (s .pre .0 .0) (s .pre .0 .1 .0) (omega (arith, c .before .lesser2 .ensures)) (s .pre .0 .1 .1 .1)
 
 -- a part's weight is below the remainder's divisor
-whole : (c : tie.After-raise-down-arg Inv-loop μ-loop) → let a = start (c .before .before .before) .args in a .w * c .before .lesser2 .result % 65_536 ≡ a .w * c .before .lesser2 .result
+whole : (c : tie.After-raise-down-arg Inv-loop μ-loop) → let a = entry (c .before .before .before) .args in a .w * c .before .lesser2 .result % 65_536 ≡ a .w * c .before .lesser2 .result
 unfolding mostBudget
-whole c = mod-eq-of-lt (omega (arith, fits c .light, start (c .before .before .before) .pre .0))
+whole c = mod-eq-of-lt (omega (arith, fits c .light, entry (c .before .before .before) .pre .0))
 
 lesser-requires : tie.Need-lesser-requires Inv-loop μ-loop
 lesser-requires c κs = search needs
 
 loop-holds : tie.Need-loop-holds Inv-loop μ-loop
 loop-holds c =
-    let start = c .before .before in
-    let one : c .lesser .result ≡ min 1 (start .args .most) = c .lesser .ensures in
-    (omega arith, omega arith, refl, start .pre .1, rw one (λ f tops. tops))
+    let s = c .before .before in
+    let one : c .lesser .result ≡ min 1 (s .args .most) = c .lesser .ensures in
+    (omega arith, omega arith, refl, s .pre .1, rw one (λ f tops. tops))
 
 add-lesser : tie.Need-add-lesser Inv-loop μ-loop
 add-lesser c = search needs
@@ -57,18 +59,18 @@ lesser-requires-2 c κs = search needs
 
 mul-raise-down : tie.Need-mul-raise-down Inv-loop μ-loop
 unfolding mostValue mostBudget
-mul-raise-down c = omega (arith, fits c .light, start (c .before .before .before) .pre .0)
+mul-raise-down c = omega (arith, fits c .light, entry (c .before .before .before) .pre .0)
 
 mul-raise-down-2 : tie.Need-mul-raise-down-2 Inv-loop μ-loop
 unfolding mostValue mostBudget
-mul-raise-down-2 c = omega (arith, fits c, start (c .before .before .before) .pre .0)
+mul-raise-down-2 c = omega (arith, fits c, entry (c .before .before .before) .pre .0)
 
 raise-down-requires : tie.Need-raise-down-requires Inv-loop μ-loop
 unfolding Low mostValue mostBudget
 raise-down-requires c κs =
     λ d h.
     let l = c .before .before .before .loop in
-    omega (arith, l .inv .3 d (omega (arith, l .inv .2)), fits c .cheap, whole c, l .inv .2, start (c .before .before .before) .pre .0)
+    omega (arith, l .inv .3 d (omega (arith, l .inv .2)), fits c .cheap, whole c, l .inv .2, entry (c .before .before .before) .pre .0)
 
 add-m : tie.Need-add-m Inv-loop μ-loop
 add-m c = search needs
@@ -80,7 +82,7 @@ loop-again : tie.Need-loop-again Inv-loop μ-loop
 unfolding ToppedRow
 loop-again c =
     let head = c .before .before .before .before .before .before in
-    let a = start head .args in
+    let a = entry head .args in
     let l = head .loop in
     let part = c .before .before .before .before .lesser2 in
     let up = c .before .before .raise-down in
@@ -101,7 +103,7 @@ unfolding Repeated
 returns c =
     λ f tops.
     let l = c .before .loop in
-    let all : l .m ≡ start (c .before) .args .most = omega arith in
+    let all : l .m ≡ entry (c .before) .args .most = omega arith in
     rw (← all) (l .inv .4 f tops)
 
 pub add-parts-spec : {M : Type 1} → statement M

@@ -1,3 +1,5 @@
+-- `rows::bundle` meets its contract: a row with fewer than m of the label holds fewer than twice as many, once m are raised (`topped-part`).
+-- Assumes nothing.
 use mathlib.Core.Path.{_≡_, refl, _∙_}
 use Prim.Native.Nat.{_+_, _-_, _*_, _%_, _≤_, _<_}
 use native.Mathlib.Nat.{mod-eq-of-lt, mul-one, one-mul, mul-assoc, mul-le-mul-right}
@@ -24,25 +26,25 @@ abbrev μ-loop : tie.MeasureT-loop
 μ-loop row₀ w v m₀ row m = 32 - m
 
 -- the function's entry, from the loop's head
-abbrev start : tie.At-loop Inv-loop μ-loop → tie.Start Inv-loop μ-loop
-start c = c .before .before
+abbrev entry : tie.At-loop Inv-loop μ-loop → tie.Start Inv-loop μ-loop
+entry c = c .before .before
 
 -- a bundle that is to grow is light
-fits : (c : tie.After-raise-down-arg Inv-loop μ-loop) → let a = start (c .before .before) .args in PartFits (a .w) (a .v) (c .before .before .loop .m) 16
+fits : (c : tie.After-raise-down-arg Inv-loop μ-loop) → let a = entry (c .before .before) .args in PartFits (a .w) (a .v) (c .before .before .loop .m) 16
 fits c =
-    let s = start (c .before .before) in
+    let s = entry (c .before .before) in
     let m = c .before .before .loop .m in
     part-fits (s .args .w) (s .args .v) m m 16 (s .pre .0 .0) (s .pre .0 .1 .0) (omega arith) (c .before .loop-test .taken)
 
 -- and small
 small : (c : tie.After-raise-down-arg Inv-loop μ-loop) → (1 ≤ c .before .before .loop .m) × (c .before .before .loop .m < 16)
 small c =
-    let s = start (c .before .before) in
+    let s = entry (c .before .before) in
     let m = c .before .before .loop .m in
     (c .before .before .loop .inv .0, omega (arith, mul-le-mul-right m (s .pre .0 .0), one-mul m, fits c .light))
 
 -- its weight is below the remainder's divisor
-whole : (c : tie.After-raise-down-arg Inv-loop μ-loop) → let a = start (c .before .before) .args in a .w * c .before .before .loop .m % 16 ≡ a .w * c .before .before .loop .m
+whole : (c : tie.After-raise-down-arg Inv-loop μ-loop) → let a = entry (c .before .before) .args in a .w * c .before .before .loop .m % 16 ≡ a .w * c .before .before .loop .m
 whole c = mod-eq-of-lt (fits c .light)
 
 loop-holds : tie.Need-loop-holds Inv-loop μ-loop
@@ -66,7 +68,7 @@ unfolding Low mostValue mostBudget
 raise-down-requires c κs =
     λ d h.
     let l = c .before .before .loop in
-    omega (arith, l .inv .4 d (omega (arith, l .inv .3)), fits c, whole c, l .inv .3, start (c .before .before) .pre .0)
+    omega (arith, l .inv .4 d (omega (arith, l .inv .3)), fits c, whole c, l .inv .3, entry (c .before .before) .pre .0)
 
 mul-m : tie.Need-mul-m Inv-loop μ-loop
 mul-m c = search needs
@@ -79,7 +81,7 @@ unfolding ToppedRow
 loop-again c =
     let here = c .before .before .before in
     let l = here .before .before .loop in
-    let a = start (here .before .before) .args in
+    let a = entry (here .before .before) .args in
     let up = c .before .before .raise-down in
     let raised = rw (whole here, l .inv .3) at (up .ensures) in (
       omega (arith, small here),

@@ -1,3 +1,5 @@
+-- `rows::climb` meets its contract: the row is swept stretch by stretch (`swept-on`), and stays low.
+-- Assumes nothing.
 use mathlib.Core.Path.{_≡_, _∙_}
 use Prim.Native.Nat.{_-_, _≤_}
 use native.Mathlib.Omega.{arith}

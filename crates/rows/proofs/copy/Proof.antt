@@ -1,3 +1,5 @@
+-- `rows::copy` meets its contract: the cells so far are stored, and the row that is read lies before them, as it was.
+-- Assumes nothing.
 use mathlib.Core.Path.{_≡_, refl}
 use Prim.Native.Nat.{_+_, _-_, _≤_}
 use native.Mathlib.Omega.{arith}
@@ -56,7 +58,10 @@ same-length : tie.Need-same-length Inv-loop μ-loop
 same-length c = c .before .loop .inv .1
 
 returns : tie.Need-returns Inv-loop μ-loop
-returns c = let d = c .before .loop .inv .2 in record { cells = λ k l m. d .cells k l (omega arith); before = d .before; past = λ k l. d .past k (omega arith) }
+returns c =
+    let l = c .before .loop in
+    let all : l .c ≡ c .before .before .args .count = omega arith in
+    rw all at (l .inv .2)
 
 pub copy-spec : {M : Type 1} → statement M
 copy-spec =

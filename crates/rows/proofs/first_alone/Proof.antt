@@ -1,3 +1,5 @@
+-- `rows::first_alone` meets its contract: the words so far are 0, and the 1 is stored after them all.
+-- Assumes nothing.
 use mathlib.Core.Path.{_≡_, refl, _∙_}
 use Prim.Native.Nat.{ℕ, _-_, _≤_, _<_}
 use native.Mathlib.Omega.{arith}

@@ -1,3 +1,5 @@
+-- `rows::leads` meets its contract: a label that is too heavy leads nowhere, and where it fits the sum does too, since the row is low.
+-- Assumes nothing.
 use Prim.Native.Nat.{_-_}
 use native.Mathlib.Omega.{arith}
 use borrow.Author.Tests.{lt-leb, le-leb}

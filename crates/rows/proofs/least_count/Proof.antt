@@ -1,6 +1,8 @@
+-- `rows::least_count` meets its contract: no fewer are worth the goal; some count is, so that budget and goal are left for one more (`goes-on`).
+-- Assumes nothing.
 use native.Mathlib.Nat.{mul-add, mul-zero}
 use mathlib.Core.Path.{_≡_}
-use Prim.Native.Nat.{ℕ, _+_, _-_, _*_, _<_}
+use Prim.Native.Nat.{ℕ, _+_, _*_, _<_}
 use native.Mathlib.Omega.{arith}
 use borrow.Author.Needs.{needs}
 use Rattle.meaning.specs.Lists.{at}

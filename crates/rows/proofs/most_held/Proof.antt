@@ -1,3 +1,5 @@
+-- `rows::most_held` meets its contract: where the division is spared, its result is 0, or no less than the limit.
+-- Assumes nothing.
 use mathlib.Core.Path.{_≡_}
 use Prim.Native.Nat.{_-_, _/_, _≤_}
 use native.Mathlib.Nat.{div-eq-of-lt, le-div-iff-mul-le, one-mul}

@@ -1,5 +1,7 @@
+-- `rows::next_row` meets its contract: copied and raised, the row holds up to one of the label, and the parts add the others (`next-made`).
+-- Assumes nothing.
 use mathlib.Core.Path.{_∙_}
-use Prim.Native.Nat.{_+_, _-_, _*_, _≤_, _<_}
+use Prim.Native.Nat.{_+_, _*_, _≤_, _<_}
 use native.Mathlib.Omega.{arith}
 use lib.ListN.{length}
 use borrow.Author.Needs.{needs}
@@ -17,20 +19,20 @@ add-to c = search needs
 most-held-requires : tie.Need-most-held-requires
 most-held-requires c κs = search needs
 
-reach-requires : tie.Need-reach-requires
-reach-requires c κs = search needs
+raised-from-requires : tie.Need-raised-from-requires
+raised-from-requires c κs = search needs
 
 -- as many as may be picked are lighter than the row is wide
-light : (c : tie.After-reach) → c .before .before .before .args .w * c .before .most-held .result < c .before .before .before .args .width
+light : (c : tie.After-raised-from) → c .before .before .before .args .w * c .before .most-held .result < c .before .before .before .args .width
 light c =
     let a = c .before .before .before .args in
     rw (c .before .most-held .ensures) (most-light (a .limit) (a .w) (a .width) (c .before .before .before .pre .0 .0))
 
 -- and the row is copied no further than it is wide
-short : (c : tie.After-reach) → c .reach .result ≤ c .before .before .before .args .width
+short : (c : tie.After-raised-from) → c .raised-from .result ≤ c .before .before .before .args .width
 short c =
     let a = c .before .before .before .args in
-    start-within (a .w) (c .before .most-held .result) (a .width) (c .reach .result) (c .reach .ensures .0) (c .reach .ensures .1) (light c)
+    start-within (a .w) (c .before .most-held .result) (a .width) (c .raised-from .result) (c .raised-from .ensures .0) (c .raised-from .ensures .1) (light c)
 
 copy-requires : tie.Need-copy-requires
 copy-requires c κs =
@@ -75,7 +77,7 @@ add-parts-requires c κs =
     let fits : to + a .width ≤ length u = omega (arith, raise .raise .kept .0, copy .copy .kept .0, start .pre .0) in
     rw (part-long u to (a .width) fits) (
       (start .pre .1 .0 .0, (start .pre .1 .0 .1, (start .pre .0 .1 .0, light reach))),
-      part-low (a .cells .now) (copy .copy .last .0) u (a .from) (a .width) (a .w) (a .v) (reach .before .most-held .result) (reach .reach .result) (reach .reach .ensures .0) (reach .reach .ensures .1)
+      part-low (a .cells .now) (copy .copy .last .0) u (a .from) (a .width) (a .w) (a .v) (reach .before .most-held .result) (reach .raised-from .result) (reach .raised-from .ensures .0) (reach .raised-from .ensures .1)
           (copy .copy .ensures) (raise .raise .ensures) (start .pre .1 .0 .0) (start .pre .1 .0 .1) fits (start .pre .1 .1),
     )
 
@@ -94,7 +96,7 @@ returns c =
     let to = a .from + a .width in
     let fits : to + a .width ≤ length u = omega (arith, raise .raise .kept .0, copy .copy .kept .0, start .pre .0) in
     let long = part-long u to (a .width) fits in
-    next-made (a .cells .now) (copy .copy .last .0) u (a .from) (a .width) (a .w) (a .v) (reach .before .most-held .result) (reach .reach .result) (reach .reach .ensures .0) (reach .reach .ensures .1)
+    next-made (a .cells .now) (copy .copy .last .0) u (a .from) (a .width) (a .w) (a .v) (reach .before .most-held .result) (reach .raised-from .result) (reach .raised-from .ensures .0) (reach .raised-from .ensures .1)
     (copy .copy .ensures) (raise .raise .ensures) (parts .last .0) (a .limit) (start .pre .1 .0 .0) fits (parts .kept .0 ∙ long) (short reach) (reach .before .most-held .ensures) (rw long at (parts .ensures))
 
 pub next-row-spec : {M : Type 1} → statement M
@@ -103,7 +105,7 @@ next-row-spec =
     (tie.spec
     add-to
     most-held-requires
-    reach-requires
+    raised-from-requires
     copy-requires
     raise-requires
     add-add-parts

@@ -1,3 +1,5 @@
+-- `rows::raise` meets its contract: each cell so far is made of two of the row before, which lies before all stores and is as it was.
+-- Assumes nothing.
 use mathlib.Core.Path.{_≡_, refl, ap, _∙_}
 use Prim.Native.Nat.{_+_, _-_, _≤_, max}
 use native.Mathlib.Omega.{arith}
@@ -82,7 +84,10 @@ same-length : tie.Need-same-length Inv-loop μ-loop
 same-length c = c .before .loop .inv .2
 
 returns : tie.Need-returns Inv-loop μ-loop
-returns c = let d = c .before .loop .inv .3 in record { cells = λ k l m. d .cells k l (omega arith); before = d .before; past = λ k l. d .past k (omega arith) }
+returns c =
+    let l = c .before .loop in
+    let all : l .c ≡ c .before .before .before .args .width = omega arith in
+    rw all at (l .inv .3)
 
 pub raise-spec : {M : Type 1} → statement M
 raise-spec =

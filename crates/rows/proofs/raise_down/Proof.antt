@@ -1,3 +1,5 @@
+-- `rows::raise_down` meets its contract: the cells from c on are stored and those below are as they were, so that each is raised by an old one.
+-- Assumes nothing.
 use native.Mathlib.Nat.{zero-add}
 use mathlib.Core.Path.{_≡_, _∙_}
 use Prim.Native.Nat.{_+_, _-_, _≤_, max, min}

@@ -1,3 +1,5 @@
+-- `rows::raise_stretch` meets its contract: the cells so far are swept by the new ones w places before them, and the row stays low (`low-more`).
+-- Assumes nothing.
 use mathlib.Core.Path.{_≡_, refl}
 use Prim.Native.Nat.{_-_, _≤_}
 use native.Mathlib.Omega.{arith}

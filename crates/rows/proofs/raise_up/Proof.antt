@@ -1,3 +1,5 @@
+-- `rows::raise_up` meets its contract: fewer than m of the label, and any number of bundles of m, are any number of it (`topped-bundles`).
+-- Assumes nothing.
 use Prim.Native.Nat.{_+_, _*_, _≤_}
 use native.Mathlib.Nat.{one-mul, mul-le-mul-right}
 use native.Mathlib.Omega.{arith}

@@ -1,3 +1,5 @@
+-- `claims_sum` gives S, the sum of the claims.
+-- Assumes nothing.
 use mathlib.Core.Path.{_≡_}
 use Prim.Native.Nat.{_*_, _-_, _≤_}
 use native.Mathlib.Omega.{arith}

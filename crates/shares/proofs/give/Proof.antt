@@ -1,5 +1,7 @@
-use mathlib.Core.Path.{_≡_, refl, _∙_}
-use Prim.Native.Nat.{_+_, _-_, _≤_, _<_}
+-- `give` makes the shares of the starts: the units go to the labels at the border or before it, and to the first ones next behind it.
+-- Assumes nothing.
+use mathlib.Core.Path.{_≡_, refl, ap, sym, _∙_}
+use Prim.Native.Nat.{ℕ, _+_, _-_, _≤_, _<_}
 use native.Mathlib.Omega.{arith}
 use lib.ListN.{length, length-set}
 use mir.Val.{boolByte}
@@ -10,35 +12,46 @@ use Rattle.meaning.specs.Shares.{shareOf}
 use Rattle.numbers.specs.Handed.{weightsHanded}
 use Rattle.rows.specs.Rows.{Stored}
 use Rattle.rows.proofs.Stores.{stored-each, stored-none, stored-up}
-use Rattle.shares.proofs.Starts.{share-within, share-given, shares-made}
-use Rattle.shares.proofs.Borders.{ahead-served}
+use Rattle.shares.specs.Borders.{aheadOf, behindOf}
+use Rattle.shares.proofs.Starts.{share-within, share-given, shares-made, remainder-within}
+use Rattle.shares.proofs.Borders.{gets-served, behind-none, behind-more, behind-most}
 use Rattle.shares.proofs.give.Statement.{statement}
 use Rattle.shares.proofs.give.Tie as tie
 
 abbrev Inv-loop : tie.InvT-loop
-Inv-loop budget weights wbytes claimed shares₀ border turn n i₀ shares i = (i ≤ n) × (length shares ≡ length shares₀) × Stored shares₀ shares 0 0 i (shareOf (weightsHanded 7 budget weights wbytes))
+Inv-loop budget weights wbytes claimed shares₀ border left seen₀ i₀ shares seen i =
+    (i ≤ length shares₀) × (length shares ≡ length shares₀) × Stored shares₀ shares 0 0 i (shareOf (weightsHanded 7 budget weights wbytes)) × (seen ≡ behindOf (weightsHanded 7 budget weights wbytes) border i)
 
 abbrev μ-loop : tie.MeasureT-loop
-μ-loop budget weights wbytes claimed shares₀ border turn n i₀ shares i = n - i
+μ-loop budget weights wbytes claimed shares₀ border left seen₀ i₀ shares seen i = length shares₀ - i
 
 abbrev job : tie.Start Inv-loop μ-loop → Job
 job s = weightsHanded 7 (s .args .budget) (s .args .weights .now) (s .args .wbytes .now)
 
+-- a remainder is below S, which has 64 bits, so that one more has them too
+below : (c : tie.After-remainder-at Inv-loop μ-loop) → c .remainder-at .result < c .before .before .before .before .before .before .before .args .claimed
+unfolding jobOf
+below c =
+    let l = c .before .before .before .loop in
+    let s = c .before .before .before .before .before .before .before in
+    omega (arith, c .remainder-at .ensures, s .pre .0 .summed, remainder-within (job s) (l .i) (omega (arith, s .pre .0 .summed, s .pre .0 .positive)))
+
 -- the start of label i, with the unit that it gets or not
-given : (c : tie.After-stands Inv-loop μ-loop) →
-    let l = c .before .before .before .loop in
-    let s = c .before .before .before .before .before .before .before in
-    at (l .shares) (l .i) + boolByte (c .stands .result) ≡ shareOf (job s) (l .i)
+given : (c : tie.After-gets Inv-loop μ-loop) →
+    let l = c .before .before .before .before .loop in
+    let s = c .before .before .before .before .before .before .before .before in
+    at (l .shares) (l .i) + boolByte (c .gets .result) ≡ shareOf (job s) (l .i)
 given c =
-    let l = c .before .before .before .loop in
-    let s = c .before .before .before .before .before .before .before in
+    let l = c .before .before .before .before .loop in
+    let s = c .before .before .before .before .before .before .before .before in
     let inside : l .i < labels (job s) = omega (arith, s .pre .0 .long) in
-    share-given (job s) (l .i) (at (l .shares) (l .i)) (c .stands .result)
+    let gets = gets-served (job s) (s .args .border) (s .args .left) (s .pre .1) (l .i) (l .seen) inside (l .inv .3) in
+    share-given (job s) (l .i) (at (l .shares) (l .i)) (c .gets .result)
     (omega (arith, l .inv .2 .past (l .i) (omega arith), s .pre .0 .each (l .i) inside))
-    (rw (ahead-served (job s) (s .args .border) (s .args .turn) (s .pre .1) (l .i) inside) at (c .stands .ensures))
+    (rw (c .before .remainder-at .ensures, gets) at (c .gets .ensures))
 
 loop-holds : tie.Need-loop-holds Inv-loop μ-loop
-loop-holds c = let s = c .before .before .before in (omega arith, refl, stored-none (s .args .shares .now) 0 0 0 (shareOf (job s)) (omega arith))
+loop-holds c = let s = c .before .before .before in (omega arith, refl, stored-none (s .args .shares .now) 0 0 0 (shareOf (job s)) (omega arith), behind-none (job s) (s .args .border))
 
 mul-start : tie.Need-mul-start Inv-loop μ-loop
 mul-start c = search needs
@@ -46,12 +59,15 @@ mul-start c = search needs
 slice-read-start : tie.Need-slice-read-start Inv-loop μ-loop
 slice-read-start c = search needs
 
-stands-requires : tie.Need-stands-requires Inv-loop μ-loop
+remainder-at-requires : tie.Need-remainder-at-requires Inv-loop μ-loop
 unfolding jobOf labels
-stands-requires c κs =
+remainder-at-requires c κs =
     let s = c .before .before .before .before .before .before in
     let l = c .before .before .loop in
-    ((s .pre .0 .summed, (s .pre .0 .long, omega arith)), l .inv .2 .past (l .i) (omega arith) ∙ s .pre .0 .each (l .i) (omega (arith, s .pre .0 .long)))
+    ((s .pre .0 .summed, omega (arith, s .pre .0 .long)), l .inv .2 .past (l .i) (omega arith) ∙ s .pre .0 .each (l .i) (omega (arith, s .pre .0 .long)))
+
+gets-requires : tie.Need-gets-requires Inv-loop μ-loop
+gets-requires c κs = omega (arith, below c)
 
 cast-shares : tie.Need-cast-shares Inv-loop μ-loop
 cast-shares c = tt
@@ -59,8 +75,8 @@ cast-shares c = tt
 add-shares : tie.Need-add-shares Inv-loop μ-loop
 unfolding jobOf labels
 add-shares c =
-    let l = c .before .before .before .loop in
-    let s = c .before .before .before .before .before .before .before in
+    let l = c .before .before .before .before .loop in
+    let s = c .before .before .before .before .before .before .before .before in
     omega (arith, given c, share-within (job s) (omega (arith, s .pre .0 .summed, s .pre .0 .positive)) (l .i) (omega (arith, s .pre .0 .long)))
 
 mul-shares : tie.Need-mul-shares Inv-loop μ-loop
@@ -68,6 +84,18 @@ mul-shares c = search needs
 
 slice-write-shares : tie.Need-slice-write-shares Inv-loop μ-loop
 slice-write-shares c = search needs
+
+add-next : tie.Need-add-next Inv-loop μ-loop
+add-next c = omega (arith, below (c .before))
+
+cast-seen : tie.Need-cast-seen Inv-loop μ-loop
+cast-seen c = tt
+
+add-seen : tie.Need-add-seen Inv-loop μ-loop
+add-seen c =
+    let l = c .before .before .before .before .loop in
+    let s = c .before .before .before .before .before .before .before .before in
+    omega (arith, behind-more (job s) (s .args .border) (l .i) (l .seen) (c .before .remainder-at .result) (c .before .remainder-at .ensures) (l .inv .3), behind-most (job s) (s .args .border) (l .i + 1))
 
 add-i : tie.Need-add-i Inv-loop μ-loop
 add-i c = search needs
@@ -77,10 +105,10 @@ loop-less c = search needs
 
 loop-again : tie.Need-loop-again Inv-loop μ-loop
 loop-again c =
-    let l = c .before .before .before .loop in
-    let s = c .before .before .before .before .before .before .before in
-    let share = at (l .shares) (l .i) + boolByte (c .stands .result) in
-    (omega arith, simp length-set (l .inv .1), stored-up (s .args .shares .now) 0 0 (l .i) (shareOf (job s)) (l .shares) (l .i) share (omega arith) (l .inv .2) (omega arith) (omega arith) (given c))
+    let l = c .before .before .before .before .loop in
+    let s = c .before .before .before .before .before .before .before .before in
+    let share = at (l .shares) (l .i) + boolByte (c .gets .result) in
+    (omega arith, simp length-set (l .inv .1), stored-up (s .args .shares .now) 0 0 (l .i) (shareOf (job s)) (l .shares) (l .i) share (omega arith) (l .inv .2) (omega arith) (omega arith) (given c), behind-more (job s) (s .args .border) (l .i) (l .seen) (c .before .remainder-at .result) (c .before .remainder-at .ensures) (l .inv .3))
 
 same-length : tie.Need-same-length Inv-loop μ-loop
 same-length c = search needs
@@ -100,11 +128,15 @@ give-spec =
     loop-holds
     mul-start
     slice-read-start
-    stands-requires
+    remainder-at-requires
+    gets-requires
     cast-shares
     add-shares
     mul-shares
     slice-write-shares
+    add-next
+    cast-seen
+    add-seen
     add-i
     loop-less
     loop-again

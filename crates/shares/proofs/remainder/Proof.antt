@@ -1,3 +1,5 @@
+-- `remainder` gives what the division leaves.
+-- Assumes nothing.
 use native.Mathlib.Omega.{arith}
 use Rattle.shares.proofs.Starts.{whole}
 use Rattle.shares.proofs.remainder.Statement.{statement}

@@ -1,3 +1,5 @@
+-- `remainder_at` gives the remainder of a label of the job.
+-- Assumes nothing.
 use mathlib.Core.Path.{sym, _∙_}
 use Rattle.meaning.specs.Job.{Job, jobOf}
 use Rattle.numbers.specs.Handed.{weightsHanded}

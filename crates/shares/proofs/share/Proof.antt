@@ -1,3 +1,5 @@
+-- `share` turns the claims into shares and gives the spare.
+-- Assumes nothing.
 use mathlib.Core.Path.{_≡_, sym}
 use native.Mathlib.Omega.{arith}
 use borrow.Author.Needs.{needs}
@@ -24,16 +26,13 @@ returns : tie.Need-returns
 returns c =
     let s = c .before .before .before .before .before .before .before .before .before in
     let w = c .before .before .before .write-starts in
-    let none : spareOf (job s) ≡ 0 = omega (arith, w .ensures .1) in
+    let none : spareOf (job s) ≡ 0 = omega (arith, w .ensures .1 .0) in
     (none-spare (job s) (c .before .before .before .before .before .claims-sum .result) (w .last .1 .1 .1 .1 .0) none (w .ensures .0), sym none)
 
-border-remainder-requires : tie.Need-border-remainder-requires
-border-remainder-requires c κs = search needs
-
-border-turn-requires : tie.Need-border-turn-requires
-border-turn-requires c κs =
-    let w = c .before .before .before .before .before .before .write-starts in
-    (w .ensures .0, (w .ensures .1, (omega arith, c .before .border-remainder .ensures)))
+find-border-requires : tie.Need-find-border-requires
+find-border-requires c κs =
+    let w = c .before .before .before .before .write-starts in
+    (w .ensures .0, (w .ensures .1 .0, (omega arith, w .ensures .1 .1)))
 
 give-requires : tie.Need-give-requires
 give-requires c κs = search needs
@@ -52,8 +51,7 @@ share-spec =
     write-starts-requires
     same-length
     returns
-    border-remainder-requires
-    border-turn-requires
+    find-border-requires
     give-requires
     same-length-2
     returns-2)

@@ -1,3 +1,5 @@
+-- `solve` keeps the promise of kind 7.
+-- Assumes nothing.
 use mathlib.Core.Path.{_≡_, sym, _∙_}
 use native.Mathlib.Omega.{arith}
 use lib.ListN.{length, take}

@@ -1,3 +1,5 @@
+-- `wide_product` multiplies two numbers of 32 bits, and the product fits 64.
+-- Assumes nothing.
 use Prim.Native.Nat.{ℕ, _≤_, _<_}
 use native.Mathlib.Nat.{mul-le-mul}
 use native.Mathlib.Omega.{arith}

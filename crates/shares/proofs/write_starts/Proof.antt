@@ -1,23 +1,28 @@
-use mathlib.Core.Path.{_≡_, _∙_}
-use Prim.Native.Nat.{_+_, _-_, _≤_}
+-- `write_starts` keeps every start, and gives the spare and how far the remainders reach.
+-- Assumes nothing.
+use mathlib.Core.Path.{_≡_, refl, _∙_}
+use Prim.Native.Nat.{_+_, _-_, _≤_, _<_}
+use native.Mathlib.Nat.{mod-lt}
 use native.Mathlib.Omega.{arith}
 use lib.ListN.{length, take, length-set}
 use borrow.Author.Needs.{needs}
 use Rattle.meaning.specs.Lists.{sum}
 use Rattle.meaning.specs.Job.{Job, jobOf, labels}
-use Rattle.meaning.specs.Shares.{startOf}
+use Rattle.meaning.specs.Shares.{startOf, remainderOf}
 use Rattle.numbers.specs.Handed.{handed, weightsHanded}
 use Rattle.rows.specs.Rows.{Stored}
-use Rattle.rows.proofs.Stores.{stored-each, stored-up}
-use Rattle.shares.proofs.Starts.{starts, member-within, start-within, kept-start, spare-step, spare-done}
+use Rattle.rows.proofs.Stores.{stored-each, stored-none, stored-up}
+use Rattle.shares.specs.Borders.{Spans}
+use Rattle.shares.proofs.Starts.{starts, member-within, start-within, kept-start, kept-remainder, spare-step, spare-done, spans-none, spans-more}
 use Rattle.shares.proofs.write_starts.Statement.{statement}
 use Rattle.shares.proofs.write_starts.Tie as tie
 
 abbrev Inv-loop : tie.InvT-loop
-Inv-loop budget weights wbytes claimed shares₀ spare₀ i₀ shares spare i = (i ≤ length shares₀) × (length shares ≡ length shares₀) × Stored shares₀ shares 0 0 i (startOf (weightsHanded 7 budget weights wbytes)) × (spare + sum (take i (starts (weightsHanded 7 budget weights wbytes))) ≡ budget)
+Inv-loop budget weights wbytes claimed shares₀ spare₀ least₀ greatest₀ i₀ shares spare least greatest i =
+    (i ≤ length shares₀) × (length shares ≡ length shares₀) × Stored shares₀ shares 0 0 i (startOf (weightsHanded 7 budget weights wbytes)) × (spare + sum (take i (starts (weightsHanded 7 budget weights wbytes))) ≡ budget) × Spans (weightsHanded 7 budget weights wbytes) claimed i least greatest
 
 abbrev μ-loop : tie.MeasureT-loop
-μ-loop budget weights wbytes claimed shares₀ spare₀ i₀ shares spare i = length shares₀ - i
+μ-loop budget weights wbytes claimed shares₀ spare₀ least₀ greatest₀ i₀ shares spare least greatest i = length shares₀ - i
 
 abbrev job : tie.Start Inv-loop μ-loop → Job
 job s = weightsHanded 7 (s .args .budget) (s .args .weights .now) (s .args .wbytes .now)
@@ -40,7 +45,9 @@ module _ (c : tie.After-start Inv-loop μ-loop) where
 
 loop-holds : tie.Need-loop-holds Inv-loop μ-loop
 unfolding sum
-loop-holds c = search needs
+loop-holds c =
+    let s = c .before .before .before in
+    (omega arith, refl, stored-none (s .args .shares .now) 0 0 0 (startOf (job s)) (omega arith), omega arith, spans-none (job s) (s .args .claimed) (s .args .claimed) (s .pre .0 .1))
 
 item-requires : tie.Need-item-requires Inv-loop μ-loop
 item-requires c κs = search needs
@@ -58,6 +65,9 @@ start-requires c κs =
     let fits = start-within (a .budget) (c .before .item .result) (a .claimed) (omega (arith, light, c .before .item .ensures, s .pre .0 .0)) in
     (s .pre .0 .1, rw (c .wide-product .ensures) (omega (arith, fits)))
 
+remainder-requires : tie.Need-remainder-requires Inv-loop μ-loop
+remainder-requires c κs = search needs
+
 mul-shares : tie.Need-mul-shares Inv-loop μ-loop
 mul-shares c = search needs
 
@@ -66,7 +76,13 @@ slice-write-shares c = search needs
 
 sub-spare : tie.Need-sub-spare Inv-loop μ-loop
 unfolding jobOf labels
-sub-spare c = step c .0
+sub-spare c = step (c .before) .0
+
+lesser-requires : tie.Need-lesser-requires Inv-loop μ-loop
+lesser-requires c κs = search needs
+
+greater-requires : tie.Need-greater-requires Inv-loop μ-loop
+greater-requires c κs = search needs
 
 add-i : tie.Need-add-i Inv-loop μ-loop
 add-i c = search needs
@@ -77,9 +93,18 @@ loop-less c = search needs
 loop-again : tie.Need-loop-again Inv-loop μ-loop
 unfolding jobOf labels
 loop-again c =
-    let l = c .before .before .before .before .loop in
-    let s = entry c in
-    (omega arith, simp length-set (l .inv .1), stored-up (s .args .shares .now) 0 0 (l .i) (startOf (job s)) (l .shares) (l .i) (c .start .result) (omega arith) (l .inv .2) (omega arith) (omega arith) (started c), step c .1)
+    let l = c .before .before .before .before .before .before .before .loop in
+    let a = c .before .before .before in
+    let s = entry a in
+    let rest = c .before .before .remainder in
+    let kept = kept-remainder (job s) (l .i) (a .before .wide-product .result) (a .before .before .item .result) (s .args .claimed) (a .before .wide-product .ensures) (a .before .before .item .ensures) (s .pre .0 .0) in
+    let below : rest .result < s .args .claimed = rw (rest .ensures) (mod-lt (a .before .wide-product .result) (s .pre .0 .1)) in (
+      omega arith,
+      simp length-set (l .inv .1),
+      stored-up (s .args .shares .now) 0 0 (l .i) (startOf (job s)) (l .shares) (l .i) (a .start .result) (omega arith) (l .inv .2) (omega arith) (omega arith) (started a),
+      step a .1,
+      rw (c .before .lesser .ensures, c .greater .ensures) (spans-more (job s) (s .args .claimed) (l .i) (l .least) (l .greatest) (rest .result) (rest .ensures ∙ kept) below (l .inv .4)),
+    )
 
 same-length : tie.Need-same-length Inv-loop μ-loop
 same-length c = search needs
@@ -89,14 +114,15 @@ unfolding jobOf labels
 returns c =
     let s = c .before .before .before .before .before in
     let l = c .before .loop in
-    let all : l .i ≡ labels (job s) = omega (arith, s .pre .1) in (
+    let all : l .i ≡ labels (job s) = omega (arith, s .pre .1) in
+    let long : l .i ≡ length (l .shares) = omega arith in (
       record {
         summed = s .pre .0 .0;
         positive = s .pre .0 .1;
         long = omega (arith, s .pre .1);
         each = λ i h. stored-each (s .args .shares .now) (l .shares) (l .i) (startOf (job s)) (l .inv .2) i (omega arith);
       },
-      spare-done (job s) (l .i) (l .spare) (omega arith) (l .inv .3),
+      (spare-done (job s) (l .i) (l .spare) (omega arith) (l .inv .3), rw long at (l .inv .4)),
     )
 
 pub write-starts-spec : {M : Type 1} → statement M
@@ -109,9 +135,12 @@ write-starts-spec =
     item-requires
     wide-product-requires
     start-requires
+    remainder-requires
     mul-shares
     slice-write-shares
     sub-spare
+    lesser-requires
+    greater-requires
     add-i
     loop-less
     loop-again

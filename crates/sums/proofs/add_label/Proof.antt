@@ -1,3 +1,5 @@
+-- `sums::add_label` meets its contract: the weight is its whole words and its bits, and a label that reaches past the last word changes nothing.
+-- Assumes nothing.
 use mathlib.Core.Path.{_≡_}
 use Prim.Native.Nat.{_+_, _*_, _/_, _%_}
 use native.Mathlib.Omega.{arith}

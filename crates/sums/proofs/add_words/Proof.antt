@@ -1,3 +1,5 @@
+-- `sums::add_words` meets its contract: from the highest word down, so that what a word takes is still the old one q words below it.
+-- Assumes nothing.
 use mathlib.Core.Path.{_≡_}
 use Prim.Native.Nat.{_-_, _*_, _≤_}
 use native.Mathlib.Omega.{arith}

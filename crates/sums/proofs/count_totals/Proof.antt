@@ -1,50 +1,51 @@
+-- `sums::count_totals` meets its contract: the ones of the words so far are their bits that are set, and stay within 32 bits.
+-- Assumes nothing.
 use mathlib.Core.Path.{_≡_}
 use Prim.Native.Nat.{_+_, _-_, _*_, _≤_}
 use native.Mathlib.Omega.{arith}
+use lib.Count.{ones}
 use lib.ListN.{length}
-use mir.Val.{boolByte}
 use borrow.Author.Needs.{needs}
-use Rattle.meaning.specs.Lists.{upTo, tally}
+use Rattle.meaning.specs.Lists.{at, upTo, tally}
 use Rattle.meaning.specs.Refusals.{mostBudget}
-use Rattle.meaning.proofs.Tally.{tally-more, tally-most}
+use Rattle.meaning.proofs.Tally.{tally-most}
 use Rattle.sums.specs.Words.{isSet}
+use Rattle.sums.proofs.Ones.{word-counted}
 use Rattle.sums.proofs.count_totals.Statement.{statement}
 use Rattle.sums.proofs.count_totals.Tie as tie
 
 abbrev Inv-loop : tie.InvT-loop
-Inv-loop words end count₀ t₀ count t = (t ≤ end) × (count ≡ tally (isSet words) (upTo t))
+Inv-loop words count₀ m₀ count m = (m ≤ length words) × (count ≡ tally (isSet words) (upTo (64 * m)))
 
 abbrev μ-loop : tie.MeasureT-loop
-μ-loop words end count₀ t₀ count t = end - t
+μ-loop words count₀ m₀ count m = length words - m
 
--- one bit more is counted
-more : (c : tie.After-is-set Inv-loop μ-loop) → let l = c .before .before .loop in
-    l .count + boolByte (c .is-set .result) ≡ tally (isSet (c .before .before .before .before .args .words .now)) (upTo (l .t + 1))
+-- one word more is counted
+more : (c : tie.After-shared-slice-known Inv-loop μ-loop) → let l = c .before .before .loop in
+    let words = c .before .before .before .args .words .now in
+    l .count + ones (at words (l .m)) ≡ tally (isSet words) (upTo (64 * (l .m + 1)))
 more c =
     let l = c .before .before .loop in
-    tally-more (isSet (c .before .before .before .before .args .words .now)) (l .t) (l .count) (c .is-set .result) (c .is-set .ensures) (l .inv .1)
-
-mul-end : tie.Need-mul-end Inv-loop μ-loop
-unfolding mostBudget
-mul-end c = search needs
+    omega (arith, l .inv .1, word-counted (c .before .before .before .args .words .now) (l .m) (omega (arith, c .shared-slice-known .given (l .m))))
 
 loop-holds : tie.Need-loop-holds Inv-loop μ-loop
 unfolding tally upTo
-loop-holds c = search needs
+loop-holds c = (omega arith, omega arith)
 
-is-set-requires : tie.Need-is-set-requires Inv-loop μ-loop
-is-set-requires c κs = search needs
+mul-count : tie.Need-mul-count Inv-loop μ-loop
+mul-count c = search needs
 
-cast-count : tie.Need-cast-count Inv-loop μ-loop
-cast-count c = search needs
+shared-slice-read-count : tie.Need-shared-slice-read-count Inv-loop μ-loop
+shared-slice-read-count c = search needs
 
 add-count : tie.Need-add-count Inv-loop μ-loop
 unfolding mostBudget
-add-count c = let l = c .before .before .loop in omega (arith, more c, tally-most (isSet (c .before .before .before .before .args .words .now)) (l .t + 1))
+add-count c =
+    let l = c .before .before .loop in
+    omega (arith, more c, tally-most (isSet (c .before .before .before .args .words .now)) (64 * (l .m + 1)))
 
-add-t : tie.Need-add-t Inv-loop μ-loop
-unfolding mostBudget
-add-t c = search needs
+add-m : tie.Need-add-m Inv-loop μ-loop
+add-m c = search needs
 
 loop-less : tie.Need-loop-less Inv-loop μ-loop
 loop-less c = search needs
@@ -55,8 +56,8 @@ loop-again c = (omega arith, more c)
 returns : tie.Need-returns Inv-loop μ-loop
 returns c =
     let l = c .before .loop in
-    let words = c .before .before .before .args .words .now in
-    let all : l .t ≡ 64 * length words = omega arith in
+    let words = c .before .before .args .words .now in
+    let all : l .m ≡ length words = omega arith in
     rw all at (l .inv .1)
 
 pub count-totals-spec : {M : Type 1} → statement M
@@ -65,12 +66,11 @@ count-totals-spec =
     (tie.spec
     Inv-loop
     μ-loop
-    mul-end
     loop-holds
-    is-set-requires
-    cast-count
+    mul-count
+    shared-slice-read-count
     add-count
-    add-t
+    add-m
     loop-less
     loop-again
     returns)

@@ -1,3 +1,5 @@
+-- `sums::fill` meets its contract: total 0 alone with no labels, and then a label more each turn.
+-- Assumes nothing.
 use native.Mathlib.Numerals.{add-one}
 use mathlib.Core.Path.{_≡_, refl, _∙_}
 use Prim.Native.Nat.{_-_, _≤_}

@@ -1,3 +1,5 @@
+-- `sums::is_set` meets its contract: bit t mod 64 of word t / 64 is 1.
+-- Assumes nothing.
 use borrow.Author.Needs.{needs}
 use Rattle.meaning.specs.Sums.{bit}
 use Rattle.sums.specs.Words.{isSet}

@@ -1,3 +1,5 @@
+-- `sums::solve` meets its contract: a job that is not refused has the words that it needs, and those past them stay.
+-- Assumes nothing.
 use mathlib.Core.Path.{_≡_, sym, _∙_}
 use Prim.Native.Nat.{_+_, _/_, _≤_}
 use lib.ListN.{take, length}

@@ -1,3 +1,5 @@
+-- `sums::table` meets its contract: the words are filled and trimmed, and the answer is read off them.
+-- Assumes nothing.
 use mathlib.Core.Path.{_∙_}
 use native.Mathlib.Omega.{arith}
 use lib.ListN.{length}

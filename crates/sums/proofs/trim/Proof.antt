@@ -1,3 +1,5 @@
+-- `sums::trim` meets its contract: the last word loses the bits above the budget.
+-- Assumes nothing.
 use borrow.Author.Needs.{needs}
 use Rattle.sums.proofs.Words.{trimmed}
 use Rattle.sums.proofs.trim.Statement.{statement}

@@ -1,0 +1,2 @@
+-- The laws that the proofs of this crate's functions cite, by subject.
+pub mod Parts

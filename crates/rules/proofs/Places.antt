@@ -1,0 +1,65 @@
+-- The room that each kind needs.
+-- Assumes nothing.
+use mathlib.Core.Path.{_≡_, refl}
+use Prim.Native.Nat.{ℕ, _+_, _*_, _/_, _≤_, _<_}
+use mathlib.Core.Bool.{Bool, false, _&&_}
+use lib.Dec.{leb}
+use borrow.Author.Tests.{le-leb, lt-leb}
+use native.Mathlib.Omega.{arith}
+use native.Mathlib.Nat.{mul-le-mul}
+use Rattle.meaning.specs.Job.{Sort, once, limited, free, packing, subset-sums, fewest-blocks, block-ways, sharing}
+use Rattle.meaning.specs.Lent.{cellCount, roomFor, roomOf}
+use Rattle.meaning.specs.Refusals.{mostLabels, mostBudget}
+use Rattle.meaning.proofs.Laws.{numberOf}
+use Rattle.rules.specs.Places.{NeededBy, roomFrom}
+
+-- ---- kinds 1 to 3
+
+pub one-row : (k : Sort) (n budget : ℕ) → numberOf (packing k) ≡ 3 → NeededBy (packing k) n budget (record { cells = budget + 1; words = 0; picks = n })
+unfolding NeededBy roomFrom roomFor roomOf numberOf
+one-row once n budget three j e f = absurd (omega arith)
+one-row limited n budget three j e f = absurd (omega arith)
+one-row free n budget three j e f = rw (e, f)
+
+pub all-rows : (k : Sort) (n budget : ℕ) → ¬ (numberOf (packing k) ≡ 3) → NeededBy (packing k) n budget (record { cells = (n + 1) * (budget + 1); words = 0; picks = n })
+unfolding NeededBy roomFrom roomFor roomOf numberOf cellCount
+all-rows once n budget other j e f = rw (e, f)
+all-rows limited n budget other j e f = rw (e, f)
+all-rows free n budget other j e f = absurd (other refl)
+
+-- the cells can be counted
+pub few-cells : (n budget : ℕ) → n ≤ mostLabels → budget ≤ mostBudget → (n + 1) * (budget + 1) ≤ (mostLabels + 1) * (mostBudget + 1)
+few-cells n budget h l =
+    let rows : n + 1 ≤ mostLabels + 1 = omega arith in
+    let width : budget + 1 ≤ mostBudget + 1 = omega arith in
+    mul-le-mul rows width
+
+-- ---- kinds 4 to 7
+
+module _ (n budget : ℕ) where
+  pub bits-needed : NeededBy subset-sums n budget (record { cells = 0; words = budget / 64 + 1; picks = 0 })
+  unfolding NeededBy roomFrom roomFor roomOf
+  bits-needed j e f = rw f
+
+  pub fewest-needed : NeededBy fewest-blocks n budget (record { cells = budget + 1; words = 0; picks = n })
+  unfolding NeededBy roomFrom roomFor roomOf
+  fewest-needed j e f = rw (e, f)
+
+  pub ways-needed : NeededBy block-ways n budget (record { cells = 0; words = budget + 1; picks = 0 })
+  unfolding NeededBy roomFrom roomFor roomOf
+  ways-needed j e f = rw f
+
+  pub shares-needed : NeededBy sharing n budget (record { cells = 0; words = 0; picks = n })
+  unfolding NeededBy roomFrom roomFor roomOf
+  shares-needed j e f = rw e
+
+-- ---- whether it is there, slice by slice
+
+pub first-fails : (needed there : ℕ) (second third : Bool) → there < needed → false ≡ (leb needed there && second && third)
+first-fails needed there second third h = rw (lt-leb needed there h)
+
+pub second-fails : (needed there needed-too there-too : ℕ) (third : Bool) → needed ≤ there → there-too < needed-too → false ≡ (leb needed there && leb needed-too there-too && third)
+second-fails needed there needed-too there-too third h l = rw (le-leb needed there h, lt-leb needed-too there-too l)
+
+pub last-asked : (needed there needed-too there-too : ℕ) (third : Bool) → needed ≤ there → needed-too ≤ there-too → third ≡ (leb needed there && leb needed-too there-too && third)
+last-asked needed there needed-too there-too third h l = rw (le-leb needed there h, le-leb needed-too there-too l)

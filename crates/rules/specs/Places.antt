@@ -1,0 +1,15 @@
+-- The room that a job needs, as the code holds it.
+-- Assumes nothing.
+use mathlib.Core.Path.{_≡_}
+use Prim.Native.Nat.{ℕ}
+use Rattle.meaning.specs.Job.{Job, Kind, labels}
+use Rattle.meaning.specs.Lent as meaning
+use Rattle.rules.specs.declared.Room.{Room}
+
+-- the room that the code's is
+unfoldable pub roomFrom : Room → meaning.Room
+roomFrom r = meaning.roomOf (r .cells) (r .words) (r .picks)
+
+-- it is what a job of this kind with n labels and this budget needs
+unfoldable pub NeededBy : Kind → ℕ → ℕ → Room → Type 0
+NeededBy k n budget r = (j : Job) → labels j ≡ n → j .budget ≡ budget → roomFrom r ≡ meaning.roomFor k j
