@@ -1,0 +1,102 @@
+//! The jobs that are timed, drawn from a fixed seed, so that a run can be repeated.
+use crate::request;
+
+/// Numbers from a small xorshift.
+pub struct Draw(u64);
+
+impl Draw {
+    pub fn new(seed: u64) -> Draw {
+        Draw(seed)
+    }
+
+    /// A number from `least` to `most`.
+    pub fn number(&mut self, least: u32, most: u32) -> u32 {
+        self.0 ^= self.0 << 13;
+        self.0 ^= self.0 >> 7;
+        self.0 ^= self.0 << 17;
+        least + ((self.0 >> 16) % (u64::from(most - least) + 1)) as u32
+    }
+
+    pub fn list(&mut self, n: usize, least: u32, most: u32) -> Vec<u32> {
+        (0..n).map(|_| self.number(least, most)).collect()
+    }
+
+    /// Different sizes up to `most`, ascending.
+    fn sizes(&mut self, n: usize, most: u32) -> Vec<u32> {
+        let mut sizes = Vec::new();
+        while sizes.len() < n {
+            sizes.push(self.number(1, most));
+            sizes.sort_unstable();
+            sizes.dedup();
+        }
+        sizes
+    }
+}
+
+/// Job bytes, with how many cells, words and picks such a job needs.
+pub struct Job {
+    pub name: String,
+    pub bytes: Vec<u8>,
+    pub room: [usize; 3],
+}
+
+/// A number with commas.
+pub fn said(x: usize) -> String {
+    if x < 1_000 {
+        x.to_string()
+    } else {
+        format!("{},{:03}", said(x / 1_000), x % 1_000)
+    }
+}
+
+/// The lists as the five sections of a job.
+pub fn bytes_of(kind: u32, budget: u32, weights: &[u32], values: &[u32], copies: &[u32]) -> Vec<u8> {
+    let mut bytes = Vec::new();
+    for list in [&[kind], &[budget], weights, values, copies] {
+        for x in [&[list.len() as u32], list].concat() {
+            bytes.extend(x.to_le_bytes());
+        }
+    }
+    bytes
+}
+
+impl Job {
+    fn new(name: &str, kind: u32, budget: u32, weights: &[u32], values: &[u32], copies: &[u32]) -> Job {
+        let bytes = bytes_of(kind, budget, weights, values, copies);
+        let mut job = request::Job::default();
+        job.read(&bytes).expect("job bytes");
+        Job { name: format!("kind {kind}, {} {name}", said(weights.len())), bytes, room: job.room() }
+    }
+}
+
+/// Kinds 1 to 4: labels of weight 1 to `heaviest`.
+pub fn labels(kind: u32, n: usize, budget: u32, heaviest: u32) -> Job {
+    let mut draw = Draw::new(0x5eed_1a8e_15ca_1e5d);
+    let weights = draw.list(n, 1, heaviest);
+    let values = draw.list(if kind < 4 { n } else { 0 }, 1, 65_535);
+    let copies = draw.list(if kind == 2 { n } else { 0 }, 1, 20);
+    let copied = if kind == 2 { ", copies to 20" } else { "" };
+    let name = format!("labels, C {}, weights to {}{copied}", said(budget as usize), said(heaviest as usize));
+    Job::new(&name, kind, budget, &weights, &values, &copies)
+}
+
+/// Kinds 5 and 6: three sets of sizes.
+pub fn sizes(kind: u32, n: usize, budget: u32, greatest: u32) -> [Job; 3] {
+    let steps = |step: u32| -> Vec<u32> { (1..=n as u32).map(|k| step * k).collect() };
+    let drawn = Draw::new(0x0b10_c5ed_5a3e_d17e).sizes(n, greatest);
+    let c = said(budget as usize);
+    let job = |name: String, sizes: &[u32]| Job::new(&format!("sizes, C {c}, {name}"), kind, budget, sizes, &[], &[]);
+    [
+        job(format!("1 to {n}"), &steps(1)),
+        job(format!("random to {}", said(greatest as usize)), &drawn),
+        job(format!("16, 32 .. {}", said(16 * n)), &steps(16)),
+    ]
+}
+
+/// Kind 7: three sets of claims.
+pub fn claims(n: usize) -> [Job; 3] {
+    const BUDGET: u32 = 2_718_281_828;
+    let mut draw = Draw::new(0xc1a1_3ed0_5a7e_b0a7);
+    let job = |name: &str, claims: &[u32]| Job::new(&format!("claims, {name}"), 7, BUDGET, claims, &[], &[]);
+    [job("random of 32 bits", &draw.list(n, 0, u32::MAX)), job("1 to 10", &draw.list(n, 1, 10)), job("all equal", &vec![10; n])]
+}

@@ -1,0 +1,132 @@
+//! Times the proved library beside Rust, and prints Markdown tables. bench/README.md says what is measured and how to read it.
+mod agree;
+mod checker;
+mod jobs;
+mod ours;
+mod plain;
+mod request;
+mod strong;
+mod timing;
+
+use jobs::Job;
+use request::answered;
+use timing::{race, Side, Table, Times};
+
+/// No kind is to take more than this of plain Rust's time.
+const GOAL: f64 = 1.05;
+
+fn main() {
+    let part = std::env::args().nth(1);
+    agree::compare();
+    if part.as_deref() != Some("growth") {
+        ratios(part.as_deref());
+    }
+    if part.is_none_or(|part| part == "growth") {
+        growth();
+    }
+}
+
+/// The library against Rust: all kinds and the checker, or one of them.
+fn ratios(part: Option<&str>) {
+    println!("\n| Job | Ours | Plain Rust | Ratio | Strong Rust | Ratio |\n|---|---|---|---|---|---|");
+    let asked = |name: &str| part.is_none_or(|part| part == name);
+    let mut ratios = Vec::new();
+    for kind in 1..=7 {
+        if asked(&kind.to_string()) {
+            let sides = if strong::KINDS.contains(&kind) { 3 } else { 2 };
+            ratios.extend(jobs_of(kind).iter().map(|job| line(&job.name, &solved(job, sides))));
+        }
+    }
+    if asked("check") {
+        ratios.extend(labels_jobs(1).iter().map(|job| line(&job.name.replace("kind 1", "checker"), &checked(job, 3))));
+    }
+    let above = ratios.iter().filter(|&&ratio| ratio > GOAL).count();
+    println!("\n{above} of {} ratios to plain Rust are above {GOAL}.", ratios.len());
+}
+
+/// The two sizes of kinds 1 to 4.
+fn labels_jobs(kind: u32) -> Vec<Job> {
+    vec![jobs::labels(kind, 1_000, 60_000, 3_000), jobs::labels(kind, 50, 500, 100)]
+}
+
+fn jobs_of(kind: u32) -> Vec<Job> {
+    match kind {
+        3 => labels_jobs(3).into_iter().chain([jobs::labels(3, 1_000, 60_000, 16), jobs::labels(3, 50, 500, 16)]).collect(),
+        1..=4 => labels_jobs(kind),
+        5 | 6 => jobs::sizes(kind, 64, 60_000, 3_000).into_iter().chain(jobs::sizes(kind, 64, 500, 400)).collect(),
+        _ => jobs::claims(1_000).into_iter().chain(jobs::claims(50)).collect(),
+    }
+}
+
+/// A job solved by the first `count` of the library, plain Rust and strong Rust.
+fn solved(job: &Job, count: usize) -> Times {
+    let (mut plain_scratch, mut strong_scratch) = (plain::Scratch::default(), plain::Scratch::default());
+    let mut sides: Vec<Side> = vec![
+        Box::new(|table| ours::solve(&job.bytes, table.lend())),
+        Box::new(|table| plain::solve(&job.bytes, table.lend(), &mut plain_scratch)),
+        Box::new(|table| strong::solve(&job.bytes, table.lend(), &mut strong_scratch)),
+    ];
+    sides.truncate(count);
+    race(&job.name, [Table::for_job(job), Table::for_job(job)], sides)
+}
+
+/// The certificate of a job's own answer.
+fn certificate(job: &Job) -> Vec<u8> {
+    let mut table = Table::for_job(job);
+    ours::solve(&job.bytes, table.lend());
+    ours::write(&job.bytes, &table.picks, &table.cells).expect("a certificate")
+}
+
+/// A job's certificate judged by the first `count` of them.
+fn checked(job: &Job, count: usize) -> Times {
+    let certificate = certificate(job);
+    let (mut plain_job, mut strong_job) = (request::Job::default(), request::Job::default());
+    let mut sides: Vec<Side> = vec![
+        Box::new(|_| answered(ours::check(&job.bytes, &certificate), 0, 0)),
+        Box::new(|_| answered(checker::check(&job.bytes, &certificate, &mut plain_job, checker::plain).0, 0, 0)),
+        Box::new(|_| answered(checker::check(&job.bytes, &certificate, &mut strong_job, checker::strong).0, 0, 0)),
+    ];
+    sides.truncate(count);
+    race(&job.name, [Table::none(), Table::none()], sides)
+}
+
+/// Nanoseconds in a unit that leaves three digits.
+fn time(nanoseconds: f64) -> String {
+    let (number, unit) = match nanoseconds {
+        t if t >= 1e6 => (t / 1e6, "ms"),
+        t if t >= 1e3 => (t / 1e3, "us"),
+        t => return format!("{t:.0} ns"),
+    };
+    let digits = 2_usize.saturating_sub(number.log10() as usize);
+    format!("{number:.digits$} {unit}")
+}
+
+/// Prints a line of the table, and gives the ratio to plain Rust.
+fn line(name: &str, times: &Times) -> f64 {
+    let ours = times.best[0];
+    let ratio = ours / times.best[1];
+    let mark = if ratio > GOAL { "**" } else { "" };
+    let note = if times.answer.refusal > 0 { format!(" (refused {})", times.answer.refusal) } else { String::new() };
+    let strong = times.best.get(2).map_or("|".to_string(), |&strong| format!("{} | {:.2}", time(strong), ours / strong));
+    println!("| {name}{note} | {} | {} | {mark}{ratio:.2}{mark} | {strong} |", time(ours), time(times.best[1]));
+    ratio
+}
+
+/// How the library's own time grows as n and C double.
+fn growth() {
+    println!("\n| Job | half n, half C | n doubled | C doubled | both |\n|---|---|---|---|---|");
+    let sizes = [(1, 1), (2, 1), (1, 2), (2, 2)];
+    let alone = |job: &Job| time(solved(job, 1).best[0]);
+    let judged = |job: &Job| time(checked(job, 1).best[0]);
+    let row = |name: &str, times: [String; 4]| println!("| {name} | {} |", times.join(" | "));
+    for kind in 1..=4 {
+        row(&format!("kind {kind}, to 1,000 labels and C 60,000"), sizes.map(|(n, c)| alone(&jobs::labels(kind, 500 * n, 30_000 * c, 3_000))));
+    }
+    for kind in 5..=6 {
+        let middle = |n, c| alone(&jobs::sizes(kind, 32 * n, 30_000 * c, 3_000)[1]);
+        row(&format!("kind {kind}, to 64 sizes and C 60,000"), sizes.map(|(n, c)| middle(n, c)));
+    }
+    row("checker, to 1,000 labels and C 60,000", sizes.map(|(n, c)| judged(&jobs::labels(1, 500 * n, 30_000 * c, 3_000))));
+    let shared = |n| alone(&jobs::claims(n)[0]);
+    println!("\nKind 7, random claims: {} for 500, {} for 1,000; it doesn't grow with C.", shared(500), shared(1_000));
+}

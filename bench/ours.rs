@@ -1,0 +1,70 @@
+//! The proved library, by the entries of include/quabnester.h.
+use crate::request::{answered, Answer, Lent};
+
+extern "C" {
+    fn quabnester_solve(
+        job: *const u8,
+        job_len: usize,
+        cells: *mut u32,
+        cells_len: usize,
+        words: *mut u64,
+        words_len: usize,
+        picks: *mut u32,
+        picks_len: usize,
+        first: *mut u64,
+        second: *mut u64,
+    ) -> u32;
+    fn quabnester_write(
+        job: *const u8,
+        job_len: usize,
+        picks: *const u32,
+        picks_len: usize,
+        cells: *const u32,
+        cells_len: usize,
+        out: *mut u8,
+        out_len: usize,
+        written: *mut u64,
+    ) -> u32;
+    fn quabnester_check(job: *const u8, job_len: usize, certificate: *const u8, certificate_len: usize) -> u32;
+    fn quabnester_check_detail(job: *const u8, job_len: usize, certificate: *const u8, certificate_len: usize) -> u64;
+}
+
+pub fn solve(job: &[u8], lent: Lent) -> Answer {
+    let Lent { cells, words, picks } = lent;
+    let (mut first, mut second) = (0, 0);
+    let refusal = unsafe {
+        quabnester_solve(
+            job.as_ptr(),
+            job.len(),
+            cells.as_mut_ptr(),
+            cells.len(),
+            words.as_mut_ptr(),
+            words.len(),
+            picks.as_mut_ptr(),
+            picks.len(),
+            &mut first,
+            &mut second,
+        )
+    };
+    answered(refusal, first, second)
+}
+
+/// The certificate of what a kind 1 answer left; none where it is refused.
+pub fn write(job: &[u8], picks: &[u32], cells: &[u32]) -> Option<Vec<u8>> {
+    let mut out = vec![0; 8 + 4 * picks.len() + 4 * cells.len()];
+    let mut written = 0;
+    let refusal = unsafe {
+        quabnester_write(job.as_ptr(), job.len(), picks.as_ptr(), picks.len(), cells.as_ptr(), cells.len(), out.as_mut_ptr(), out.len(), &mut written)
+    };
+    out.truncate(written as usize);
+    (refusal == 0).then_some(out)
+}
+
+pub fn check(job: &[u8], certificate: &[u8]) -> u32 {
+    unsafe { quabnester_check(job.as_ptr(), job.len(), certificate.as_ptr(), certificate.len()) }
+}
+
+/// The value, or the place.
+pub fn check_detail(job: &[u8], certificate: &[u8]) -> u64 {
+    unsafe { quabnester_check_detail(job.as_ptr(), job.len(), certificate.as_ptr(), certificate.len()) }
+}

@@ -1,0 +1,259 @@
+//! The planner in plain Rust, from job bytes to answer, with the contract of include/quabnester.h.
+use crate::request::{answered, refused, Answer, Job, Lent};
+use std::cmp::Reverse;
+use std::iter::zip;
+
+/// What is kept from call to call, so that a call allocates nothing.
+#[derive(Default)]
+pub struct Scratch {
+    pub job: Job,
+    remainders: Vec<u64>,
+    order: Vec<u32>,
+}
+
+pub fn solve(bytes: &[u8], lent: Lent, scratch: &mut Scratch) -> Answer {
+    if let Some(refusal) = turned_down(bytes, &lent, &mut scratch.job) {
+        return refused(refusal);
+    }
+    match scratch.job.kind {
+        1 => once(&scratch.job, lent),
+        2 => copies(&scratch.job, lent),
+        3 => any_number(&scratch.job, lent),
+        4 => totals(&scratch.job, lent.words),
+        5 => fewest_blocks(&scratch.job, lent),
+        6 => ways(&scratch.job, lent.words),
+        _ => shares(scratch, lent.picks, |order, remainders, _| {
+            order.sort_unstable_by_key(|&i| (Reverse(remainders[i as usize]), i));
+        }),
+    }
+}
+
+/// Reads the job; the lowest refusal that applies before anything is written.
+pub fn turned_down(bytes: &[u8], lent: &Lent, job: &mut Job) -> Option<u32> {
+    if job.read(bytes).is_none() {
+        return Some(1);
+    }
+    if !(1..=7).contains(&job.kind) {
+        return Some(2);
+    }
+    match job.rule_broken() {
+        0 if job.lacks_room(lent) => Some(6),
+        0 if job.kind == 7 && job.weights.iter().all(|&claim| claim == 0) => Some(9),
+        0 => None,
+        refusal => Some(refusal),
+    }
+}
+
+/// One of a label over the row before. The row is split at the weight, so that no cell asks whether the label fits.
+pub fn next_row(before: &[u32], after: &mut [u32], w: u32, v: u32) {
+    let fits = (w as usize).min(before.len());
+    after[..fits].copy_from_slice(&before[..fits]);
+    for ((cell, &without), &with) in zip(zip(&mut after[fits..], &before[fits..]), before) {
+        *cell = without.max(with + v);
+    }
+}
+
+/// Kind 1.
+fn once(job: &Job, lent: Lent) -> Answer {
+    let width = job.width();
+    lent.cells[..width].fill(0);
+    for (i, (&w, &v)) in zip(&job.weights, &job.values).enumerate() {
+        let (before, after) = lent.cells[i * width..(i + 2) * width].split_at_mut(width);
+        next_row(before, after, w, v);
+    }
+    once_back(job, lent)
+}
+
+/// The picks of kind 1: a label is kept, from the last on, where its row is worth more than the row before.
+fn once_back(job: &Job, lent: Lent) -> Answer {
+    let width = job.width();
+    let mut c = width - 1;
+    for (i, &w) in job.weights.iter().enumerate().rev() {
+        let at = i * width + c;
+        let kept = lent.cells[at] != lent.cells[at + width];
+        lent.picks[i] = u32::from(kept);
+        if kept {
+            c -= w as usize;
+        }
+    }
+    answered(0, lent.cells[job.weights.len() * width + width - 1].into(), (width - 1 - c) as u64)
+}
+
+/// One more of a label, in place, from the greatest budget down.
+fn raise_down(row: &mut [u32], w: usize, v: u32) {
+    for c in (w..row.len()).rev() {
+        row[c] = row[c].max(row[c - w] + v);
+    }
+}
+
+/// Kind 2: the first copy from row to row, the others in parts of 1, 2, 4 and so on, in place.
+fn copies(job: &Job, lent: Lent) -> Answer {
+    let width = job.width();
+    lent.cells[..width].fill(0);
+    for (i, &limit) in job.copies.iter().enumerate() {
+        let (w, v) = (job.weights[i], job.values[i]);
+        let (before, after) = lent.cells[i * width..(i + 2) * width].split_at_mut(width);
+        let mut left = limit.min(job.budget / w);
+        if left == 0 {
+            after.copy_from_slice(before);
+            continue;
+        }
+        next_row(before, after, w, v);
+        left -= 1;
+        let mut part = 2;
+        while left > 0 {
+            let count = left.min(part);
+            raise_down(after, (w * count) as usize, v * count);
+            left -= count;
+            part *= 2;
+        }
+    }
+    copies_back(job, lent)
+}
+
+/// The picks of kind 2: of each label, from the last on, the least count that the row before explains.
+pub fn copies_back(job: &Job, lent: Lent) -> Answer {
+    let width = job.width();
+    let n = job.weights.len();
+    let mut c = width - 1;
+    for i in (0..n).rev() {
+        let before = &lent.cells[i * width..];
+        let mut goal = lent.cells[(i + 1) * width + c];
+        let mut count = 0;
+        while before[c] != goal {
+            c -= job.weights[i] as usize;
+            goal -= job.values[i];
+            count += 1;
+        }
+        lent.picks[i] = count;
+    }
+    answered(0, lent.cells[n * width + width - 1].into(), (width - 1 - c) as u64)
+}
+
+/// Kind 3: one row, from small budgets up.
+fn any_number(job: &Job, lent: Lent) -> Answer {
+    let row = &mut lent.cells[..job.width()];
+    row.fill(0);
+    for (&w, &v) in zip(&job.weights, &job.values) {
+        let w = w as usize;
+        for c in w..row.len() {
+            row[c] = row[c].max(row[c - w] + v);
+        }
+    }
+    any_along(job, row, lent.picks)
+}
+
+/// The picks of kind 3: of each label, from the first on, as many as lead on.
+pub fn any_along(job: &Job, row: &[u32], picks: &mut [u32]) -> Answer {
+    let mut c = row.len() - 1;
+    for (pick, (&w, &v)) in zip(picks, zip(&job.weights, &job.values)) {
+        let w = w as usize;
+        *pick = 0;
+        while c >= w && row[c - w] + v == row[c] {
+            c -= w;
+            *pick += 1;
+        }
+    }
+    answered(0, row[row.len() - 1].into(), (row.len() - 1 - c) as u64)
+}
+
+/// Kind 4: the totals as bits, a label by shifts of whole words and of bits.
+fn totals(job: &Job, words: &mut [u64]) -> Answer {
+    let last = job.budget as usize;
+    let words = &mut words[..last / 64 + 1];
+    words.fill(0);
+    words[0] = 1;
+    for &w in &job.weights {
+        add_label(words, w as usize);
+    }
+    words[last / 64] &= u64::MAX >> (63 - last % 64);
+    let yes = words[last / 64] >> (last % 64) & 1;
+    answered(0, yes, words.iter().map(|word| u64::from(word.count_ones())).sum())
+}
+
+fn add_label(words: &mut [u64], w: usize) {
+    let (whole, bits) = (w / 64, w % 64);
+    if whole >= words.len() {
+        return;
+    }
+    if bits == 0 {
+        for m in (whole..words.len()).rev() {
+            words[m] |= words[m - whole];
+        }
+        return;
+    }
+    for m in (whole + 1..words.len()).rev() {
+        words[m] |= words[m - whole] << bits | words[m - whole - 1] >> (64 - bits);
+    }
+    words[whole] |= words[0] << bits;
+}
+
+/// Kind 5: one row in place.
+fn fewest_blocks(job: &Job, lent: Lent) -> Answer {
+    let row = &mut lent.cells[..job.width()];
+    row.fill(u32::MAX);
+    row[0] = 0;
+    for &w in &job.weights {
+        let w = w as usize;
+        for a in w..row.len() {
+            row[a] = row[a].min(row[a - w].saturating_add(1));
+        }
+    }
+    blocks_back(job, row, lent.picks)
+}
+
+/// The picks of kind 5: of each size, from the last on, as many as leave fewer blocks.
+pub fn blocks_back(job: &Job, row: &[u32], picks: &mut [u32]) -> Answer {
+    let mut a = row.len() - 1;
+    let blocks = row[a];
+    if blocks == u32::MAX {
+        return refused(7);
+    }
+    for (pick, &w) in zip(&mut picks[..job.weights.len()], &job.weights).rev() {
+        let w = w as usize;
+        *pick = 0;
+        while a >= w && row[a - w] < row[a] {
+            a -= w;
+            *pick += 1;
+        }
+    }
+    answered(0, blocks.into(), 0)
+}
+
+/// Kind 6: one row in place.
+fn ways(job: &Job, words: &mut [u64]) -> Answer {
+    let row = &mut words[..job.width()];
+    row.fill(0);
+    row[0] = 1;
+    for &w in &job.weights {
+        let w = w as usize;
+        for a in w..row.len() {
+            row[a] = row[a].saturating_add(row[a - w]);
+        }
+    }
+    match row[row.len() - 1] {
+        u64::MAX => refused(8),
+        ways => answered(0, ways, 0),
+    }
+}
+
+/// Kind 7: the starts, then a unit each to the largest remainders, which `arrange` brings to the front.
+pub fn shares(scratch: &mut Scratch, picks: &mut [u32], arrange: impl Fn(&mut [u32], &[u64], usize)) -> Answer {
+    let Scratch { job, remainders, order } = scratch;
+    let sum: u64 = job.weights.iter().map(|&claim| u64::from(claim)).sum();
+    let mut spare = job.budget;
+    remainders.clear();
+    for (pick, &claim) in zip(&mut *picks, &job.weights) {
+        let product = u64::from(job.budget) * u64::from(claim);
+        *pick = (product / sum) as u32;
+        spare -= *pick;
+        remainders.push(product % sum);
+    }
+    order.clear();
+    order.extend(0..job.weights.len() as u32);
+    arrange(order, remainders, spare as usize);
+    for &i in &order[..spare as usize] {
+        picks[i as usize] += 1;
+    }
+    answered(0, spare.into(), 0)
+}

@@ -1,0 +1,125 @@
+//! A job as a good engineer reads it: bytes decoded once a call, and the refusals that come before anything is written.
+
+/// The slices that a call is lent.
+pub struct Lent<'a> {
+    pub cells: &'a mut [u32],
+    pub words: &'a mut [u64],
+    pub picks: &'a mut [u32],
+}
+
+/// What a call returns: 0 or the refusal number, and the two numbers of the answer.
+#[derive(Clone, Copy, Debug, PartialEq)]
+pub struct Answer {
+    pub refusal: u32,
+    pub first: u64,
+    pub second: u64,
+}
+
+pub fn refused(refusal: u32) -> Answer {
+    answered(refusal, 0, 0)
+}
+
+pub fn answered(refusal: u32, first: u64, second: u64) -> Answer {
+    Answer { refusal, first, second }
+}
+
+/// A job's numbers, in vectors that are kept from call to call.
+#[derive(Default)]
+pub struct Job {
+    pub kind: u32,
+    pub budget: u32,
+    pub weights: Vec<u32>,
+    pub values: Vec<u32>,
+    pub copies: Vec<u32>,
+}
+
+/// The next section of the bytes, without its count.
+pub fn section<'a>(bytes: &mut &'a [u8]) -> Option<&'a [u8]> {
+    let (count, rest) = bytes.split_first_chunk::<4>()?;
+    let length = 4 * u64::from(u32::from_le_bytes(*count));
+    let (part, rest) = rest.split_at_checked(usize::try_from(length).ok()?)?;
+    *bytes = rest;
+    Some(part)
+}
+
+/// A section of one number.
+fn single(bytes: &mut &[u8]) -> Option<u32> {
+    Some(u32::from_le_bytes(section(bytes)?.try_into().ok()?))
+}
+
+/// Four bytes as a number.
+pub fn number(bytes: &[u8]) -> u32 {
+    u32::from_le_bytes(bytes.try_into().unwrap())
+}
+
+fn decode(bytes: &mut &[u8], list: &mut Vec<u32>) -> Option<()> {
+    list.clear();
+    list.extend(section(bytes)?.chunks_exact(4).map(number));
+    Some(())
+}
+
+impl Job {
+    /// Reads job bytes; none where they can't be read.
+    pub fn read(&mut self, mut bytes: &[u8]) -> Option<()> {
+        self.kind = single(&mut bytes)?;
+        self.budget = single(&mut bytes)?;
+        decode(&mut bytes, &mut self.weights)?;
+        decode(&mut bytes, &mut self.values)?;
+        decode(&mut bytes, &mut self.copies)?;
+        bytes.is_empty().then_some(())
+    }
+
+    /// The cells of a row: one for each budget from 0 to C.
+    pub fn width(&self) -> usize {
+        self.budget as usize + 1
+    }
+
+    /// The lowest of 3 to 5 that applies, or 0, for a kind from 1 to 7.
+    pub fn rule_broken(&self) -> u32 {
+        let n = self.weights.len();
+        let values = if self.kind <= 3 { n } else { 0 };
+        let copies = if self.kind == 2 { n } else { 0 };
+        if self.values.len() != values || self.copies.len() != copies {
+            return 3;
+        }
+        let (most_labels, most_budget) = match self.kind {
+            1..=4 => (1_024, 65_535),
+            5 | 6 => (64, 65_535),
+            _ => (1_024, u32::MAX),
+        };
+        if n > most_labels || self.budget > most_budget {
+            return 4;
+        }
+        let weights_right = match self.kind {
+            1..=4 => !self.weights.contains(&0),
+            5 | 6 => self.weights.first() != Some(&0) && self.weights.is_sorted_by(|a, b| a < b),
+            _ => true,
+        };
+        let least_value = if self.kind == 3 { 1 } else { 0 };
+        let values_right = self.values.iter().all(|v| (least_value..=65_535).contains(v));
+        let copies_right = self.copies.iter().all(|&k| k <= 65_535);
+        if weights_right && values_right && copies_right {
+            0
+        } else {
+            5
+        }
+    }
+
+    /// How many cells, words and picks are needed, for a kind from 1 to 7.
+    pub fn room(&self) -> [usize; 3] {
+        let n = self.weights.len();
+        match self.kind {
+            1 | 2 => [(n + 1) * self.width(), 0, n],
+            3 | 5 => [self.width(), 0, n],
+            4 => [0, self.budget as usize / 64 + 1, 0],
+            6 => [0, self.width(), 0],
+            _ => [0, 0, n],
+        }
+    }
+
+    /// Whether a slice that is needed is too short.
+    pub fn lacks_room(&self, lent: &Lent) -> bool {
+        let [cells, words, picks] = self.room();
+        lent.cells.len() < cells || lent.words.len() < words || lent.picks.len() < picks
+    }
+}
