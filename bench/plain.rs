@@ -12,12 +12,9 @@ pub struct Scratch {
 }
 
 pub fn solve(bytes: &[u8], lent: Lent, scratch: &mut Scratch) -> Answer {
-    if let Some(refusal) = turned_down(bytes, &lent, &mut scratch.job) {
-        return refused(refusal);
-    }
-    match scratch.job.kind {
+    unless_refused(bytes, lent, scratch, |scratch, lent| match scratch.job.kind {
         1 => once(&scratch.job, lent),
-        2 => copies(&scratch.job, lent),
+        2 => copies(&scratch.job, lent, raise_down),
         3 => any_number(&scratch.job, lent),
         4 => totals(&scratch.job, lent.words),
         5 => fewest_blocks(&scratch.job, lent),
@@ -25,11 +22,19 @@ pub fn solve(bytes: &[u8], lent: Lent, scratch: &mut Scratch) -> Answer {
         _ => shares(scratch, lent.picks, |order, remainders, _| {
             order.sort_unstable_by_key(|&i| (Reverse(remainders[i as usize]), i));
         }),
+    })
+}
+
+/// Reads the job, and has it solved where nothing refuses it before.
+pub fn unless_refused(bytes: &[u8], lent: Lent, scratch: &mut Scratch, solve: impl FnOnce(&mut Scratch, Lent) -> Answer) -> Answer {
+    match turned_down(bytes, &lent, &mut scratch.job) {
+        Some(refusal) => refused(refusal),
+        None => solve(scratch, lent),
     }
 }
 
 /// Reads the job; the lowest refusal that applies before anything is written.
-pub fn turned_down(bytes: &[u8], lent: &Lent, job: &mut Job) -> Option<u32> {
+fn turned_down(bytes: &[u8], lent: &Lent, job: &mut Job) -> Option<u32> {
     if job.read(bytes).is_none() {
         return Some(1);
     }
@@ -45,7 +50,7 @@ pub fn turned_down(bytes: &[u8], lent: &Lent, job: &mut Job) -> Option<u32> {
 }
 
 /// One of a label over the row before. The row is split at the weight, so that no cell asks whether the label fits.
-pub fn next_row(before: &[u32], after: &mut [u32], w: u32, v: u32) {
+fn next_row(before: &[u32], after: &mut [u32], w: u32, v: u32) {
     let fits = (w as usize).min(before.len());
     after[..fits].copy_from_slice(&before[..fits]);
     for ((cell, &without), &with) in zip(zip(&mut after[fits..], &before[fits..]), before) {
@@ -79,40 +84,39 @@ fn once_back(job: &Job, lent: Lent) -> Answer {
     answered(0, lent.cells[job.weights.len() * width + width - 1].into(), (width - 1 - c) as u64)
 }
 
-/// One more of a label, in place, from the greatest budget down.
+/// One more of a label, in place, from the greatest budget down. Inlined into the loop over parts it takes a quarter more.
+#[inline(never)]
 fn raise_down(row: &mut [u32], w: usize, v: u32) {
     for c in (w..row.len()).rev() {
         row[c] = row[c].max(row[c - w] + v);
     }
 }
 
-/// Kind 2: the first copy from row to row, the others in parts of 1, 2, 4 and so on, in place.
-fn copies(job: &Job, lent: Lent) -> Answer {
+/// Kind 2: the first copy from row to row, the others in parts of 2, 4, 8 and so on, in place, by the pass that is given.
+pub fn copies(job: &Job, lent: Lent, raise: impl Fn(&mut [u32], usize, u32)) -> Answer {
     let width = job.width();
     lent.cells[..width].fill(0);
     for (i, &limit) in job.copies.iter().enumerate() {
         let (w, v) = (job.weights[i], job.values[i]);
         let (before, after) = lent.cells[i * width..(i + 2) * width].split_at_mut(width);
-        let mut left = limit.min(job.budget / w);
-        if left == 0 {
+        let most = limit.min(job.budget / w);
+        if most == 0 {
             after.copy_from_slice(before);
             continue;
         }
         next_row(before, after, w, v);
-        left -= 1;
-        let mut part = 2;
-        while left > 0 {
-            let count = left.min(part);
-            raise_down(after, (w * count) as usize, v * count);
-            left -= count;
-            part *= 2;
+        let mut held = 1;
+        while held < most {
+            let part = (held + 1).min(most - held);
+            raise(after, (w * part) as usize, v * part);
+            held += part;
         }
     }
     copies_back(job, lent)
 }
 
 /// The picks of kind 2: of each label, from the last on, the least count that the row before explains.
-pub fn copies_back(job: &Job, lent: Lent) -> Answer {
+fn copies_back(job: &Job, lent: Lent) -> Answer {
     let width = job.width();
     let n = job.weights.len();
     let mut c = width - 1;

@@ -1,7 +1,7 @@
 //! Kinds 2, 3 and 5 in Rust that is written for vectors, as the proved code is, so that a ratio doesn't speak of a missed vector loop; and kind 7
 //! by a selection in place of a sort.
-use crate::plain::{any_along, blocks_back, copies_back, next_row, shares, turned_down, Scratch};
-use crate::request::{refused, Answer, Job, Lent};
+use crate::plain::{any_along, blocks_back, copies, shares, unless_refused, Scratch};
+use crate::request::{Answer, Job, Lent};
 use std::cell::Cell;
 use std::cmp::Reverse;
 use std::iter::zip;
@@ -11,11 +11,8 @@ pub const KINDS: [u32; 4] = [2, 3, 5, 7];
 
 /// One of these kinds.
 pub fn solve(bytes: &[u8], lent: Lent, scratch: &mut Scratch) -> Answer {
-    if let Some(refusal) = turned_down(bytes, &lent, &mut scratch.job) {
-        return refused(refusal);
-    }
-    match scratch.job.kind {
-        2 => copies(&scratch.job, lent),
+    unless_refused(bytes, lent, scratch, |scratch, lent| match scratch.job.kind {
+        2 => copies(&scratch.job, lent, |row, w, v| raise_down(row, w as u16, v)),
         3 => any_number(&scratch.job, lent),
         5 => fewest_blocks(&scratch.job, lent),
         _ => shares(scratch, lent.picks, |order, remainders, spare| {
@@ -23,14 +20,19 @@ pub fn solve(bytes: &[u8], lent: Lent, scratch: &mut Scratch) -> Answer {
                 order.select_nth_unstable_by_key(spare - 1, |&i| (Reverse(remainders[i as usize]), i));
             }
         }),
-    }
+    })
 }
 
-/// The cells from `start` to `end` take one more of a label. They are at most w, so none depends on another.
-fn raise_stretch(row: &mut [u32], start: usize, end: usize, w: usize, v: u32) {
-    let (low, high) = row.split_at_mut(start);
-    for (cell, &with) in zip(&mut high[..end - start], &low[start - w..]) {
-        *cell = (*cell).max(with + v);
+/// Each cell from w on by what it holds and by the cell w before it, in stretches of w cells: none of a stretch depends on another.
+fn in_stretches(row: &mut [u32], w: usize, rule: impl Fn(u32, u32) -> u32) {
+    let mut start = w;
+    while start < row.len() {
+        let end = row.len().min(start + w);
+        let (low, high) = row.split_at_mut(start);
+        for (cell, &before) in zip(&mut high[..end - start], &low[start - w..]) {
+            *cell = rule(*cell, before);
+        }
+        start = end;
     }
 }
 
@@ -44,29 +46,6 @@ fn raise_down(row: &mut [u32], w: u16, v: u32) {
     }
 }
 
-/// Kind 2.
-fn copies(job: &Job, lent: Lent) -> Answer {
-    let width = job.width();
-    lent.cells[..width].fill(0);
-    for (i, &limit) in job.copies.iter().enumerate() {
-        let (w, v) = (job.weights[i], job.values[i]);
-        let (before, after) = lent.cells[i * width..(i + 2) * width].split_at_mut(width);
-        let most = limit.min(job.budget / w);
-        if most == 0 {
-            after.copy_from_slice(before);
-            continue;
-        }
-        next_row(before, after, w, v);
-        let mut held = 1;
-        while held < most {
-            let part = (held + 1).min(most - held);
-            raise_down(after, (w * part) as u16, v * part);
-            held += part;
-        }
-    }
-    copies_back(job, lent)
-}
-
 /// Kind 3. Fewer than a bundle of a light label by parts, then any number of bundles.
 fn any_number(job: &Job, lent: Lent) -> Answer {
     let row = &mut lent.cells[..job.width()];
@@ -77,12 +56,7 @@ fn any_number(job: &Job, lent: Lent) -> Answer {
             raise_down(row, w as u16, v);
             (w, v) = (2 * w, 2 * v);
         }
-        let mut start = w;
-        while start < row.len() {
-            let end = row.len().min(start + w);
-            raise_stretch(row, start, end, w, v);
-            start = end;
-        }
+        in_stretches(row, w, |cell, before| cell.max(before + v));
     }
     any_along(job, row, lent.picks)
 }
@@ -96,16 +70,8 @@ fn fewest_blocks(job: &Job, lent: Lent) -> Answer {
         let w = w as usize;
         if w < 16 {
             (w..row.len()).for_each(|a| row[a] = row[a].min(row[a - w].saturating_add(1)));
-            continue;
-        }
-        let mut start = w;
-        while start < row.len() {
-            let end = row.len().min(start + w);
-            let (low, high) = row.split_at_mut(start);
-            for (cell, &rest) in zip(&mut high[..end - start], &low[start - w..]) {
-                *cell = if rest < *cell { rest + 1 } else { *cell };
-            }
-            start = end;
+        } else {
+            in_stretches(row, w, |cell, before| if before < cell { before + 1 } else { cell });
         }
     }
     blocks_back(job, row, lent.picks)

@@ -41,8 +41,8 @@ pub mod Small
 pub mod SmallTables
 pub mod Opens
 pub mod Sixteen
-mod Cases
+pub mod Cases
 mod Tables
-mod Versions
+pub mod Versions
 mod Wrong
 mod Corners

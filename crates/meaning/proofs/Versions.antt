@@ -133,6 +133,14 @@ chosen-A : BestPicks once caseA 3 7 (1 ∷ 1 ∷ 0 ∷ [])
 unfolding opens picked
 chosen-A = picked-out once caseA (1 ∷ 1 ∷ 0 ∷ []) tt
 
+-- whoever solves its bytes, where there is room, answers 9 and 7 and writes 1 1 0
+pub answers-A : (before after : Lent) (a : Answer) → Unrefused (packing once) caseA before → SolvedBytes (jobBytes caseA) before a after
+    → (a ≡ Says.Knapsack 9 7) × Holds (1 ∷ 1 ∷ 0 ∷ []) (before .picks) (after .picks)
+unfolding opens Gives
+answers-A before after a ok h =
+    solved-says (packing once) caseA before after a (Says.Knapsack 9 7) (1 ∷ 1 ∷ 0 ∷ []) ok (record { picked = chosen-A; numbers = refl })
+    (bytes-solved (jobBytes caseA) caseA before after a back-A h)
+
 -- cell 31 is 9 after the call, whatever stood there
 last-cell : (before after : Lent) (a : Answer) → Unrefused (packing once) caseA before → Solved caseA before a after → at (after .cells) 31 ≡ 9
 unfolding TableHolds ValueTable FullTable opens BestPicks Holds
@@ -187,15 +195,14 @@ record SaysA (r first second : ℕ) (after : Lent) : Type 0 where
   cell : at (after .cells) 31 ≡ 9
 
 host-versions : (r first second : ℕ) (after : Lent) → SolvedHost (jobBytes caseA) enough r first second after → SaysA r first second after
-unfolding opens Gives firstNumber secondNumber
+unfolding opens firstNumber secondNumber
 host-versions r first second after h =
-    let solved : Solved caseA enough (h .answer) after = bytes-solved (jobBytes caseA) caseA enough after (h .answer) back-A (h .solved) in
-    let (says, written) = solved-says (packing once) caseA enough after (h .answer) (Says.Knapsack 9 7) (1 ∷ 1 ∷ 0 ∷ []) ok-A (record { picked = chosen-A; numbers = refl }) solved in
+    let says : h .answer ≡ Says.Knapsack 9 7 = answers-A enough after (h .answer) ok-A (h .solved) .0 in
     record {
       accepts = h .refusal ∙ ap (λ (a : Answer). saidOf a .refusal) says;
       value = h .first-is ∙ ap (λ (a : Answer). firstNumber (saidOf a)) says;
       weight = h .second-is ∙ ap (λ (a : Answer). secondNumber (saidOf a)) says;
-      cell = last-cell enough after (h .answer) ok-A solved;
+      cell = last-cell enough after (h .answer) ok-A (bytes-solved (jobBytes caseA) caseA enough after (h .answer) back-A (h .solved));
     }
 
 -- ---- invented totals, ways or spare: whoever solves a proved trial answers what it says, and writes its picks

@@ -7,12 +7,12 @@ use mathlib.Core.List.{List, [], _∷_}
 use lib.ListN.{take}
 use Rattle.meaning.specs.declared.Answer.{Answer}
 use Rattle.meaning.specs.declared.Answer.the-variants as Says
-use Rattle.meaning.specs.Job.{Job, jobOf, once, packing}
-use Rattle.meaning.specs.Bytes.{jobBytes, readJob, readable}
-use Rattle.meaning.specs.Answers.{saidOf}
-use Rattle.meaning.specs.Solved.{Gives, Unrefused}
-use Rattle.meaning.proofs.Laws.{bytes-solved, holds-first, solved-says}
-use Rattle.meaning.proofs.Small.{picked, picked-out}
+use Rattle.meaning.specs.Job.{once, packing}
+use Rattle.meaning.specs.Bytes.{jobBytes, readJob}
+use Rattle.meaning.specs.Solved.{Unrefused}
+use Rattle.meaning.proofs.Laws.{holds-first}
+use Rattle.meaning.proofs.Cases.{caseA}
+use Rattle.meaning.proofs.Versions.{answers-A}
 use Rattle.meaning.proofs.Opens.{opens}
 use Rattle.print.specs.Lines.{ascii, linesOf}
 use Rattle.print.proofs.Cases.{case-a}
@@ -20,21 +20,10 @@ use Rattle.print.specs.Puts.{PutFirst}
 use Rattle.plan.specs.Picks.{picksWritten}
 use Rattle.plan.specs.Replies.{Replied, kindRead, labelsRead, ourSlices}
 
-abbrev caseA : Job
-caseA = jobOf 1 (7 ∷ []) (3 ∷ 4 ∷ 5 ∷ []) (4 ∷ 5 ∷ 6 ∷ []) []
-
-reads-A : readJob (jobBytes caseA) ≡ readable caseA
-unfolding opens
-reads-A = refl
-
 -- the program's slices have room for it
 ok-A : Unrefused (packing once) caseA ourSlices
 unfolding opens ourSlices
 ok-A = record { of-kind = refl; no-refusal = refl }
-
-answer-A : Gives (packing once) caseA (saidOf (Says.Knapsack 9 7)) (1 ∷ 1 ∷ 0 ∷ [])
-unfolding opens Gives picked
-answer-A = record { picked = picked-out once caseA (1 ∷ 1 ∷ 0 ∷ []) tt; numbers = refl }
 
 -- the lines of that answer
 lines-A : (a : Answer) (picks : List ℕ) → a ≡ Says.Knapsack 9 7 → take 3 picks ≡ 1 ∷ 1 ∷ 0 ∷ []
@@ -47,8 +36,6 @@ lines-A a picks says first =
 pub replied-A : (before after : List ℕ) (size : ℕ) → Replied (jobBytes caseA) before after size
     → PutFirst (ascii "kind 1\nvalue 9\nweight 7\npicks 1 1 0\n") before after size
 replied-A before after size x =
-    let (says, written) =
-    solved-says (packing once) caseA ourSlices (x .left) (x .answer) (Says.Knapsack 9 7) (1 ∷ 1 ∷ 0 ∷ []) ok-A answer-A
-    (bytes-solved (jobBytes caseA) caseA ourSlices (x .left) (x .answer) reads-A (x .solved)) in
+    let (says, written) = answers-A ourSlices (x .left) (x .answer) ok-A (x .solved) in
     let first : take 3 (x .left .picks) ≡ 1 ∷ 1 ∷ 0 ∷ [] = holds-first (1 ∷ 1 ∷ 0 ∷ []) (ourSlices .picks) (x .left .picks) 3 written refl in
     subst (λ (l : List ℕ). PutFirst l before after size) (lines-A (x .answer) (x .left .picks) says first) (x .put)
