@@ -2,3 +2,5 @@
 pub mod Handed
 pub mod Placed
 pub mod Sections
+-- no second choice is left by the functions that write
+pub mod Unique

@@ -12,7 +12,7 @@ use lib.ListN.{length}
 use mir.Facts.{and-yes, eqb-yes, leb-yes}
 use Rattle.meaning.specs.declared.Answer.the-variants as Says
 use Rattle.meaning.specs.Lists.{if}
-use Rattle.meaning.specs.Job.{Job, Kind, Sort, once, limited, free, packing, fewest-blocks, block-ways, labels, jobOf, kindOf, allKinds}
+use Rattle.meaning.specs.Job.{Job, Kind, fewest-blocks, block-ways, labels, jobOf, kindOf, allKinds}
 use Rattle.meaning.specs.Lent as meaning
 use Rattle.meaning.specs.Lent.{Lent, roomFor, roomOf}
 use Rattle.meaning.specs.Refusals.{Rules, boundsFit, claimsFit, jobRefusal, kindRefusal, listsFit, roomFits, rulesOf, weightRules}
@@ -78,21 +78,6 @@ weights-alone k kind budget ws vs cs no-values no-copies passed =
     let no-vs : vs ≡ [] = empty-of vs (eqb-yes v ∙ rw no-values) in
     let no-cs : cs ≡ [] = empty-of cs (eqb-yes c ∙ rw no-copies) in
     rw (no-vs, no-cs)
-
--- ---- kinds 1 to 3
-
--- the knapsack of a kind number
-pub record SortOf (kind : ℕ) : Type 0 where
-  pub sort : Sort
-  pub of-kind : kindOf kind ≡ some (packing sort)
-
-pub sort-of : (kind : ℕ) → 1 ≤ kind → kind ≤ 3 → SortOf kind
-unfolding kindOf allKinds
-sort-of zero h l = absurd (omega arith)
-sort-of (suc zero) h l = record { sort = once; of-kind = refl }
-sort-of (suc (suc zero)) h l = record { sort = limited; of-kind = refl }
-sort-of (suc (suc (suc zero))) h l = record { sort = free; of-kind = refl }
-sort-of (suc (suc (suc (suc kind)))) h l = absurd (omega arith)
 
 -- ---- kinds 5 and 6
 

@@ -12,3 +12,5 @@ pub mod LeadsOn
 -- a slice made label by label, and the way through the labels
 pub mod Rounds
 pub mod Ways
+-- no second choice is left by any function of this crate
+pub mod Unique

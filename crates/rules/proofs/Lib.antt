@@ -1,3 +1,5 @@
 -- Laws of the definitions in specs/.
-mod Ruling
+pub mod Ruling
 mod Places
+-- no second choice is left by any function of this crate
+pub mod Unique

@@ -1,11 +1,12 @@
 -- The rules of kinds 1 to 3, by the kind's number.
 -- Assumes nothing.
-use mathlib.Core.Path.{_≡_}
-use Prim.Native.Nat.{ℕ}
+use mathlib.Core.Path.{_≡_, refl}
+use mathlib.Core.Option.{some}
+use Prim.Native.Nat.{ℕ, zero, suc, _≤_}
 use native.Mathlib.Omega.{arith}
 use mathlib.Core.Bool.{true, false}
 use lib.Dec.{eqb}
-use Rattle.meaning.specs.Job.{Sort, once, limited, free, packing}
+use Rattle.meaning.specs.Job.{Sort, once, limited, free, packing, kindOf, allKinds}
 use Rattle.meaning.specs.Refusals.{rulesOf, knapsackRules, hasCopies, leastValue, mostLabels, mostBudget}
 use Rattle.meaning.proofs.Laws.{numberOf}
 use Rattle.rules.specs.declared.WeightRule.the-variants.{Positive}
@@ -25,3 +26,17 @@ knapsack-as limited kind floor e (one-for-3 a b) = absurd (omega arith)
 knapsack-as limited kind floor e (none-else a b) = rw (e, b)
 knapsack-as free kind floor e (one-for-3 a b) = rw (e, b)
 knapsack-as free kind floor e (none-else a b) = absurd (a e)
+
+-- the knapsack of a kind number
+pub record SortOf (kind : ℕ) : Type 0 where
+  pub sort : Sort
+  pub of-kind : kindOf kind ≡ some (packing sort)
+
+-- each of 1 to 3 has one
+pub sort-of : (kind : ℕ) → 1 ≤ kind → kind ≤ 3 → SortOf kind
+unfolding kindOf allKinds
+sort-of zero h l = absurd (omega arith)
+sort-of (suc zero) h l = record { sort = once; of-kind = refl }
+sort-of (suc (suc zero)) h l = record { sort = limited; of-kind = refl }
+sort-of (suc (suc (suc zero))) h l = record { sort = free; of-kind = refl }
+sort-of (suc (suc (suc (suc kind)))) h l = absurd (omega arith)

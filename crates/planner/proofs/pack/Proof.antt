@@ -13,7 +13,8 @@ use Rattle.meaning.specs.Refusals.{jobRefusal, rulesOf, knapsackRules, claimsFi
 use Rattle.meaning.specs.Doors.{SolvedInCells}
 use Rattle.numbers.specs.Handed.{jobHanded}
 use Rattle.knapsack.proofs.Doors.{words-needed}
-use Rattle.planner.proofs.Judged.{SortOf, sort-of, turned-away, too-short, let-in, few, small, unneeded, fits-as}
+use Rattle.rules.proofs.Ruling.{SortOf, sort-of}
+use Rattle.planner.proofs.Judged.{turned-away, too-short, let-in, few, small, unneeded, fits-as}
 use Rattle.planner.proofs.pack.Statement.{statement}
 use Rattle.planner.proofs.pack.Tie as tie
 
