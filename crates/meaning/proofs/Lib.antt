@@ -43,6 +43,7 @@ pub mod Opens
 pub mod Sixteen
 pub mod Cases
 mod Tables
+pub mod Held
 pub mod Versions
 mod Wrong
 mod Corners

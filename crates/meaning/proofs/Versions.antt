@@ -1,241 +1,333 @@
--- The versions that document 01 names, each shown not to keep the promise: one that refuses everything, answers 0, writes no cells, or invents totals, ways or spare;
--- and a checker that accepts everything, or refuses everything. Each part of the promise comes first, as a law over every job.
+-- The versions that document 01 names, each shown not to keep the promise, by every door: a planner that refuses everything, answers 0 or writes no cells; and a
+-- checker that accepts everything, or refuses everything. Each goes wrong on requests that aren't to be refused, and may do right on all others. (Held has the laws
+-- over every job; by them totals, ways and spare can't be invented.)
 -- Assumes nothing.
 use mathlib.Core.Path.{_∙_, _≡_, ap, refl, subst, sym}
 use Prim.Native.Nat.{ℕ, _≤_}
+use native.Mathlib.Nat.{le-refl}
 use native.Mathlib.Omega.{arith}
-use mathlib.Core.Option.{Option·some-injective}
-use mathlib.Core.Bool.{Bool, true, false}
-use mathlib.Core.List.{List, [], _∷_}
-use lib.Dec.{lit≤, ltb}
-use lib.ListN.{List·getD-append, drop, length}
-use borrow.Author.Tests.{ltb-false}
+use mathlib.Core.List.{List, [], _∷_, _++_}
+use lib.Dec.{lit≤}
+use lib.ListN.{List·getD-append, drop, length, replicate}
 use Rattle.meaning.specs.declared.Answer.{Answer}
 use Rattle.meaning.specs.declared.Answer.the-variants as Says
 use Rattle.meaning.specs.declared.Verdict.{Verdict}
 use Rattle.meaning.specs.declared.Verdict.the-variants.{Accepted}
-use Rattle.meaning.specs.Lists.{at, if, sum, total}
+use Rattle.meaning.specs.Lists.{at}
 use Rattle.meaning.specs.Slices.{Holds}
-use Rattle.meaning.specs.Job.{Job, Kind, Sort, block-ways, fewest-blocks, labels, once, packing, sharing, subset-sums}
-use Rattle.meaning.specs.Lent.{Lent}
-use Rattle.meaning.specs.Bytes.{jobBytes, readable, unreadable}
-use Rattle.meaning.specs.Knapsacks.{BestPicks, Fits, FullTable, ValueTable}
-use Rattle.meaning.specs.Sums.{TotalCount}
-use Rattle.meaning.specs.Blocks.{Makes, WaysFor, tooMany}
-use Rattle.meaning.specs.Shares.{spareOf}
-use Rattle.meaning.specs.Answers.{Said, Which, is-blocks, is-knapsack, is-refusal, is-shares, is-sums, is-ways, saidOf}
-use Rattle.meaning.specs.Solved.{Built, Gives, Solved, SolvedBytes, TableHolds, Unrefused, a-sum, no-such-sum, waysAnswer}
-use Rattle.meaning.specs.Host.{SolvedHost, firstNumber, secondNumber}
-use Rattle.meaning.specs.Demands.{Accepts, BestList, Demand3, Sound, ValidJob}
-use Rattle.meaning.specs.Trials.{Goes, jobJ, justEnough, solve}
-use Rattle.meaning.proofs.OneOfEach.{best-value-unique}
-use Rattle.meaning.proofs.Laws.{bytes-solved, solved-says, unrefused-answered}
-use Rattle.meaning.proofs.Small.{picked, picked-out}
+use Rattle.meaning.specs.Job.{Job, Kind, Sort, block-ways, fewest-blocks, free, labels, limited, once, packing, sharing, subset-sums}
+use Rattle.meaning.specs.Lent.{Lent, cellCount, lentOf, roomFor, roomOf}
+use Rattle.meaning.specs.Bytes.{jobBytes, readJob, readable, sectionBytes}
+use Rattle.meaning.specs.Knapsacks.{BestPicks, Fits}
+use Rattle.meaning.specs.Answers.{Said, saidOf}
+use Rattle.meaning.specs.Solved.{Answered, Solved, SolvedBytes, TableHolds, Unrefused}
+use Rattle.meaning.specs.Host.{SolvedHost, firstNumber}
+use Rattle.meaning.specs.Certificates.{certificateCells}
+use Rattle.meaning.specs.Demands.{Accepts, BestList, Demand3, Sound, ValidJob, listIn}
+use Rattle.meaning.specs.Trials.{jobJ}
+use Rattle.meaning.proofs.OneOfEach.{table-unique}
+use Rattle.meaning.proofs.Unique.{no-influence}
+use Rattle.meaning.proofs.Laws.{bytes-solved, unrefused-answered}
+use Rattle.meaning.proofs.FullTables.{best-of}
+use Rattle.meaning.proofs.Certified.{certified-once, counts-shown}
+use Rattle.meaning.proofs.Small.{picked, picked-out, selects, selects-out}
 use Rattle.meaning.proofs.Opens.{opens}
-use Rattle.meaning.proofs.Cases.{caseA, caseC, caseJ}
-use Rattle.meaning.proofs.Corners.{back-A}
+use Rattle.meaning.proofs.Cases.{caseJ, tried}
+use Rattle.meaning.proofs.Held.{Late, not-said, refusals, refused-only, trial-says, tried-back, tried-goes}
 
--- ---- a refusal, of a job that none of 2 to 6 and 9 meets: 'exactly when'
+-- ---- a version by any door
 
--- 7 where no list of blocks sums to C, 8 where the ways are too many to count, and no other
-unfoldable Late : Kind → Job → ℕ → Type 0
-Late (packing s) j r = ⊥
-Late subset-sums j r = ⊥
-Late fewest-blocks j r = (r ≡ 7) × ((q : List ℕ) → ¬ Makes j (labels j) (j .budget) q)
-Late block-ways j r = (r ≡ 8) × ((w : ℕ) × WaysFor j (labels j) (j .budget) w × (tooMany ≤ w))
-Late sharing j r = ⊥
+-- a door in its own words: what a call hands in and gets back, and what is promised of it; which job a call asks for, and the slices that the planner is lent
+-- then; and of what comes back, that it is a refusal, and that the first number of an answer of kind k is 0
+pub record Door : Type 1 where
+  pub Call : Type 0
+  pub Given : Type 0
+  pub Promise : Call → Given → Type 0
+  pub AsksFor : Call → Job → Type 0
+  pub lent : Call → Lent
+  pub Refuses : Given → Type 0
+  pub Answers0 : Kind → Given → Type 0
 
--- 1 for a refusal, 0 for any other case
-unfoldable refusals : Which → ℕ
-refusals is-refusal = 1
-refusals is-knapsack = 0
-refusals is-sums = 0
-refusals is-blocks = 0
-refusals is-ways = 0
-refusals is-shares = 0
+-- a call for a job of kind k that no refusal meets
+pub record Asked (d : Door) (k : Kind) (c : d .Call) : Type 0 where
+  pub job : Job
+  pub asks-for : d .AsksFor c job
+  pub unrefused : Unrefused k job (d .lent c)
 
--- no other case says what a refusal says
-not-said : (r : ℕ) (a : Answer) → refusals (saidOf a .case) ≡ 0 → ¬ (saidOf (Says.Refused r) ≡ saidOf a)
-unfolding saidOf refusals
-not-said r a other e = let z : 1 ≡ refusals (saidOf a .case) = ap (λ (s : Said). refusals (s .case)) e in omega arith
+-- a version gives back what it likes, whatever the call, and the promise is kept
+pub record Version (d : Door) : Type 0 where
+  pub gives : d .Call → d .Given
+  pub keeps : (c : d .Call) → d .Promise c (gives c)
 
-late-ways : (j : Job) (w r : ℕ) → WaysFor j (labels j) (j .budget) w → (b : Bool) → ltb w tooMany ≡ b
-    → saidOf (Says.Refused r) ≡ saidOf (if b (Says.Ways w) (Says.Refused 8)) → Late block-ways j r
-unfolding if Late saidOf refusals
-late-ways j w r ways true h e = absurd (not-said r (Says.Ways w) refl e)
-late-ways j w r ways false h e = (ap (λ (s : Said). s .refusal) e, (w, ways, omega (arith, ltb-false, h)))
+-- no version goes wrong in this way on every such call
+unfoldable pub Never : (d : Door) → Kind → (d .Call → d .Given → Type 0) → Type 0
+Never d k Wrong = (v : Version d) → ¬ ((c : d .Call) → Asked d k c → Wrong c (v .gives c))
 
-late : (k : Kind) (j : Job) (r : ℕ) (p : List ℕ) → Gives k j (saidOf (Says.Refused r)) p → Late k j r
-unfolding Gives Built waysAnswer Late saidOf refusals
-late (packing s) j r p g = not-said r (Says.Knapsack (total (j .values) p) (total (j .weights) p)) refl (g .numbers)
-late subset-sums j r p g = not-said r (Says.Sums (g .yes) (g .totals)) refl (g .numbers)
-late fewest-blocks j r p (a-sum makes laid e) = absurd (not-said r (Says.Blocks (sum p)) refl e)
-late fewest-blocks j r p (no-such-sum none e written) = (ap (λ (s : Said). s .refusal) e, none)
-late block-ways j r p g = late-ways j (g .ways) r (g .how-many) (ltb (g .ways) tooMany) refl (g .numbers)
-late sharing j r p g = not-said r (Says.Shares (spareOf j)) refl (g .numbers)
+-- an answer that is a refusal, and one whose first number is 0 (so is a refusal's)
+abbrev pub Refusal : Answer → Type 0
+Refusal a = (r : ℕ) × (a ≡ Says.Refused r)
 
-same-ways : (n w : ℕ) (b : Bool) → saidOf (Says.Ways n) ≡ saidOf (if b (Says.Ways w) (Says.Refused 8)) → n ≡ w
-unfolding if saidOf refusals
-same-ways n w true e = ap (λ (s : Said). s .ways) e
-same-ways n w false e = absurd (not-said 8 (Says.Ways n) refl (sym e))
+abbrev pub First0 : Answer → Type 0
+First0 a = firstNumber (saidOf a) ≡ 0
 
--- ---- what an answer is held to, for every job that isn't refused
+-- what no version by a door can do on the calls for kind k. It refuses not one of them but late, by 7 or 8
+pub record ShutOut (d : Door) (k : Kind) : Type 0 where
+  pub refuses-everything : Never d k (λ c g. d .Refuses g)
+  pub refuses-late : (v : Version d) (c : d .Call) (a : Asked d k c) → d .Refuses (v .gives c) → (r : ℕ) × Late k (a .job) r
+  pub answers-0 : Never d k (λ c g. d .Answers0 k g)
 
-module _ (j : Job) (before after : Lent) where
-  refused-only : (k : Kind) (r : ℕ) → Unrefused k j before → Solved j before (Says.Refused r) after → Late k j r
-  refused-only k r ok h = late k j r _ (unrefused-answered k j before after (Says.Refused r) ok h .gives)
+-- ---- a version by a door that is lent the planner's slices and gives them back
 
-  -- demand 2's maximum
-  nothing-worth-more : (k : Sort) (v w : ℕ) → Unrefused (packing k) j before → Solved j before (Says.Knapsack v w) after
-      → (q : List ℕ) → Fits k j (labels j) (j .budget) q → total (j .values) q ≤ v
-  unfolding Gives BestPicks saidOf
-  nothing-worth-more k v w ok h q fits =
-      let x = unrefused-answered (packing k) j before after (Says.Knapsack v w) ok h in
-      let value : v ≡ total (j .values) (x .content .picks) = ap (λ (s : Said). s .value) (x .gives .numbers) in
-      rw value (x .gives .picked .one-of .greatest q fits)
+-- requests and the jobs that they hold, replies, and of a reply that it is a refusal, and that its first number is 0
+pub record LentDoor : Type 1 where
+  pub Request : Type 0
+  pub Reply : Type 0
+  pub Promise : Request → Lent → Reply → Lent → Type 0
+  pub HoldsJob : Request → Job → Type 0
+  pub Refuses : Reply → Type 0
+  pub Answers0 : Reply → Type 0
 
-  totals-counted : (can : Bool) (n : ℕ) → Unrefused subset-sums j before → Solved j before (Says.Sums can n) after → TotalCount j n
-  unfolding Gives saidOf
-  totals-counted can n ok h =
-      let g = unrefused-answered subset-sums j before after (Says.Sums can n) ok h .gives in
-      let same : n ≡ g .totals = ap (λ (s : Said). s .totals) (g .numbers) in
-      rw same (g .how-many)
+-- a call hands in a request and slices, and gets back a reply and slices
+abbrev pub doorOf : LentDoor → Door
+doorOf l = record {
+  Call = l .Request × Lent;
+  Given = l .Reply × Lent;
+  Promise = λ c g. l .Promise (c .0) (c .1) (g .0) (g .1);
+  AsksFor = λ c j. l .HoldsJob (c .0) j;
+  lent = λ c. c .1;
+  Refuses = λ g. l .Refuses (g .0);
+  Answers0 = λ k g. l .Answers0 (g .0);
+}
 
-  ways-counted : (n : ℕ) → Unrefused block-ways j before → Solved j before (Says.Ways n) after → WaysFor j (labels j) (j .budget) n
-  unfolding Gives waysAnswer
-  ways-counted n ok h =
-      let g = unrefused-answered block-ways j before after (Says.Ways n) ok h .gives in
-      let same : n ≡ g .ways = same-ways n (g .ways) (ltb (g .ways) tooMany) (g .numbers) in
-      rw same (g .how-many)
+-- where the table of kind k stands; kind 7 has none
+unfoldable pub tableOf : Kind → Lent → List ℕ
+tableOf (packing s) lent = lent .cells
+tableOf subset-sums lent = lent .words
+tableOf fewest-blocks lent = lent .cells
+tableOf block-ways lent = lent .words
+tableOf sharing lent = []
 
-  spare-left : (n : ℕ) → Unrefused sharing j before → Solved j before (Says.Shares n) after → n ≡ spareOf j
-  unfolding Gives saidOf
-  spare-left n ok h = ap (λ (s : Said). s .spare) (unrefused-answered sharing j before after (Says.Shares n) ok h .gives .numbers)
+-- what no version by such a door can do
+pub record LentShutOut (l : LentDoor) (k : Kind) : Type 0 where
+  pub answers : ShutOut (doorOf l) k
+  pub writes-no-cells : ¬ (k ≡ sharing) → Never (doorOf l) k (λ c g. tableOf k (g .1) ≡ tableOf k (c .1))
 
--- ---- a version of the planner, by any of its doors: on any request it answers and leaves what it likes, and the promise is kept
+-- ---- one law for every door: whoever keeps its promise shows the answer of the trial of kind k, which is no refusal, and whose first number isn't 0
 
-record Version (Request : Type 0) (Promise : Request → Lent → Answer → Lent → Type 0) : Type 0 where
-  answer : Request → Lent → Answer
-  leaves : Request → Lent → Lent
-  keeps : (r : Request) (before : Lent) → Promise r before (answer r before) (leaves r before)
+-- what that answer says
+record Proper (s : Said) : Type 0 where
+  no-refusal : refusals (s .case) ≡ 0
+  not-0 : 1 ≤ firstNumber s
 
--- slices with just the room that case A needs, all 0
-unfoldable enough : Lent
-enough = justEnough (packing once) caseA
+tried-proper : (k : Kind) → Proper (saidOf (tried k .answer))
+unfolding opens refusals firstNumber
+tried-proper (packing once) = record { no-refusal = refl; not-0 = lit≤ tt }
+tried-proper (packing limited) = record { no-refusal = refl; not-0 = lit≤ tt }
+tried-proper (packing free) = record { no-refusal = refl; not-0 = lit≤ tt }
+tried-proper subset-sums = record { no-refusal = refl; not-0 = lit≤ tt }
+tried-proper fewest-blocks = record { no-refusal = refl; not-0 = lit≤ tt }
+tried-proper block-ways = record { no-refusal = refl; not-0 = lit≤ tt }
+tried-proper sharing = record { no-refusal = refl; not-0 = lit≤ tt }
 
--- it isn't refused then
-ok-A : Unrefused (packing once) caseA enough
-unfolding opens enough justEnough
-ok-A = record { of-kind = refl; no-refusal = refl }
+pub not-refused : (k : Kind) → ¬ Refusal (tried k .answer)
+not-refused k (r, e) = not-said r (tried k .answer) (tried-proper k .no-refusal) (sym (ap saidOf e))
 
--- 1 1 0 is what the meanings choose
-chosen-A : BestPicks once caseA 3 7 (1 ∷ 1 ∷ 0 ∷ [])
-unfolding opens picked
-chosen-A = picked-out once caseA (1 ∷ 1 ∷ 0 ∷ []) tt
+-- an answer to a job and the slices as they are left, both in some way shown
+pub record SolvedAndShown (j : Job) (lent : Lent) (Shown : Answer → Lent → Type 0) : Type 0 where
+  pub answer : Answer
+  pub left : Lent
+  pub solved : Solved j lent answer left
+  pub shown : Shown answer left
 
--- whoever solves its bytes, where there is room, answers 9 and 7 and writes 1 1 0
-pub answers-A : (before after : Lent) (a : Answer) → Unrefused (packing once) caseA before → SolvedBytes (jobBytes caseA) before a after
-    → (a ≡ Says.Knapsack 9 7) × Holds (1 ∷ 1 ∷ 0 ∷ []) (before .picks) (after .picks)
-unfolding opens Gives
-answers-A before after a ok h =
-    solved-says (packing once) caseA before after a (Says.Knapsack 9 7) (1 ∷ 1 ∷ 0 ∷ []) ok (record { picked = chosen-A; numbers = refl })
-    (bytes-solved (jobBytes caseA) caseA before after a back-A h)
+-- a door that shows the planner's answer in what it gives back
+module _ (d : Door) (Shown : Job → d .Given → Answer → Lent → Type 0)
+    (shows : (c : d .Call) (g : d .Given) (j : Job) → d .AsksFor c j → d .Promise c g → SolvedAndShown j (d .lent c) (Shown j g))
+    (refusal-shown : (j : Job) (g : d .Given) (a : Answer) (left : Lent) → Shown j g a left → d .Refuses g → Refusal a)
+    (not-0-shown : (k : Kind) (g : d .Given) (left : Lent) → Shown (tried k .job) g (tried k .answer) left → ¬ d .Answers0 k g) where
+  tried-shown : (k : Kind) (c : d .Call) (g : d .Given) → d .AsksFor c (tried k .job) → Unrefused k (tried k .job) (d .lent c) → d .Promise c g
+      → (left : Lent) × Shown (tried k .job) g (tried k .answer) left
+  tried-shown k c g asks ok kept =
+      let x = shows c g (tried k .job) asks kept in
+      let says = trial-says (tried k .job) (tried k .answer) (tried k .picks) (tried-goes k) k (d .lent c) (x .left) (x .answer) ok (x .solved) .0 in
+      (x .left, subst (λ (a : Answer). Shown (tried k .job) g a (x .left)) says (x .shown))
 
--- cell 31 is 9 after the call, whatever stood there
-last-cell : (before after : Lent) (a : Answer) → Unrefused (packing once) caseA before → Solved caseA before a after → at (after .cells) 31 ≡ 9
-unfolding TableHolds ValueTable FullTable opens BestPicks Holds
-last-cell before after a ok h =
-    let x = unrefused-answered (packing once) caseA before after a ok h in
-    let long : length (x .content .cells) ≡ 32 = x .cells-needed in
-    ap (λ (l : List ℕ). at l 31) (x .cells-hold)
-    ∙ List·getD-append (x .content .cells) (drop (length (x .content .cells)) (before .cells)) 0 31 (omega (arith, long))
-    ∙ best-value-unique (x .table-right 3 7 (lit≤ tt) (lit≤ tt)) (record { picks = 1 ∷ 1 ∷ 0 ∷ []; best = chosen-A .one-of; value = refl })
-
--- what no version by a door can do, if it keeps the door's promise
-record ShutOut (Request : Type 0) (Promise : Request → Lent → Answer → Lent → Type 0) : Type 0 where
-  refuses-everything : (v : Version Request Promise) → ¬ ((r : Request) (before : Lent) → (n : ℕ) × (v .answer r before ≡ Says.Refused n))
-  answers-0 : (v : Version Request Promise) → ¬ ((r : Request) (before : Lent) → (w : ℕ) × (v .answer r before ≡ Says.Knapsack 0 w))
-  writes-no-cells : (v : Version Request Promise) → ¬ ((r : Request) (before : Lent) → v .leaves r before .cells ≡ before .cells)
-
--- a door with a request that holds case A, lent just the room
-module _ {Request : Type 0} {Promise : Request → Lent → Answer → Lent → Type 0} (ask : Request)
-    (as-lists : (before after : Lent) (a : Answer) → Promise ask before a after → Solved caseA before a after) where
-  solves-A : (v : Version Request Promise) (a : Answer) → v .answer ask enough ≡ a → Solved caseA enough a (v .leaves ask enough)
-  solves-A v a e = rw e at (as-lists enough (v .leaves ask enough) (v .answer ask enough) (v .keeps ask enough))
-
-  shut-out : ShutOut Request Promise
-  unfolding Late opens BestPicks enough justEnough
-  shut-out =
+  -- by one call that asks for that trial
+  pub shut-out : (k : Kind) (c : d .Call) → d .AsksFor c (tried k .job) → Unrefused k (tried k .job) (d .lent c) → ShutOut d k
+  unfolding Never
+  shut-out k c asks ok =
+      let asked : Asked d k c = record { job = tried k .job; asks-for = asks; unrefused = ok } in
+      let shown : (v : Version d) → (left : Lent) × Shown (tried k .job) (v .gives c) (tried k .answer) left = λ v. tried-shown k c (v .gives c) asks ok (v .keeps c) in
       record {
-        refuses-everything = λ v all. let (n, e) = all ask enough in refused-only caseA enough (v .leaves ask enough) (packing once) n ok-A (solves-A v _ e);
-        answers-0 =
-            λ v all.
-            let (w, e) = all ask enough in
-            let nine : 9 ≤ 0 = nothing-worth-more caseA enough (v .leaves ask enough) once 0 w ok-A (solves-A v _ e) (1 ∷ 1 ∷ 0 ∷ []) (chosen-A .one-of .fits) in
-            omega arith;
-        writes-no-cells =
-            λ v all.
-            let e : _≡_ {A = ℕ} 0 9 = sym (ap (λ (l : List ℕ). at l 31) (all ask enough)) ∙ last-cell enough (v .leaves ask enough) _ ok-A (solves-A v _ refl) in
-            omega arith;
+        refuses-everything = λ v all. let (left, s) = shown v in not-refused k (refusal-shown (tried k .job) (v .gives c) (tried k .answer) left s (all c asked));
+        refuses-late =
+            λ v c′ a refused.
+            let x = shows c′ (v .gives c′) (a .job) (a .asks-for) (v .keeps c′) in
+            let (r, e) = refusal-shown (a .job) (v .gives c′) (x .answer) (x .left) (x .shown) refused in
+            (r, refused-only (a .job) (d .lent c′) (x .left) k r (a .unrefused) (rw e at (x .solved)));
+        answers-0 = λ v all. let (left, s) = shown v in not-0-shown k (v .gives c) left s (all c asked);
       }
 
--- the planner on lists
-planner-versions : ShutOut Job Solved
-planner-versions = shut-out caseA (λ before after a h. h)
+-- ---- the table: what is left in it doesn't depend on what stood there, so it can't be as it was on slices of 0 and on slices of 1
 
--- and on job bytes
-bytes-versions : ShutOut (List ℕ) SolvedBytes
-bytes-versions = shut-out (jobBytes caseA) (λ before after a h. bytes-solved (jobBytes caseA) caseA before after a back-A h)
+-- slices with just the room that the trial of kind k needs, and x in every place
+unfoldable filled : ℕ → Kind → Lent
+filled x k =
+    let room = roomFor k (tried k .job) in
+    lentOf (replicate (room .cells) x) (replicate (room .words) x) (replicate (room .picks) x)
 
--- and from C: on case A's bytes the entry gives 0, 9 and 7, and fills the table
-record SaysA (r first second : ℕ) (after : Lent) : Type 0 where
-  accepts : r ≡ 0
-  value : first ≡ 9
-  weight : second ≡ 7
-  cell : at (after .cells) 31 ≡ 9
+ok-filled : (x : ℕ) (k : Kind) → Unrefused k (tried k .job) (filled x k)
+unfolding opens filled
+ok-filled x (packing once) = record { of-kind = refl; no-refusal = refl }
+ok-filled x (packing limited) = record { of-kind = refl; no-refusal = refl }
+ok-filled x (packing free) = record { of-kind = refl; no-refusal = refl }
+ok-filled x subset-sums = record { of-kind = refl; no-refusal = refl }
+ok-filled x fewest-blocks = record { of-kind = refl; no-refusal = refl }
+ok-filled x block-ways = record { of-kind = refl; no-refusal = refl }
+ok-filled x sharing = record { of-kind = refl; no-refusal = refl }
 
-host-versions : (r first second : ℕ) (after : Lent) → SolvedHost (jobBytes caseA) enough r first second after → SaysA r first second after
-unfolding opens firstNumber secondNumber
-host-versions r first second after h =
-    let says : h .answer ≡ Says.Knapsack 9 7 = answers-A enough after (h .answer) ok-A (h .solved) .0 in
-    record {
-      accepts = h .refusal ∙ ap (λ (a : Answer). saidOf a .refusal) says;
-      value = h .first-is ∙ ap (λ (a : Answer). firstNumber (saidOf a)) says;
-      weight = h .second-is ∙ ap (λ (a : Answer). secondNumber (saidOf a)) says;
-      cell = last-cell enough after (h .answer) ok-A (bytes-solved (jobBytes caseA) caseA enough after (h .answer) back-A (h .solved));
-    }
+first-filled : (x : ℕ) (k : Kind) → ¬ (k ≡ sharing) → at (tableOf k (filled x k)) 0 ≡ x
+unfolding opens filled tableOf
+first-filled x (packing once) has = refl
+first-filled x (packing limited) has = refl
+first-filled x (packing free) has = refl
+first-filled x subset-sums has = refl
+first-filled x fewest-blocks has = refl
+first-filled x block-ways has = refl
+first-filled x sharing has = absurd (has refl)
 
--- ---- invented totals, ways or spare: whoever solves a proved trial answers what it says, and writes its picks
+first-held : (new old now : List ℕ) → Holds new old now → 1 ≤ length new → at now 0 ≡ at new 0
+unfolding Holds
+first-held new old now h some = ap (λ (l : List ℕ). at l 0) h ∙ List·getD-append new (drop (length new) old) 0 0 some
 
-trial-says : (j : Job) (a : Answer) (p : List ℕ) → Goes (solve j a p) → (k : Kind) (before after : Lent) (a′ : Answer)
-    → Unrefused k j before → Solved j before a′ after → (a′ ≡ a) × Holds p (before .picks) (after .picks)
-unfolding Goes
-trial-says j a p (k′, m) k before after a′ ok h =
-    let same : k ≡ k′ = Option·some-injective k k′ (sym (ok .of-kind) ∙ m .unrefused .of-kind) in
-    solved-says k j before after a′ a p ok (subst (λ (x : Kind). Gives x j (saidOf a) p) (sym same) (m .answer)) h
+-- the places that are needed for the table hold it, and there is one at least
+table-held : (k : Kind) {j : Job} {before after : Lent} {s : Said} (x : Answered (roomFor k j) (TableHolds k j) k j before s after)
+    → Holds (tableOf k (x .content)) (tableOf k before) (tableOf k after)
+unfolding tableOf Holds
+table-held (packing s) x = x .cells-hold
+table-held subset-sums x = x .words-hold
+table-held fewest-blocks x = x .cells-hold
+table-held block-ways x = x .words-hold
+table-held sharing x = refl
 
--- ---- greed by value per byte, on case C: label 0 is worth 7 for 6 bytes and is kept first, and then no other fits; labels 1 and 2 are worth 10
+table-needed : (k : Kind) {j : Job} {before after : Lent} {s : Said} (x : Answered (roomFor k j) (TableHolds k j) k j before s after)
+    → ¬ (k ≡ sharing) → 1 ≤ length (tableOf k (x .content))
+unfolding tableOf roomFor roomOf cellCount
+table-needed (packing once) x has = omega (arith, x .cells-needed)
+table-needed (packing limited) x has = omega (arith, x .cells-needed)
+table-needed (packing free) x has = omega (arith, x .cells-needed)
+table-needed subset-sums x has = omega (arith, x .words-needed)
+table-needed fewest-blocks x has = omega (arith, x .cells-needed)
+table-needed block-ways x has = omega (arith, x .words-needed)
+table-needed sharing x has = absurd (has refl)
 
-chosen-C : BestPicks once caseC 3 10 (0 ∷ 1 ∷ 1 ∷ [])
-unfolding opens picked
-chosen-C = picked-out once caseC (0 ∷ 1 ∷ 1 ∷ []) tt
+-- a table that is as it was has x in its first place
+as-it-was : (k : Kind) (has : ¬ (k ≡ sharing)) (x : ℕ) {left : Lent} {s : Said} (y : Answered (roomFor k (tried k .job)) (TableHolds k (tried k .job)) k (tried k .job) (filled x k) s left)
+    → tableOf k left ≡ tableOf k (filled x k) → at (tableOf k (y .content)) 0 ≡ x
+as-it-was k has x y kept = sym (first-held _ _ _ (table-held k y) (table-needed k y has)) ∙ ap (λ (l : List ℕ). at l 0) kept ∙ first-filled x k has
 
-greed-misses : (before after : Lent) (w : ℕ) → Unrefused (packing once) caseC before → ¬ Solved caseC before (Says.Knapsack 7 w) after
-unfolding opens BestPicks
-greed-misses before after w ok h =
-    let ten : 10 ≤ 7 = nothing-worth-more caseC before after once 7 w ok h (0 ∷ 1 ∷ 1 ∷ []) (chosen-C .one-of .fits) in
-    omega arith
+not-both : (k : Kind) (has : ¬ (k ≡ sharing)) (left left′ : Lent) (a a′ : Answer) → Solved (tried k .job) (filled 0 k) a left → Solved (tried k .job) (filled 1 k) a′ left′
+    → tableOf k left ≡ tableOf k (filled 0 k) → ¬ (tableOf k left′ ≡ tableOf k (filled 1 k))
+not-both k has left left′ a a′ solved solved′ kept kept′ =
+    let j = tried k .job in
+    let x = unrefused-answered k j (filled 0 k) left a (ok-filled 0 k) solved in
+    let y = unrefused-answered k j (filled 1 k) left′ a′ (ok-filled 1 k) solved′ in
+    let same = no-influence k j (filled 0 k) (filled 1 k) left left′ (saidOf a) (saidOf a′) (table-unique k j) x y .1 in
+    omega (arith, as-it-was k has 0 x kept, as-it-was k has 1 y kept′, ap (λ (c : Lent). at (tableOf k c) 0) same)
 
--- ---- the checker: one that accepts everything, and one that refuses everything
+-- both laws, for a door that gives the slices back, with a request that holds the trial of each kind
+module _ (l : LentDoor) (Shown : l .Reply → Answer → Type 0)
+    (shows : (r : l .Request) (before after : Lent) (x : l .Reply) (j : Job) → l .HoldsJob r j → l .Promise r before x after → (a : Answer) × Solved j before a after × Shown x a)
+    (refusal-shown : (x : l .Reply) (a : Answer) → Shown x a → l .Refuses x → Refusal a)
+    (0-shown : (x : l .Reply) (a : Answer) → Shown x a → l .Answers0 x → First0 a)
+    (ask : Kind → l .Request) (holds : (k : Kind) → l .HoldsJob (ask k) (tried k .job)) where
+  by-answer : (k : Kind) → ShutOut (doorOf l) k
+  by-answer k =
+      shut-out (doorOf l) (λ j g a left. Shown (g .0) a)
+      (λ c g j asks kept. let (a, solved, shown) = shows (c .0) (c .1) (g .1) (g .0) j asks kept in record { answer = a; left = g .1; solved = solved; shown = shown })
+      (λ j g a left. refusal-shown (g .0) a)
+      (λ k′ g left shown is-0. omega (arith, tried-proper k′ .not-0, 0-shown (g .0) (tried k′ .answer) shown is-0))
+      k (ask k, filled 0 k) (holds k) (ok-filled 0 k)
 
-accepts-all : (Check : List ℕ → List ℕ → Verdict → Type 0) → ((jobB certB : List ℕ) → (v : ℕ) × Check jobB certB (Accepted v)) → ¬ Demand3 Check
-unfolding opens
-accepts-all Check all-accepted d =
-    let (v, e) = all-accepted [] [] in
-    let s : Sound [] [] v = d .accepted-is-best [] [] v e in
-    let f : unreadable 0 ≡ readable (s .job) = s .valid-job .reads in
-    let z : _≡_ {A = ℕ} 0 1 = cc in
-    omega arith
+  -- a version on the trial of kind k, with slices of x
+  module _ (v : Version (doorOf l)) (k : Kind) where
+    left-by : ℕ → Lent
+    left-by x = v .gives (ask k, filled x k) .1
+
+    solves : (x : ℕ) → (a : Answer) × Solved (tried k .job) (filled x k) a (left-by x)
+    unfolding left-by
+    solves x =
+        let (a, solved, shown) = shows (ask k) (filled x k) (left-by x) (v .gives (ask k, filled x k) .0) (tried k .job) (holds k) (v .keeps (ask k, filled x k)) in
+        (a, solved)
+
+    writes : ¬ (k ≡ sharing) → ¬ ((c : doorOf l .Call) → Asked (doorOf l) k c → tableOf k (v .gives c .1) ≡ tableOf k (c .1))
+    unfolding left-by
+    writes has all =
+        let kept : (x : ℕ) → tableOf k (left-by x) ≡ tableOf k (filled x k) =
+        λ x. all (ask k, filled x k) (record { job = tried k .job; asks-for = holds k; unrefused = ok-filled x k }) in
+        not-both k has (left-by 0) (left-by 1) (solves 0 .0) (solves 1 .0) (solves 0 .1) (solves 1 .1) (kept 0) (kept 1)
+
+  pub lent-shut-out : (k : Kind) → LentShutOut l k
+  unfolding Never
+  lent-shut-out k = record { answers = by-answer k; writes-no-cells = λ has v. writes v k has }
+
+-- ---- the planner's doors: on lists, on job bytes, and from C
+
+-- a door whose reply is the answer itself
+abbrev pub answering : {Request : Type 0} → (Request → Lent → Answer → Lent → Type 0) → (Request → Job → Type 0) → LentDoor
+answering {Request} Promise HoldsJob = record { Request = Request; Reply = Answer; Promise = Promise; HoldsJob = HoldsJob; Refuses = Refusal; Answers0 = First0 }
+
+module _ {Request : Type 0} (Promise : Request → Lent → Answer → Lent → Type 0) (HoldsJob : Request → Job → Type 0)
+    (solves : (r : Request) (before after : Lent) (a : Answer) (j : Job) → HoldsJob r j → Promise r before a after → Solved j before a after)
+    (ask : Kind → Request) (holds : (k : Kind) → HoldsJob (ask k) (tried k .job)) where
+  answering-versions : (k : Kind) → LentShutOut (answering Promise HoldsJob) k
+  answering-versions =
+      lent-shut-out (answering Promise HoldsJob) (λ x a. x ≡ a) (λ r before after x j held kept. (x, solves r before after x j held kept, refl))
+      (λ x a same refused. rw same at refused) (λ x a same is-0. rw same at is-0) ask holds
+
+planner-versions : (k : Kind) → LentShutOut (answering Solved (λ r j. r ≡ j)) k
+planner-versions = answering-versions Solved (λ r j. r ≡ j) (λ r before after a j same kept. rw same at kept) (λ k. tried k .job) (λ k. refl)
+
+-- the bytes hold a job
+abbrev pub ReadAs : List ℕ → Job → Type 0
+ReadAs bytes j = readJob bytes ≡ readable j
+
+bytes-versions : (k : Kind) → LentShutOut (answering SolvedBytes ReadAs) k
+bytes-versions =
+    answering-versions SolvedBytes ReadAs (λ b before after a j reads kept. bytes-solved b j before after a reads kept) (λ k. jobBytes (tried k .job)) tried-back
+
+-- from C three numbers are given back; the first is a refusal's where it isn't 0
+pub record HostReply : Type 0 where
+  pub refusal : ℕ
+  pub first : ℕ
+  pub second : ℕ
+
+abbrev pub from-c : LentDoor
+from-c = record {
+  Request = List ℕ;
+  Reply = HostReply;
+  Promise = λ b before x after. SolvedHost b before (x .refusal) (x .first) (x .second) after;
+  HoldsJob = ReadAs;
+  Refuses = λ x. ¬ (x .refusal ≡ 0);
+  Answers0 = λ x. x .first ≡ 0;
+}
+
+numbered : (a : Answer) → ¬ (saidOf a .refusal ≡ 0) → Refusal a
+unfolding saidOf
+numbered (Says.Refused r) h = (r, refl)
+numbered (Says.Knapsack v w) h = absurd (h refl)
+numbered (Says.Sums y n) h = absurd (h refl)
+numbered (Says.Blocks b) h = absurd (h refl)
+numbered (Says.Ways w) h = absurd (h refl)
+numbered (Says.Shares x) h = absurd (h refl)
+
+host-versions : (k : Kind) → LentShutOut from-c k
+host-versions =
+    lent-shut-out from-c (λ x a. (x .refusal ≡ saidOf a .refusal) × (x .first ≡ firstNumber (saidOf a)))
+    (λ b before after x j reads kept. (kept .answer, bytes-solved b j before after (kept .answer) reads (kept .solved), (kept .refusal, kept .first-is)))
+    (λ x a shown h. numbered a (λ e. h (shown .0 ∙ e))) (λ x a shown is-0. sym (shown .1) ∙ is-0)
+    (λ k. jobBytes (tried k .job)) tried-back
+
+-- ---- the checker: one that accepts everything, and one that refuses everything, of a valid job. What isn't one it may refuse as it should
 
 valid-J : ValidJob jobJ caseJ
 unfolding opens jobJ
@@ -245,8 +337,54 @@ best-J : BestList once caseJ (1 ∷ [])
 unfolding opens picked BestPicks BestList
 best-J = picked-out once caseJ (1 ∷ []) tt .one-of
 
-refuses-all : (Check : List ℕ → List ℕ → Verdict → Type 0) → ((jobB certB : List ℕ) (v : ℕ) → ¬ Check jobB certB (Accepted v)) → ¬ Demand3 Check
+-- a list that fits, and as many cells as are needed, whatever they claim: 11 to 13 don't refuse it
+record ListFits (k : Sort) (j : Job) (certB : List ℕ) : Type 0 where
+  picks : List ℕ
+  cells : List ℕ
+  written : certB ≡ sectionBytes picks ++ sectionBytes cells
+  fits : Fits k j (labels j) (j .budget) picks
+  cells-needed : length cells ≡ certificateCells j
+
+-- J's job with nothing kept, and claims of nothing
+unfoldable keepNone : List ℕ
+keepNone = sectionBytes (0 ∷ []) ++ sectionBytes (0 ∷ 0 ∷ 0 ∷ 0 ∷ 0 ∷ 0 ∷ [])
+
+none-fits : ListFits once caseJ keepNone
+unfolding opens keepNone selects
+none-fits = record {
+  picks = 0 ∷ [];
+  cells = 0 ∷ 0 ∷ 0 ∷ 0 ∷ 0 ∷ 0 ∷ [];
+  written = refl;
+  fits = record { selection = selects-out once caseJ 1 (0 ∷ []) tt; weight = lit≤ tt };
+  cells-needed = refl;
+}
+
+-- which isn't best
+none-worth-most : ¬ BestList once caseJ (listIn keepNone)
+unfolding opens keepNone listIn BestList
+none-worth-most best = let three : 3 ≤ 0 = best .greatest (1 ∷ []) (best-J .fits) in omega arith
+
+-- one that looks at the list alone
+accepts-what-fits : (Check : List ℕ → List ℕ → Verdict → Type 0)
+    → ((jobB certB : List ℕ) (j : Job) (ok : ValidJob jobB j) → ListFits (ok .sort) j certB → (v : ℕ) × Check jobB certB (Accepted v)) → ¬ Demand3 Check
 unfolding valid-J
-refuses-all Check none-accepted d =
-    let a : Accepts Check jobJ (1 ∷ []) = d .exactly-when-best jobJ caseJ valid-J (1 ∷ []) .1 best-J in
-    none-accepted jobJ (a .certB) (a .value) (a .accepted .verdict)
+accepts-what-fits Check all d =
+    let (v, e) = all jobJ keepNone caseJ valid-J none-fits in
+    let s : Sound jobJ keepNone v = d .accepted-is-best jobJ keepNone v e in
+    let same : s .job ≡ caseJ = cc (valid-J .reads, s .valid-job .reads) in
+    let kind : s .valid-job .sort ≡ once = certified-once (s .job .kind-number) (s .valid-job .sort) (s .valid-job .of-sort) .1 in
+    let best : BestList once caseJ (listIn keepNone) = rw (same, kind) at (s .best) in
+    none-worth-most best
+
+pub accepts-all : (Check : List ℕ → List ℕ → Verdict → Type 0)
+    → ((jobB certB : List ℕ) (j : Job) → ValidJob jobB j → (v : ℕ) × Check jobB certB (Accepted v)) → ¬ Demand3 Check
+accepts-all Check all = accepts-what-fits Check (λ jobB certB j ok fits. all jobB certB j ok)
+
+-- one valid job whose certificates are all refused is enough
+pub refuses-all : (Check : List ℕ → List ℕ → Verdict → Type 0) (jobB : List ℕ) (j : Job) → ValidJob jobB j
+    → ((certB : List ℕ) (v : ℕ) → ¬ Check jobB certB (Accepted v)) → ¬ Demand3 Check
+unfolding BestList
+refuses-all Check jobB j ok none d =
+    let (v, b) = best-of (ok .sort) j (counts-shown j (ok .sort) (ok .of-sort)) (labels j) (j .budget) (le-refl (j .budget)) in
+    let a : Accepts Check jobB (b .picks) = d .exactly-when-best jobB j ok (b .picks) .1 (b .best) in
+    none (a .certB) (a .value) (a .accepted .verdict)

@@ -1,10 +1,11 @@
--- Wrong answers that the promises rule out, each tried on one job: on bytes that can't be read, by the writer, by the checker, and from C. (Versions has those that document 01 names.)
+-- Wrong answers that the promises rule out: on all bytes that can't be read, by the writer, by the checker on one job, and from C. (Versions has those that document 01 names.)
 -- Assumes nothing.
 use mathlib.Core.Path.{_∙_, _≡_, ap, refl, sym}
 use Prim.Native.Nat.{ℕ}
 use native.Mathlib.Omega.{arith}
 use mathlib.Core.List.{List, [], _∷_}
-use lib.ListN.{replicate}
+use lib.ListN.{drop, length, replicate, take}
+use lib.Seq.{drop-at}
 use Rattle.meaning.specs.declared.Answer.{Answer}
 use Rattle.meaning.specs.declared.Answer.the-variants as Says
 use Rattle.meaning.specs.declared.Written.{Written}
@@ -14,62 +15,85 @@ use Rattle.meaning.specs.declared.Verdict.{Verdict}
 use Rattle.meaning.specs.declared.Verdict.the-variants.{Accepted, Refused}
 use Rattle.meaning.specs.Lists.{at}
 use Rattle.meaning.specs.Slices.{Holds}
+use Rattle.meaning.specs.Job.{Job}
 use Rattle.meaning.specs.Lent.{Lent}
-use Rattle.meaning.specs.Bytes.{jobBytes}
-use Rattle.meaning.specs.Answers.{wroteOf}
-use Rattle.meaning.specs.Solved.{SolvedBytes, SolvedRead}
+use Rattle.meaning.specs.Bytes.{readJob, readable, unreadable}
+use Rattle.meaning.specs.Answers.{judgedOf, saidOf, wroteOf}
+use Rattle.meaning.specs.Solved.{SolvedBytes, SolvedRead, TurnedDown}
 use Rattle.meaning.specs.Certificates.{Checked, verdictOf}
-use Rattle.meaning.specs.Writer.{Writes, WritesBytes, WritesRead, bytesNeeded, certificate, newBytes, slicesFit, writerRefusal, writtenAs}
+use Rattle.meaning.specs.Writer.{Writes, WritesAs, WritesBytes, WritesRead, bytesNeeded, certificate, newBytes, slicesFit, writerRefusal, writtenAs}
 use Rattle.meaning.specs.Host.{WritesHost, refusalNumber, valueOrPlace}
+use Rattle.meaning.specs.Demands.{ValidJob}
 use Rattle.meaning.specs.Trials.{certJ, jobJ}
 use Rattle.meaning.proofs.Unique.{said-unique, wrote-unique}
-use Rattle.meaning.proofs.Certified.{verdict-is}
+use Rattle.meaning.proofs.Laws.{holds-first}
+use Rattle.meaning.proofs.Certified.{meets-demand-3, verdict-is}
+use Rattle.meaning.proofs.Entries.{zero-is-accepted}
+use Rattle.meaning.proofs.Versions.{accepts-all, refuses-all}
 use Rattle.meaning.proofs.Opens.{opens}
 use Rattle.meaning.proofs.Cases.{noLabels}
 
--- ---- the planner on job bytes: one that gives another number for bytes that can't be read, and one that writes then
+-- ---- on job bytes that can't be read: a planner or a writer that gives another number than 1, and one that writes then
 
-module _ (before after : Lent) where
-  -- no bytes are refused with 1
-  refused-1 : (a : Answer) → SolvedBytes [] before a after → (a ≡ Says.Refused 1) × (after ≡ before)
-  unfolding SolvedBytes SolvedRead opens
-  refused-1 a h = (said-unique (h .numbers), h .nothing-written)
+module _ (bytes : List ℕ) (place : ℕ) (unread : readJob bytes ≡ unreadable place) where
+  module _ (before after : Lent) where
+    refused-1 : (a : Answer) → SolvedBytes bytes before a after → (a ≡ Says.Refused 1) × (after ≡ before)
+    unfolding SolvedBytes SolvedRead
+    refused-1 a h = let t : TurnedDown 1 before (saidOf a) after = rw unread at h in (said-unique (t .numbers), t .nothing-written)
 
-  no-other-number : ¬ SolvedBytes [] before (Says.Refused 3) after
-  no-other-number h = let e : Says.Refused 3 ≡ Says.Refused 1 = refused-1 (Says.Refused 3) h .0 in let z : _≡_ {A = ℕ} 3 1 = cc in omega arith
+    no-other-number : (n : ℕ) → SolvedBytes bytes before (Says.Refused n) after → n ≡ 1
+    no-other-number n h = let e : Says.Refused n ≡ Says.Refused 1 = refused-1 (Says.Refused n) h .0 in cc
 
-  nothing-written-then : (a : Answer) → SolvedBytes [] before a after → after ≡ before
-  nothing-written-then a h = refused-1 a h .1
+    nothing-written-then : (a : Answer) → SolvedBytes bytes before a after → after ≡ before
+    nothing-written-then a h = refused-1 a h .1
 
--- ---- the writer, on the job of no labels and budget 0, whose certificate is 12 bytes: one that writes nothing, one that clears what
--- lies past, and on job bytes one that gives another number and one that writes though it refuses
+  module _ (picks cells before after : List ℕ) (a : Written) (w : WritesBytes bytes picks cells before a after) where
+    writes-unread : WritesAs 1 0 [] before a after
+    unfolding WritesBytes WritesRead
+    writes-unread = rw unread at w
+
+    unread-is-1 : a ≡ Reports.Refused 1
+    unfolding writtenAs
+    unread-is-1 = wrote-unique a (Reports.Refused 1) (writes-unread .numbers)
+
+    unread-writes-nothing : after ≡ before
+    unfolding newBytes Holds
+    unread-writes-nothing = writes-unread .leaves
+
+-- ---- the writer on any job that it doesn't refuse: one that counts other bytes, writes others, or clears what lies past; and on one job one that writes none
+
+module _ (j : Job) (picks cells before after : List ℕ) (a : Written) (ok : writerRefusal j picks cells before ≡ 0) (w : Writes j picks cells before a after) where
+  writes-all : WritesAs 0 (bytesNeeded j) (certificate j picks cells) before a after
+  unfolding Writes
+  writes-all = rw ok at w
+
+  counts-all : a ≡ Bytes (bytesNeeded j)
+  unfolding writtenAs
+  counts-all = wrote-unique a (Bytes (bytesNeeded j)) (writes-all .numbers)
+
+  copies-out : take (length (certificate j picks cells)) after ≡ certificate j picks cells
+  unfolding newBytes
+  copies-out = holds-first (certificate j picks cells) before after (length (certificate j picks cells)) (writes-all .leaves) refl
+
+  keeps-what-lies-past : drop (length (certificate j picks cells)) after ≡ drop (length (certificate j picks cells)) before
+  unfolding newBytes Holds
+  keeps-what-lies-past = ap (drop (length (certificate j picks cells))) (writes-all .leaves) ∙ drop-at (certificate j picks cells) _ _ refl
 
 -- thirteen places of 9
 nines : List ℕ
 nines = replicate 13 9
 
+-- the certificate of the job of no labels and budget 0 is 12 bytes
 written-12 : (a : Written) (after : List ℕ) → Writes noLabels [] (5 ∷ []) nines a after
     → (a ≡ Bytes 12) × (after ≡ 0 ∷ 0 ∷ 0 ∷ 0 ∷ 1 ∷ 0 ∷ 0 ∷ 0 ∷ 5 ∷ 0 ∷ 0 ∷ 0 ∷ 9 ∷ [])
 unfolding nines Writes opens writerRefusal slicesFit bytesNeeded certificate writtenAs newBytes Holds
 written-12 a after w = (wrote-unique a (Bytes 12) (w .numbers), w .leaves)
 
-writes-something : ¬ Writes noLabels [] (5 ∷ []) nines (Bytes 12) nines
+writes-something : (a : Written) → ¬ Writes noLabels [] (5 ∷ []) nines a nines
 unfolding nines
-writes-something w =
-    let e : _≡_ {A = ℕ} 9 0 = ap (λ (l : List ℕ). at l 0) (written-12 (Bytes 12) nines w .1) in
+writes-something a w =
+    let e : _≡_ {A = ℕ} 9 0 = ap (λ (l : List ℕ). at l 0) (written-12 a nines w .1) in
     omega arith
-
-keeps-what-lies-past : (a : Written) (after : List ℕ) → Writes noLabels [] (5 ∷ []) nines a after → at after 12 ≡ 9
-keeps-what-lies-past a after w = ap (λ (l : List ℕ). at l 12) (written-12 a after w .1)
-
-module _ (picks cells before after : List ℕ) (a : Written) (w : WritesBytes [] picks cells before a after) where
-  unread-is-1 : a ≡ Reports.Refused 1
-  unfolding WritesBytes WritesRead opens writtenAs
-  unread-is-1 = wrote-unique a (Reports.Refused 1) (w .numbers)
-
-  unread-writes-nothing : after ≡ before
-  unfolding WritesBytes WritesRead opens newBytes Holds
-  unread-writes-nothing = w .leaves
 
 -- ---- the checker on case J's job: one that names the last cell at fault, one that adds in 32 bits, one that wants exact claims
 
@@ -92,23 +116,33 @@ claims-may-be-high : (v : Verdict) → Checked jobJ (certJ (0 ∷ 0 ∷ 0 ∷ 9 
 unfolding opens jobJ certJ verdictOf
 claims-may-be-high v checked = only (0 ∷ 0 ∷ 0 ∷ 9 ∷ 9 ∷ 3 ∷ []) (Accepted 3) v refl checked
 
--- ---- from C: a checker's entry that gives 0 for everything, or never; and a writer's entry that counts no bytes
+-- ---- from C: a checker's entry that gives 0 for every certificate of a valid job, or for none; and a writer's entry that counts no bytes
 
-entry-refuses : refusalNumber (verdictOf [] []) ≡ 1
-unfolding opens refusalNumber
-entry-refuses = refl
+module _ (entry : List ℕ → List ℕ → ℕ) (keeps : (jobB certB : List ℕ) → entry jobB certB ≡ refusalNumber (verdictOf jobB certB)) where
+  entry-refuses : ¬ ((jobB certB : List ℕ) (j : Job) → ValidJob jobB j → entry jobB certB ≡ 0)
+  entry-refuses all =
+      accepts-all Checked
+      (λ jobB certB j ok. let x = zero-is-accepted jobB certB (sym (keeps jobB certB) ∙ all jobB certB j ok) in (x .value, x .accepted)) meets-demand-3
 
-entry-accepts : (refusalNumber (verdictOf jobJ (certJ (0 ∷ 0 ∷ 0 ∷ 9 ∷ 9 ∷ 3 ∷ []))) ≡ 0) × (valueOrPlace (verdictOf jobJ (certJ (0 ∷ 0 ∷ 0 ∷ 9 ∷ 9 ∷ 3 ∷ []))) ≡ 3)
-unfolding opens jobJ certJ refusalNumber valueOrPlace
-entry-accepts = (refl, refl)
+  entry-accepts : (jobB : List ℕ) (j : Job) → ValidJob jobB j → ¬ ((certB : List ℕ) → ¬ (entry jobB certB ≡ 0))
+  unfolding refusalNumber judgedOf
+  entry-accepts jobB j ok none =
+      refuses-all Checked jobB j ok (λ certB v checked. none certB (keeps jobB certB ∙ ap refusalNumber (verdict-is jobB certB (Accepted v) checked))) meets-demand-3
 
--- the second entry names the place of the first cell at fault
+-- the second entry gives the value
+entry-gives-the-value : valueOrPlace (verdictOf jobJ (certJ (0 ∷ 0 ∷ 0 ∷ 9 ∷ 9 ∷ 3 ∷ []))) ≡ 3
+unfolding opens jobJ certJ valueOrPlace
+entry-gives-the-value = refl
+
+-- and names the place of the first cell at fault
 entry-names-the-place : valueOrPlace (verdictOf jobJ (certJ (0 ∷ 9 ∷ 0 ∷ 0 ∷ 0 ∷ 0 ∷ []))) ≡ 4
 unfolding opens jobJ certJ valueOrPlace
 entry-names-the-place = refl
 
-entry-counts : (r bytes : ℕ) (after : List ℕ) → WritesHost (jobBytes noLabels) [] (5 ∷ []) nines r bytes after → (r ≡ 0) × (bytes ≡ 12)
-unfolding WritesBytes WritesRead opens
-entry-counts r bytes after h =
-    let wrote : h .answer ≡ Bytes 12 = written-12 (h .answer) after (h .writes) .0 in
+entry-counts : (jobB : List ℕ) (j : Job) (picks cells before after : List ℕ) (r bytes : ℕ) → readJob jobB ≡ readable j → writerRefusal j picks cells before ≡ 0
+    → WritesHost jobB picks cells before r bytes after → (r ≡ 0) × (bytes ≡ bytesNeeded j)
+unfolding WritesBytes WritesRead wroteOf
+entry-counts jobB j picks cells before after r bytes reads ok h =
+    let w : Writes j picks cells before (h .answer) after = rw reads at (h .writes) in
+    let wrote : h .answer ≡ Bytes (bytesNeeded j) = counts-all j picks cells before after (h .answer) ok w in
     (h .refusal ∙ ap (λ (a : Written). wroteOf a .refusal) wrote, h .bytes-are ∙ ap (λ (a : Written). wroteOf a .bytes) wrote)

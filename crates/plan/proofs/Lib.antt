@@ -1,4 +1,5 @@
 -- The laws that the proofs of this crate cite.
 pub mod Room
 pub mod Replies
+pub mod Versions
 pub mod CaseA

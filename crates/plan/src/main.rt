@@ -7,7 +7,13 @@ ghost use mathlib.Core.Path.{_≡_};
 ghost use Prim.Native.Nat.{_≤_};
 ghost use lib.ListN.{length};
 ghost use Rattle.plan.specs.Picks.{picksWritten};
-ghost use Rattle.plan.specs.Replies.{Replied};
+ghost use Rattle.plan.specs.Replies.{JobReplied, Replied, linesRoom};
+
+// How many bytes a job may have.
+const MOST_INPUT: usize = 16_384;
+
+// How many bytes the lines of an answer need: 128, and 21 for each pick that is lent.
+const LINES_ROOM: usize = 21_632;
 
 // How many picks an answer to a job of n labels has written: one a label where its kind has picks, none with a refusal.
 fn picks_written(answer: Answer, n: usize) -> usize
@@ -26,9 +32,9 @@ fn picks_written(answer: Answer, n: usize) -> usize
 
 // Makes the lines that answer job bytes, and gives how long they are. What the bytes are read as gives the kind and the number of labels,
 // which an answer hasn't got.
-fn reply(job: &[u8], out: &mut [u8]) -> usize
-    requires { ⌜ 21_632 ≤ length (now out) ⌝ }
-    ensures { λ r. ⌜ Replied (now (job .entry)) (now (out .entry)) (now (out .exit)) r ⌝ }
+fn reply_to_job(job: &[u8], out: &mut [u8]) -> usize
+    requires { ⌜ linesRoom ≤ length (now out) ⌝ }
+    ensures { λ r. ⌜ JobReplied (now (job .entry)) (now (out .entry)) (now (out .exit)) r ⌝ }
 {
     let mut cells = [0u32; 8_192];
     let mut words = [0u64; 1_024];
@@ -54,21 +60,22 @@ fn reply(job: &[u8], out: &mut [u8]) -> usize
     print::text(kind, answer, &picks[..written], out)
 }
 
-// Whether standard input has a byte more.
-fn has_more() -> bool {
-    let mut next = [0u8; 1];
-    io::read_full(STDIN_FILENO, &mut next) == 1
+// Makes the lines that answer the input, and gives how long they are. Longer input is refused before anything of it is read as a job.
+fn reply(input: &[u8], out: &mut [u8]) -> usize
+    requires { ⌜ linesRoom ≤ length (now out) ⌝ }
+    ensures { λ r. ⌜ Replied (now (input .entry)) (now (out .entry)) (now (out .exit)) r ⌝ }
+{
+    if MOST_INPUT < input.len() {
+        return print::text(0, Answer::Refused(4), &[0u32; 0], out);
+    }
+    reply_to_job(input, out)
 }
 
-// Input that is longer than the buffer is refused before anything of it is read as a job.
+// One byte more than a job may have is read, so that longer input shows.
 fn main() {
-    let mut job = [0u8; 16_384];
-    let mut out = [0u8; 21_632];
-    let length = io::read_full(STDIN_FILENO, &mut job);
-    if length == job.len() && has_more() {
-        print::answer(0, Answer::Refused(4), &[0u32; 0]);
-        return;
-    }
-    let size = reply(&job[..length], &mut out);
+    let mut input = [0u8; MOST_INPUT + 1];
+    let mut out = [0u8; LINES_ROOM];
+    let length = io::read_full(STDIN_FILENO, &mut input);
+    let size = reply(&input[..length], &mut out);
     io::write_all(STDOUT_FILENO, &out[..size]);
 }

@@ -78,6 +78,6 @@ unfolding opens
 case-i = refl
 
 -- a refusal prints its number alone, whatever the kind and the picks
-refusal : (kind : ℕ) (picks : List ℕ) → linesOf kind (Says.Refused 4) picks ≡ ascii "refused 4\n"
+pub refusal : (kind : ℕ) (picks : List ℕ) → linesOf kind (Says.Refused 4) picks ≡ ascii "refused 4\n"
 unfolding opens
 refusal kind picks = refl

@@ -66,7 +66,7 @@ blanks-all ps i past = rw (take-all i ps past)
 -- ---- room for all lines
 
 -- a number has at most 20 digits
-pub line-room : (name : List ℕ) (x : ℕ) → length (lineOf name x) ≤ length name + 22
+line-room : (name : List ℕ) (x : ℕ) → length (lineOf name x) ≤ length name + 22
 line-room name x = omega (arith, line-long name x, number-long x, decimal-most x)
 
 head-room : (kind : ℕ) (name : List ℕ) (x : ℕ) → length (headLines kind name x) ≤ length name + 48

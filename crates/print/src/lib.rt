@@ -1,6 +1,4 @@
-// An answer as the lines of document 01. They are made in a slice, with a statement that gives each byte, and then written to standard
-// output in one call. What that call does with them can't be said in a contract.
-use libc::STDOUT_FILENO;
+// An answer as the lines of document 01, made in a slice, with a statement that gives each byte. Whoever prints them writes the slice out in one call.
 use meaning::Answer;
 ghost use Prim.Native.Nat.{_+_, _≤_};
 ghost use lib.ListN.{length};
@@ -64,7 +62,8 @@ fn put_head(out: &mut [u8], kind: u32, name: &[u8], x: u64) -> usize
     put_line(out, next, name, x)
 }
 
-// Puts all lines of an answer to a job of this kind at the start of a slice, and gives how long they are.
+// Puts all lines of an answer to a job of this kind at the start of a slice, and gives how long they are: at most 128 bytes, and 21 for
+// each pick.
 pub fn text(kind: u32, answer: Answer, picks: &[u32], out: &mut [u8]) -> usize
     requires { ⌜ length (linesOf kind answer (now picks)) ≤ length (now out) ⌝ }
     ensures { λ r. ⌜ PutFirst (linesOf kind answer (now (picks .entry))) (now (out .entry)) (now (out .exit)) r ⌝ }
@@ -90,22 +89,4 @@ pub fn text(kind: u32, answer: Answer, picks: &[u32], out: &mut [u8]) -> usize
             put_picks(out, next, picks)
         }
     }
-}
-
-// Prints the lines of an answer to a job of this kind. They take at most 128 bytes and 21 for each pick.
-pub fn answer(kind: u32, answer: Answer, picks: &[u32])
-    requires { ⌜ length (now picks) ≤ 1_024 ⌝ }
-{
-    let mut out = [0u8; 21_632];
-    let size = text(kind, answer, picks, &mut out);
-    io::write_all(STDOUT_FILENO, &out[..size]);
-}
-
-// Prints a line of a name and a number. It takes at most 22 bytes more than the name.
-pub fn number(name: &[u8], x: u64)
-    requires { ⌜ length (now name) ≤ 64 ⌝ }
-{
-    let mut out = [0u8; 96];
-    let size = put_line(&mut out, 0, name, x);
-    io::write_all(STDOUT_FILENO, &out[..size]);
 }

@@ -2,7 +2,7 @@
 -- Assumes nothing.
 use mathlib.Core.Path.{sym}
 use lib.Seq.{length-take-le}
-use Rattle.plan.proofs.Replies.{put-within}
+use Rattle.plan.proofs.Replies.{replied-within}
 use borrow.Author.Needs.{needs}
 use Rattle.plan.proofs.main.Statement.{statement}
 use Rattle.plan.proofs.main.Tie as tie
@@ -13,20 +13,8 @@ slice-aggregate-read-full c = search needs
 read-full-requires : tie.Need-read-full-requires
 read-full-requires c κs = search needs
 
-has-more-requires : tie.Need-has-more-requires
-has-more-requires c κs = search needs
-
-slice-aggregate-answer : tie.Need-slice-aggregate-answer
-slice-aggregate-answer c = search needs
-
-answer-requires : tie.Need-answer-requires
-answer-requires c κs = search needs
-
-returns : tie.Need-returns
-returns c = search needs
-
-array-share-prefix-job : tie.Need-array-share-prefix-job
-array-share-prefix-job c = search needs
+array-share-prefix-input : tie.Need-array-share-prefix-input
+array-share-prefix-input c = search needs
 
 slice-aggregate-reply : tie.Need-slice-aggregate-reply
 slice-aggregate-reply c = search needs
@@ -38,16 +26,16 @@ reply-requires : tie.Need-reply-requires
 reply-requires c κs = search needs
 
 array-share-prefix-out : tie.Need-array-share-prefix-out
-array-share-prefix-out c = put-within (c .before .reply .ensures .put)
+array-share-prefix-out c = replied-within (c .before .reply .ensures)
 
 slice-aggregate-write-all : tie.Need-slice-aggregate-write-all
-slice-aggregate-write-all c = sym (length-take-le (c .before .before .reply .result) (c .before .before .reply .last .1 .0) (put-within (c .before .before .reply .ensures .put)))
+slice-aggregate-write-all c = sym (length-take-le (c .before .before .reply .result) (c .before .before .reply .last .1 .0) (replied-within (c .before .before .reply .ensures)))
 
 write-all-requires : tie.Need-write-all-requires
 write-all-requires c κs = search needs
 
-returns-2 : tie.Need-returns-2
-returns-2 c = search needs
+returns : tie.Need-returns
+returns c = search needs
 
 pub main-spec : {M : Type 1} → statement M
 main-spec =
@@ -55,15 +43,11 @@ main-spec =
     (tie.spec
     slice-aggregate-read-full
     read-full-requires
-    has-more-requires
-    slice-aggregate-answer
-    answer-requires
-    returns
-    array-share-prefix-job
+    array-share-prefix-input
     slice-aggregate-reply
     slice-aggregate-reply-2
     reply-requires
     array-share-prefix-out
     slice-aggregate-write-all
     write-all-requires
-    returns-2)
+    returns)

@@ -31,10 +31,10 @@ none-at-all (Says.Ways w) n tag = refl
 none-at-all (Says.Shares s) n tag = absurd (miss (2 ∷ 4 ∷ 0 ∷ []) 5 tt tag)
 
 returns : tie.Need-returns
-returns c = one-a-label (c .before .args .answer) _ (c .match .keys1)
+returns c = one-a-label (c .before .args .answer) (c .before .args .n) (c .match .keys1)
 
 returns-2 : tie.Need-returns-2
-returns-2 c = none-at-all (c .before .args .answer) _ (c .match .keys2)
+returns-2 c = none-at-all (c .before .args .answer) (c .before .args .n) (c .match .keys2)
 
 pub picks-written-spec : {M : Type 1} → statement M
 picks-written-spec = tie.close (tie.spec returns returns-2)

@@ -1,0 +1,185 @@
+-- What an answer is held to: each part of the promise as a law over every job that no refusal meets, and on the proved trials the answer itself.
+-- Assumes nothing.
+use mathlib.Core.Path.{_∙_, _≡_, ap, refl, subst, sym}
+use Prim.Native.Nat.{ℕ, zero, suc, _≤_}
+use native.Mathlib.Omega.{arith}
+use mathlib.Core.Option.{Option·some-injective}
+use mathlib.Core.Bool.{Bool, true, false}
+use mathlib.Core.List.{List, [], _∷_}
+use lib.Dec.{lit≤, ltb}
+use lib.ListN.{List·getD-append, drop, length}
+use borrow.Author.Tests.{ltb-false}
+use Rattle.meaning.specs.declared.Answer.{Answer}
+use Rattle.meaning.specs.declared.Answer.the-variants as Says
+use Rattle.meaning.specs.Lists.{at, if, sum, total}
+use Rattle.meaning.specs.Slices.{Holds}
+use Rattle.meaning.specs.Job.{Job, Kind, Sort, block-ways, fewest-blocks, free, labels, limited, once, packing, sharing, subset-sums}
+use Rattle.meaning.specs.Lent.{Lent}
+use Rattle.meaning.specs.Bytes.{jobBytes, readJob, readable}
+use Rattle.meaning.specs.Knapsacks.{BestPicks, Fits, FullTable, ValueTable}
+use Rattle.meaning.specs.Sums.{TotalCount}
+use Rattle.meaning.specs.Blocks.{Makes, WaysFor, tooMany}
+use Rattle.meaning.specs.Shares.{spareOf}
+use Rattle.meaning.specs.Answers.{Said, Which, is-blocks, is-knapsack, is-refusal, is-shares, is-sums, is-ways, saidOf}
+use Rattle.meaning.specs.Solved.{Built, Gives, Solved, SolvedBytes, TableHolds, Unrefused, a-sum, no-such-sum, waysAnswer}
+use Rattle.meaning.specs.Trials.{AllGo, Goes, Trial, _and_, done, solve, trials}
+use Rattle.meaning.proofs.OneOfEach.{best-value-unique}
+use Rattle.meaning.proofs.Laws.{bytes-solved, solved-says, unrefused-answered}
+use Rattle.meaning.proofs.Small.{picked, picked-out}
+use Rattle.meaning.proofs.Opens.{opens}
+use Rattle.meaning.proofs.Sixteen.{sixteen}
+use Rattle.meaning.proofs.Cases.{caseA, caseC, tried}
+
+-- ---- a refusal, of a job that none of 2 to 6 and 9 meets: 'exactly when'
+
+-- 7 where no list of blocks sums to C, 8 where the ways are too many to count, and no other
+unfoldable pub Late : Kind → Job → ℕ → Type 0
+Late (packing s) j r = ⊥
+Late subset-sums j r = ⊥
+Late fewest-blocks j r = (r ≡ 7) × ((q : List ℕ) → ¬ Makes j (labels j) (j .budget) q)
+Late block-ways j r = (r ≡ 8) × ((w : ℕ) × WaysFor j (labels j) (j .budget) w × (tooMany ≤ w))
+Late sharing j r = ⊥
+
+-- 1 for a refusal, 0 for any other case
+unfoldable pub refusals : Which → ℕ
+refusals is-refusal = 1
+refusals is-knapsack = 0
+refusals is-sums = 0
+refusals is-blocks = 0
+refusals is-ways = 0
+refusals is-shares = 0
+
+-- no other case says what a refusal says
+pub not-said : (r : ℕ) (a : Answer) → refusals (saidOf a .case) ≡ 0 → ¬ (saidOf (Says.Refused r) ≡ saidOf a)
+unfolding saidOf refusals
+not-said r a other e = let z : 1 ≡ refusals (saidOf a .case) = ap (λ (s : Said). refusals (s .case)) e in omega arith
+
+late-ways : (j : Job) (w r : ℕ) → WaysFor j (labels j) (j .budget) w → (b : Bool) → ltb w tooMany ≡ b
+    → saidOf (Says.Refused r) ≡ saidOf (if b (Says.Ways w) (Says.Refused 8)) → Late block-ways j r
+unfolding if Late saidOf refusals
+late-ways j w r ways true h e = absurd (not-said r (Says.Ways w) refl e)
+late-ways j w r ways false h e = (ap (λ (s : Said). s .refusal) e, (w, ways, omega (arith, ltb-false, h)))
+
+late : (k : Kind) (j : Job) (r : ℕ) (p : List ℕ) → Gives k j (saidOf (Says.Refused r)) p → Late k j r
+unfolding Gives Built waysAnswer Late saidOf refusals
+late (packing s) j r p g = not-said r (Says.Knapsack (total (j .values) p) (total (j .weights) p)) refl (g .numbers)
+late subset-sums j r p g = not-said r (Says.Sums (g .yes) (g .totals)) refl (g .numbers)
+late fewest-blocks j r p (a-sum makes laid e) = absurd (not-said r (Says.Blocks (sum p)) refl e)
+late fewest-blocks j r p (no-such-sum none e written) = (ap (λ (s : Said). s .refusal) e, none)
+late block-ways j r p g = late-ways j (g .ways) r (g .how-many) (ltb (g .ways) tooMany) refl (g .numbers)
+late sharing j r p g = not-said r (Says.Shares (spareOf j)) refl (g .numbers)
+
+same-ways : (n w : ℕ) (b : Bool) → saidOf (Says.Ways n) ≡ saidOf (if b (Says.Ways w) (Says.Refused 8)) → n ≡ w
+unfolding if saidOf refusals
+same-ways n w true e = ap (λ (s : Said). s .ways) e
+same-ways n w false e = absurd (not-said 8 (Says.Ways n) refl (sym e))
+
+-- ---- what an answer is held to, for every job that isn't refused
+
+module _ (j : Job) (before after : Lent) where
+  pub refused-only : (k : Kind) (r : ℕ) → Unrefused k j before → Solved j before (Says.Refused r) after → Late k j r
+  refused-only k r ok h = late k j r _ (unrefused-answered k j before after (Says.Refused r) ok h .gives)
+
+  -- demand 2's maximum
+  pub nothing-worth-more : (k : Sort) (v w : ℕ) → Unrefused (packing k) j before → Solved j before (Says.Knapsack v w) after
+      → (q : List ℕ) → Fits k j (labels j) (j .budget) q → total (j .values) q ≤ v
+  unfolding Gives BestPicks saidOf
+  nothing-worth-more k v w ok h q fits =
+      let x = unrefused-answered (packing k) j before after (Says.Knapsack v w) ok h in
+      let value : v ≡ total (j .values) (x .content .picks) = ap (λ (s : Said). s .value) (x .gives .numbers) in
+      rw value (x .gives .picked .one-of .greatest q fits)
+
+  pub totals-counted : (can : Bool) (n : ℕ) → Unrefused subset-sums j before → Solved j before (Says.Sums can n) after → TotalCount j n
+  unfolding Gives saidOf
+  totals-counted can n ok h =
+      let g = unrefused-answered subset-sums j before after (Says.Sums can n) ok h .gives in
+      let same : n ≡ g .totals = ap (λ (s : Said). s .totals) (g .numbers) in
+      rw same (g .how-many)
+
+  pub ways-counted : (n : ℕ) → Unrefused block-ways j before → Solved j before (Says.Ways n) after → WaysFor j (labels j) (j .budget) n
+  unfolding Gives waysAnswer
+  ways-counted n ok h =
+      let g = unrefused-answered block-ways j before after (Says.Ways n) ok h .gives in
+      let same : n ≡ g .ways = same-ways n (g .ways) (ltb (g .ways) tooMany) (g .numbers) in
+      rw same (g .how-many)
+
+  pub spare-left : (n : ℕ) → Unrefused sharing j before → Solved j before (Says.Shares n) after → n ≡ spareOf j
+  unfolding Gives saidOf
+  spare-left n ok h = ap (λ (s : Said). s .spare) (unrefused-answered sharing j before after (Says.Shares n) ok h .gives .numbers)
+
+-- ---- whoever solves a proved trial answers what it says, and writes its picks
+
+pub trial-says : (j : Job) (a : Answer) (p : List ℕ) → Goes (solve j a p) → (k : Kind) (before after : Lent) (a′ : Answer)
+    → Unrefused k j before → Solved j before a′ after → (a′ ≡ a) × Holds p (before .picks) (after .picks)
+unfolding Goes
+trial-says j a p (k′, m) k before after a′ ok h =
+    let same : k ≡ k′ = Option·some-injective k k′ (sym (ok .of-kind) ∙ m .unrefused .of-kind) in
+    solved-says k j before after a′ a p ok (subst (λ (x : Kind). Gives x j (saidOf a) p) (sym same) (m .answer)) h
+
+-- the trial at a place of a list of them all
+unfoldable GoesAt : List Trial → ℕ → Type 0
+GoesAt [] i = Unit
+GoesAt (t ∷ ts) zero = Goes t
+GoesAt (t ∷ ts) (suc i) = GoesAt ts i
+
+goes-at : {ts : List Trial} (i : ℕ) → AllGo ts → GoesAt ts i
+unfolding GoesAt
+goes-at i done = tt
+goes-at zero (g and gs) = g
+goes-at (suc i) (g and gs) = goes-at i gs
+
+pub tried-goes : (k : Kind) → Goes (solve (tried k .job) (tried k .answer) (tried k .picks))
+unfolding trials GoesAt
+tried-goes (packing once) = goes-at 0 sixteen
+tried-goes (packing limited) = goes-at 3 sixteen
+tried-goes (packing free) = goes-at 4 sixteen
+tried-goes subset-sums = goes-at 6 sixteen
+tried-goes fewest-blocks = goes-at 8 sixteen
+tried-goes block-ways = goes-at 10 sixteen
+tried-goes sharing = goes-at 12 sixteen
+
+-- each trial is read back from its bytes
+pub tried-back : (k : Kind) → readJob (jobBytes (tried k .job)) ≡ readable (tried k .job)
+unfolding opens
+tried-back (packing once) = refl
+tried-back (packing limited) = refl
+tried-back (packing free) = refl
+tried-back subset-sums = refl
+tried-back fewest-blocks = refl
+tried-back block-ways = refl
+tried-back sharing = refl
+
+-- so whoever solves the bytes of one answers it
+pub tried-says : (k : Kind) (before after : Lent) (a : Answer) → Unrefused k (tried k .job) before → SolvedBytes (jobBytes (tried k .job)) before a after
+    → (a ≡ tried k .answer) × Holds (tried k .picks) (before .picks) (after .picks)
+tried-says k before after a ok h =
+    trial-says (tried k .job) (tried k .answer) (tried k .picks) (tried-goes k) k before after a ok
+    (bytes-solved (jobBytes (tried k .job)) (tried k .job) before after a (tried-back k) h)
+
+-- ---- case A: cell 31 is 9 after the call, whatever stood there
+
+-- 1 1 0 is what the meanings choose
+chosen-A : BestPicks once caseA 3 7 (1 ∷ 1 ∷ 0 ∷ [])
+unfolding opens picked
+chosen-A = picked-out once caseA (1 ∷ 1 ∷ 0 ∷ []) tt
+
+last-cell : (before after : Lent) (a : Answer) → Unrefused (packing once) caseA before → Solved caseA before a after → at (after .cells) 31 ≡ 9
+unfolding TableHolds ValueTable FullTable opens BestPicks Holds
+last-cell before after a ok h =
+    let x = unrefused-answered (packing once) caseA before after a ok h in
+    let long : length (x .content .cells) ≡ 32 = x .cells-needed in
+    ap (λ (l : List ℕ). at l 31) (x .cells-hold)
+    ∙ List·getD-append (x .content .cells) (drop (length (x .content .cells)) (before .cells)) 0 31 (omega (arith, long))
+    ∙ best-value-unique (x .table-right 3 7 (lit≤ tt) (lit≤ tt)) (record { picks = 1 ∷ 1 ∷ 0 ∷ []; best = chosen-A .one-of; value = refl })
+
+-- ---- greed by value per byte, on case C: label 0 is worth 7 for 6 bytes and is kept first, and then no other fits; labels 1 and 2 are worth 10
+
+chosen-C : BestPicks once caseC 3 10 (0 ∷ 1 ∷ 1 ∷ [])
+unfolding opens picked
+chosen-C = picked-out once caseC (0 ∷ 1 ∷ 1 ∷ []) tt
+
+greed-misses : (before after : Lent) (w : ℕ) → Unrefused (packing once) caseC before → ¬ Solved caseC before (Says.Knapsack 7 w) after
+unfolding opens BestPicks
+greed-misses before after w ok h =
+    let ten : 10 ≤ 7 = nothing-worth-more caseC before after once 7 w ok h (0 ∷ 1 ∷ 1 ∷ []) (chosen-C .one-of .fits) in
+    omega arith
