@@ -1,53 +1,62 @@
-// Lines of the print, beside those of an answer.
+// What is printed: an answer as its lines, or within a line.
+use bytes::scan::find;
 use libc::STDOUT_FILENO;
 use meaning::Answer;
+ghost use Prim.Native.Nat.{_≤_};
+ghost use lib.ListN.{length};
 
 // Some text, with no line end.
 pub fn text(words: &[u8]) {
     io::write_all(STDOUT_FILENO, words);
 }
 
-// A number after a blank.
-pub fn count(x: u64) {
-    text(b" ");
-    io::print_decimal(STDOUT_FILENO, x);
+// How many bytes a job is.
+pub fn size(count: usize) {
+    text(b" as ");
+    io::print_decimal(STDOUT_FILENO, count as u64);
+    text(b" bytes");
 }
 
-// A line's end.
-pub fn end() {
-    text(b"\n");
-}
-
-// A number after its name.
-pub fn named(name: &[u8], x: u64) {
-    text(name);
-    count(x);
-}
-
-// Two numbers, each after its name.
-fn both_named(name: &[u8], x: u64, second: &[u8], y: u64) {
-    named(name, x);
-    named(second, y);
-}
-
-// The number of an answer that has one alone.
-fn number(answer: Answer) {
-    match answer {
-        Answer::Refused(number) => named(b" refused", number as u64),
-        Answer::Blocks(blocks) => named(b" blocks", blocks as u64),
-        Answer::Ways(ways) => named(b" ways", ways),
-        Answer::Shares(spare) => named(b" spare", spare as u64),
-        _ => {}
-    }
-}
-
-// The numbers of an answer in one line.
-pub fn numbers(answer: Answer) {
-    match answer {
-        Answer::Knapsack { value, weight } => {
-            both_named(b" value", value as u64, b" weight", weight as u64)
+// A line of an answer within another line, by its first byte: its kind and its picks are left out.
+fn within(first: u8, line: &[u8]) {
+    match first {
+        b'k' | b'p' => {}
+        _ => {
+            text(b" ");
+            text(line);
         }
-        Answer::Sums { yes, totals } => both_named(b" yes", yes as u64, b" totals", totals as u64),
-        other => number(other),
     }
+}
+
+// The lines of an answer within a line.
+fn all_within(lines: &[u8]) {
+    let mut place = 0;
+    while place < lines.len() {
+        let end = find(lines, place, lines.len(), b'\n');
+        within(lines[place], &lines[place..end]);
+        place = end + 1;
+    }
+}
+
+// The lines of an answer, after the line that names its job.
+fn whole_lines(lines: &[u8]) {
+    text(b"\n");
+    text(lines);
+}
+
+// The lines of an answer, whole or within a line.
+fn put(lines: &[u8], whole: bool) {
+    if whole {
+        return whole_lines(lines);
+    }
+    all_within(lines);
+}
+
+// An answer. Its lines take at most 128 bytes and 21 for each pick.
+pub fn show(kind: u32, answer: Answer, picks: &[u32], whole: bool)
+    requires { ⌜ length (now picks) ≤ 1_024 ⌝ }
+{
+    let mut out = [0u8; 21_632];
+    let size = print::text(kind, answer, picks, &mut out);
+    put(&out[0..size], whole);
 }

@@ -1,14 +1,68 @@
-// The trials: those that standard input lists, which are the cases of document 01 and a job at each bound and one past it, and many small jobs
-// that are drawn, each answered by the planner and by `every`, which tries every selection. The gate holds the print to the file stdout.
-mod comparing;
-mod counting;
-mod generated;
+// The trials of document 01 that standard input lists: its cases, whose mark is `-`, and its bounds, whose mark is `>`, with what comes at the bound
+// and one past it. Each job is answered as lists and as bytes, on slices that held something else before. Lines with neither mark are words for
+// who reads the list. The gate holds the print to the file stdout.
+mod doors;
 mod lines;
-mod listed;
-mod solving;
+mod reading;
 
-// Runs all trials.
+use bytes::scan::find;
+use libc::STDIN_FILENO;
+
+// Has the job after a place of a line answered and printed. Answers the place after the job.
+fn run_job(line: &[u8], place: usize, as_bytes: bool, whole: bool) -> usize {
+    let mut numbers = [0u32; 4_096];
+    let end = reading::read_job(line, place, &mut numbers);
+    doors::answer(&numbers, as_bytes, whole);
+    end
+}
+
+// The two jobs of a bound.
+fn run_bound(line: &[u8], colon: usize, as_bytes: bool) {
+    lines::text(b":");
+    let slash = run_job(line, colon, as_bytes, false);
+    lines::text(b", then");
+    run_job(line, slash, as_bytes, false);
+    lines::text(b"\n");
+}
+
+// A case or a bound, after its name.
+fn trial(line: &[u8], as_bytes: bool) {
+    let colon = find(line, 0, line.len(), b':');
+    if colon == 0 {
+        return;
+    }
+    lines::text(&line[1..colon]);
+    if line[0] == b'>' {
+        return run_bound(line, colon, as_bytes);
+    }
+    run_job(line, colon, as_bytes, true);
+}
+
+// One line of the list, as lists and as bytes.
+fn run_line(line: &[u8]) {
+    let mark = if 0 < line.len() { line[0] } else { 0 };
+    match mark {
+        b'-' | b'>' => {
+            trial(line, false);
+            trial(line, true);
+        }
+        _ => {}
+    }
+}
+
+// All lines of a text.
+fn run_lines(text: &[u8]) {
+    let mut place = 0;
+    while place < text.len() {
+        let end = find(text, place, text.len(), b'\n');
+        run_line(&text[place..end]);
+        place = end + 1;
+    }
+}
+
+// Runs the trials of the list.
 fn main() {
-    listed::run();
-    generated::run();
+    let mut text = [0u8; 16_384];
+    let length = io::read_full(STDIN_FILENO, &mut text);
+    run_lines(&text[..length]);
 }

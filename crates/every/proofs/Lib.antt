@@ -1,4 +1,0 @@
--- The laws that the proofs of this crate's functions cite, by subject.
-pub mod Numbering
-pub mod Selecting
-pub mod Stopping

@@ -1,0 +1,134 @@
+// The planner's two doors. A job is its numbers as job bytes have them: kinds, budgets, weights, values and copies, each list after its count. A list
+// more says how many cells, words and picks are lent: all, where it is empty.
+use crate::lines;
+use meaning::Answer;
+ghost use Prim.Native.Nat.{_≤_};
+ghost use lib.ListN.{length};
+
+// Where the weights' count stands.
+const WEIGHTS: usize = 4;
+
+// The lesser of two numbers.
+pub fn lesser(a: usize, b: usize) -> usize
+    ensures { λ r. ⌜ (r ≤ a) × (r ≤ b) ⌝ }
+{
+    if a < b { a } else { b }
+}
+
+// A number, widened.
+pub fn wide(x: u32) -> usize {
+    x as usize
+}
+
+// The number at a place.
+fn at(numbers: &[u32], place: usize) -> u32 {
+    if place < numbers.len() {
+        return numbers[place];
+    }
+    0
+}
+
+// The place after the list whose count stands at a place.
+fn after(numbers: &[u32], place: usize) -> usize {
+    std::num::wrapping_add_usize(
+        place,
+        std::num::wrapping_add_usize(wide(at(numbers, place)), 1),
+    )
+}
+
+// The list whose count stands at a place.
+fn list(numbers: &[u32], place: usize) -> &[u32] {
+    let end = lesser(after(numbers, place), numbers.len());
+    let start = lesser(std::num::wrapping_add_usize(place, 1), end);
+    &numbers[start..end]
+}
+
+// The place after the copies.
+fn end_of_job(numbers: &[u32]) -> usize {
+    after(numbers, after(numbers, after(numbers, WEIGHTS)))
+}
+
+// How many cells, words or picks are lent, of so many: the first, second or third number of the list after the copies.
+fn lent(numbers: &[u32], which: usize, most: usize) -> usize
+    ensures { λ r. ⌜ r ≤ most ⌝ }
+{
+    let place = end_of_job(numbers);
+    if at(numbers, place) == 0 {
+        return most;
+    }
+    lesser(
+        wide(at(numbers, std::num::wrapping_add_usize(place, which))),
+        most,
+    )
+}
+
+// Shows an answer with the picks of its labels.
+fn show(numbers: &[u32], answer: Answer, picks: [u32; 1_024], whole: bool) {
+    let n = lesser(wide(at(numbers, WEIGHTS)), 1_024);
+    lines::show(at(numbers, 1), answer, &picks[0..n], whole);
+}
+
+// The planner's answer to lists.
+fn by_lists(numbers: &[u32], whole: bool) {
+    let c = lent(numbers, 1, 131_072);
+    let w = lent(numbers, 2, 65_536);
+    let p = lent(numbers, 3, 1_024);
+    let values = after(numbers, WEIGHTS);
+    let copies = after(numbers, values);
+    let mut cells = [7u32; 131_072];
+    let mut words = [7u64; 65_536];
+    let mut picks = [9u32; 1_024];
+    let answer = planner::solve(
+        at(numbers, 1),
+        at(numbers, 3),
+        list(numbers, WEIGHTS),
+        list(numbers, values),
+        list(numbers, copies),
+        &mut cells[0..c],
+        &mut words[0..w],
+        &mut picks[0..p],
+    );
+    show(numbers, answer, picks, whole);
+}
+
+// Puts numbers as bytes, four of each, lowest first. Answers how many bytes they are.
+fn put_bytes(numbers: &[u32], bytes: &mut [u8]) -> usize
+    ensures { λ r. ⌜ r ≤ length (now (bytes .entry)) ⌝ }
+{
+    let mut place = 0;
+    while place < bytes.len() && place / 4 < numbers.len() {
+        let shift = (place % 4 * 8) as u32;
+        bytes[place] = ((numbers[place / 4] >> shift) % 256) as u8;
+        place += 1;
+    }
+    place
+}
+
+// Its answer to job bytes.
+fn solve_bytes(job: &[u8], numbers: &[u32], whole: bool) {
+    let c = lent(numbers, 1, 131_072);
+    let w = lent(numbers, 2, 65_536);
+    let p = lent(numbers, 3, 1_024);
+    let mut cells = [7u32; 131_072];
+    let mut words = [7u64; 65_536];
+    let mut picks = [9u32; 1_024];
+    let answer = planner::solve_bytes(job, &mut cells[0..c], &mut words[0..w], &mut picks[0..p]);
+    show(numbers, answer, picks, whole);
+}
+
+// Its answer to the job as bytes, after how many they are.
+fn by_bytes(numbers: &[u32], whole: bool) {
+    let end = lesser(end_of_job(numbers), numbers.len());
+    let mut bytes = [0u8; 16_384];
+    let size = put_bytes(&numbers[0..end], &mut bytes);
+    lines::size(size);
+    solve_bytes(&bytes[0..size], numbers, whole);
+}
+
+// Its answer by one of the doors.
+pub fn answer(numbers: &[u32], as_bytes: bool, whole: bool) {
+    if as_bytes {
+        return by_bytes(numbers, whole);
+    }
+    by_lists(numbers, whole);
+}
