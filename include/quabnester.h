@@ -1,7 +1,10 @@
 /* Quabnester from C: solve a job, write a certificate of a keep list, check one. C99, and usable from C++.
  *
- * Each promise below is proved of the code that is called (crates/host, docs/STATEMENTS.md). 'Document 01' has the words
- * behind it. tests/example.c is a worked call: it solves a job, writes its certificate and has that checked.
+ * What is said below of an entry's numbers and of the slices that it is lent is proved of the code that is called
+ * (crates/host, docs/STATEMENTS.md), for a caller who keeps the duties. What is said of C itself is not, since no proof
+ * sees C: null pointers are tried by tests/empty.c, and threads rest on there being nothing that calls share. 'Document
+ * 01' has the words behind each promise. tests/example.c is a worked call: it solves a job, writes its certificate and has
+ * that checked.
  *
  * THE CALLER'S DUTIES. Nothing is assumed of what the slices hold: any bytes, any numbers. C itself asks this much:
  * - A slice is a pointer and a length in elements. It points at so many elements, aligned for their type, and

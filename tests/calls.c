@@ -1,4 +1,4 @@
-/* The entries, called on lent slices or beside the plain reading. */
+/* The entries, called on lent slices or beside document 01's second program. */
 #include "calls.h"
 #include "tell.h"
 #include <stdio.h>
@@ -7,40 +7,136 @@
 
 void read_back(const struct bytes *bytes, struct plain_job *job) {
     if (!plain_read(bytes->at, bytes->length, job)) {
-        printf("the plain reading can't read a job of the tests\n");
+        printf("the second program can't read a job of the tests\n");
         exit(1);
     }
+}
+
+/* The bytes at an odd address. */
+static void lend_copy(struct lent *lent, const struct bytes *bytes) {
+    lend(lent, bytes->length, 1, 0);
+    memcpy(lent->slice, bytes->at, bytes->length);
+}
+
+static void is_a_copy(const struct lent *lent, const struct bytes *bytes) {
+    holds("bytes that are only read", kept_outside(lent) && memcmp(lent->slice, bytes->at, bytes->length) == 0);
 }
 
 /* ---- the solver */
 
 void solve(struct solved *solved, const struct bytes *job, const struct plain_room *lengths, uint64_t salt) {
+    lend_copy(&solved->job, job);
     lend(&solved->cells, lengths->cells, 4, salt);
     lend(&solved->words, lengths->words, 8, salt + 1);
     lend(&solved->picks, lengths->picks, 4, salt + 2);
     solved->first = solved->second = salt + 3;
-    solved->refused = quabnester_solve(job->at, job->length, solved->cells.slice, lengths->cells, solved->words.slice,
+    solved->refused = quabnester_solve(solved->job.slice, job->length, solved->cells.slice, lengths->cells, solved->words.slice,
                                        lengths->words, solved->picks.slice, lengths->picks, &solved->first, &solved->second);
 }
 
 void give_back_solved(struct solved *solved) {
+    give_back(&solved->job);
     give_back(&solved->cells);
     give_back(&solved->words);
     give_back(&solved->picks);
-}
-
-void turned_down(const struct solved *solved, uint32_t number) {
-    static const struct plain_room nothing = {0, 0, 0};
-    same("the refusal", number, solved->refused);
-    same("first of a refusal", 0, solved->first);
-    same("second of a refusal", 0, solved->second);
-    kept_the_rest(solved, &nothing);
 }
 
 void kept_the_rest(const struct solved *solved, const struct plain_room *needed) {
     holds("what the cells held past the needed ones", kept_from(&solved->cells, 4 * needed->cells));
     holds("what the words held past the needed ones", kept_from(&solved->words, 8 * needed->words));
     holds("what the picks held past the needed ones", kept_from(&solved->picks, 4 * needed->picks));
+}
+
+/* ---- the solver beside the second program */
+
+static uint64_t element(const void *slice, size_t size, size_t k) {
+    return size == 4 ? ((const uint32_t *)slice)[k] : ((const uint64_t *)slice)[k];
+}
+
+/* Two slices hold the same elements, as far as they are filled. */
+static int same_content(const char *what, const void *expected, const void *got, size_t count, size_t size) {
+    size_t k = 0;
+    if (memcmp(expected, got, count * size) == 0) return holds(what, 1);
+    while (element(expected, size, k) == element(got, size, k)) k++;
+    return same_at(what, k, element(expected, size, k), element(got, size, k));
+}
+
+/* The table and the trying of every selection say the same. */
+static void agree(const struct plain_answer *table, const struct plain_answer *tried) {
+    same("the second program's refusal, by trying", table->refused, tried->refused);
+    same("its first", table->first, tried->first);
+    same("its second", table->second, tried->second);
+    if (!holds("what it fills", memcmp(&table->filled, &tried->filled, sizeof table->filled) == 0)) return;
+    same_content("its cell", table->cells, tried->cells, table->filled.cells, 4);
+    same_content("its word", table->words, tried->words, table->filled.words, 8);
+    same_content("its pick", table->picks, tried->picks, table->filled.picks, 4);
+}
+
+const struct plain_answer *expected_of(const struct bytes *job, const struct plain_room *lengths) {
+    static struct plain_answer answer, tried;
+    struct plain_job read = {0, 0, {NULL, 0}, {NULL, 0}, {NULL, 0}};
+    uint32_t refused = plain_solve_refusal(job->at, job->length, lengths);
+    plain_start(&answer, &read, refused);
+    if (refused != 0) return &answer;
+    read_back(job, &read);
+    if (!plain_has_room(&read)) {
+        printf("a job of the tests needs more than %d cells of the second program\n", PLAIN_CELLS);
+        exit(1);
+    }
+    if (read.kind == 7) plain_share(&read, &answer);
+    if (read.kind != 7) plain_table(&read, &answer);
+    if (!plain_try(&read, &tried)) return &answer;
+    agree(&answer, &tried);
+    answer.as_good = tried.as_good;
+    answer.tried = 1;
+    return &answer;
+}
+
+static void say_list(struct plain_list list) {
+    uint32_t i;
+    for (i = 0; i < list.count; i++) printf(" %lu", (unsigned long)plain_item(list, i));
+    printf(";");
+}
+
+static void say_job(const struct bytes *job, const struct solved *solved) {
+    struct plain_job read;
+    if (!plain_read(job->at, job->length, &read)) return;
+    printf("-the job: %lu; %lu;", (unsigned long)read.kind, (unsigned long)read.budget);
+    say_list(read.weights);
+    say_list(read.values);
+    say_list(read.copies);
+    printf(" %lu %lu %lu\n", (unsigned long)solved->cells.bytes / 4, (unsigned long)solved->words.bytes / 8,
+           (unsigned long)solved->picks.bytes / 4);
+}
+
+void answers(const struct solved *solved, const struct bytes *job, const struct plain_answer *expected) {
+    int well = same("the refusal", expected->refused, solved->refused);
+    well &= same("first", expected->first, solved->first);
+    well &= same("second", expected->second, solved->second);
+    well &= same_content("cell", expected->cells, solved->cells.slice, expected->filled.cells, 4);
+    well &= same_content("word", expected->words, solved->words.slice, expected->filled.words, 8);
+    well &= same_content("pick", expected->picks, solved->picks.slice, expected->filled.picks, 4);
+    if (!well && telling()) say_job(job, solved);
+    kept_the_rest(solved, &expected->filled);
+    is_a_copy(&solved->job, job);
+}
+
+const struct plain_answer *try_job(const struct bytes *job, const struct plain_room *lengths, uint64_t salt) {
+    const struct plain_answer *expected = expected_of(job, lengths);
+    struct solved solved;
+    solve(&solved, job, lengths, salt);
+    answers(&solved, job, expected);
+    give_back_solved(&solved);
+    return expected;
+}
+
+int other_rule_tells(const struct plain_job *job, int other, const uint32_t *picks) {
+    uint32_t others[PLAIN_PICKS];
+    struct plain_rule rule = plain_rule(job->kind);
+    rule.from_last ^= other & 1;
+    rule.small ^= other >> 1;
+    plain_picks(job, rule, others);
+    return memcmp(others, picks, job->weights.count * sizeof picks[0]) != 0;
 }
 
 /* ---- the writer */
@@ -61,16 +157,6 @@ uint32_t judged(const struct bytes *job, const uint8_t *certificate, size_t leng
     same("the verdict", plain.number, number);
     same("the value or place", plain.detail, quabnester_check_detail(job->at, job->length, certificate, length));
     return number;
-}
-
-/* The bytes at an odd address. */
-static void lend_copy(struct lent *lent, const struct bytes *bytes) {
-    lend(lent, bytes->length, 1, 0);
-    memcpy(lent->slice, bytes->at, bytes->length);
-}
-
-static void is_a_copy(const struct lent *lent, const struct bytes *bytes) {
-    holds("bytes that are only read", kept_outside(lent) && memcmp(lent->slice, bytes->at, bytes->length) == 0);
 }
 
 void verdict_is(const struct bytes *job, const struct bytes *certificate, uint32_t number, uint64_t detail) {

@@ -1,4 +1,4 @@
-/* The entries, called on lent slices or beside the plain reading. */
+/* The entries, called on lent slices or beside document 01's second program. */
 #ifndef CALLS_H
 #define CALLS_H
 
@@ -7,26 +7,39 @@
 #include "plain.h"
 #include "quabnester.h"
 
-/* What the plain reading makes of job bytes that were put together here. Ends the tests where it can't read them. */
+/* What the second program reads in job bytes that were put together here. Ends the tests where it can't read them. */
 void read_back(const struct bytes *bytes, struct plain_job *job);
 
 /* ---- the solver */
 
 struct solved {
-    struct lent cells, words, picks;
+    struct lent job, cells, words, picks;
     uint64_t first, second;
     uint32_t refused;
 };
 
-/* Solves a job with dirty slices of these lengths, which `give_back_solved` frees. */
+/* Solves a job, at an odd address, with dirty slices of these lengths, which `give_back_solved` frees. */
 void solve(struct solved *solved, const struct bytes *job, const struct plain_room *lengths, uint64_t salt);
 void give_back_solved(struct solved *solved);
 
-/* The call was refused with this number: no answer, and nothing written. */
-void turned_down(const struct solved *solved, uint32_t number);
-
-/* The job's picks and cells, as far as it needs them, and all past them as it was. */
+/* The slices past the needed places, and all round them, are as they were. */
 void kept_the_rest(const struct solved *solved, const struct plain_room *needed);
+
+/* What the second program answers: by its tables, or its sort, and where the job is small enough by trying every selection as well; then
+ * the two have to say the same. The answer is there until the next call. Ends the tests where its tables have no room. */
+const struct plain_answer *expected_of(const struct bytes *job, const struct plain_room *lengths);
+
+/* The answer is the expected one, and the slices are, whole: what is filled of them, then what was there. Where it isn't so, the job is
+ * told too, as crates/trials/stdin would list it. */
+void answers(const struct solved *solved, const struct bytes *job, const struct plain_answer *expected);
+
+/* All of that: what is expected is answered. */
+const struct plain_answer *try_job(const struct bytes *job, const struct plain_room *lengths, uint64_t salt);
+
+/* Whether another tie rule than the kind's names other picks than these, of a job that was tried. Rule 1 reads the labels the other way
+ * round, rule 2 wants the other counts, rule 3 does both. */
+enum { RULES = 4 };
+int other_rule_tells(const struct plain_job *job, int other, const uint32_t *picks);
 
 /* ---- the writer */
 
@@ -41,7 +54,7 @@ void write_out(struct written *written, const struct bytes *job, const uint32_t 
 
 /* ---- the checker */
 
-/* Both entries say what the plain reading says. Answers the number. */
+/* Both entries say what the second program says. Answers the number. */
 uint32_t judged(const struct bytes *job, const uint8_t *certificate, size_t length);
 
 /* So they do, and that is this verdict; and they do so at odd addresses too, and leave the bytes as they are. */

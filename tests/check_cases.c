@@ -4,6 +4,7 @@
 #include "parts.h"
 #include "tell.h"
 #include <stdio.h>
+#include <string.h>
 
 #define U UINT32_MAX
 
@@ -76,12 +77,10 @@ static uint32_t best_cells[33];
 
 /* Case A, solved, and its certificate. */
 static void fresh(void) {
-    struct plain_job read;
-    uint32_t m;
+    static const struct plain_room room = {32, 0, 3};
     case_a(&job);
     put_job(&bytes, &job);
-    read_back(&bytes, &read);
-    for (m = 0; m < 32; m++) best_cells[m] = (uint32_t)plain_best(&read, m / 8, m % 8).value;
+    memcpy(best_cells, expected_of(&bytes, &room)->cells, 32 * sizeof best_cells[0]);
     put_certificate(&certificate, &job, best_picks, best_cells);
 }
 
@@ -118,9 +117,9 @@ static void wrong_counts(void) {
 
 static void other_kinds(void) {
     size_t k;
-    for (k = 0; k <= 9; k++) {
+    for (k = 0; k <= LAST_KIND + 2; k++) {
         fresh();
-        job.kind = k == 9 ? U : (uint32_t)k;
+        job.kind = k == LAST_KIND + 2 ? U : (uint32_t)k;
         gives(best_picks, best_cells, k == 1 ? 0 : 2, k == 1 ? 9 : 0);
     }
 }
@@ -139,7 +138,7 @@ static void spoil(int fault) {
         bytes.at[48] = 1;
         put_number(&bytes, 1);
         break;
-    case 4: put_at(bytes.at + 12, 65536); break;
+    case 4: put_at(bytes.at + 12, MOST_BUDGET + 1); break;
     case 5: put_at(bytes.at + 24, 0); break;
     case 11: certificate.length++; break;
     case 12: picks[8] = 2; break;

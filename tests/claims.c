@@ -1,9 +1,11 @@
 /* Tables of claims that nobody solved: drawn near what rule 14 asks for, with claims too high and too low, and with lists that break the
- * rules now and then. The checker says what the plain reading says, and each verdict comes up. */
+ * rules now and then. The checker says what the second program says, and each verdict comes up. */
 #include "calls.h"
+#include "draw.h"
 #include "parts.h"
 #include "tell.h"
 #include <stdio.h>
+#include <string.h>
 
 enum { TABLES = 20000, MOST_N = 4, MOST_C = 10, MOST_CELLS = (MOST_N + 1) * (MOST_C + 1) };
 
@@ -45,15 +47,16 @@ static void spoil_claims(struct draw *draw) {
     else if (*cell > 0) *cell -= 1;
 }
 
-/* The list that the plain reading finds best, or any. */
+/* The list that the second program finds best, or any. */
 static void draw_picks(struct draw *draw) {
-    struct plain_job read;
-    uint32_t i, n = job.weights.count, selection;
-    read_back(&bytes, &read);
-    selection = plain_best(&read, n, read.budget).picks;
-    if (chance(draw, 4)) selection = drawn(draw, 0, ((uint32_t)1 << n) - 1);
-    for (i = 0; i < n; i++) picks[i] = selection >> i & 1;
-    if (n > 0 && chance(draw, 12)) picks[drawn(draw, 0, n - 1)] = chance(draw, 2) ? 2 : drawn(draw, 2, UINT32_MAX);
+    static const struct plain_room room = {MOST_CELLS, 0, MOST_N};
+    uint32_t i, n = job.weights.count, label;
+    int any = chance(draw, 4);
+    memcpy(picks, expected_of(&bytes, &room)->picks, n * sizeof picks[0]);
+    for (i = 0; i < n; i++) picks[i] = any ? drawn(draw, 0, 1) : picks[i];
+    if (n == 0 || !chance(draw, 12)) return;
+    label = drawn(draw, 0, n - 1);
+    picks[label] = chance(draw, 2) ? 2 : drawn(draw, 2, UINT32_MAX);
 }
 
 /* What K(n,C) has to claim for the list. */
@@ -68,7 +71,7 @@ static void try_table(uint64_t number) {
     uint32_t verdict;
     int higher;
     about("claims", number);
-    draw_job(&draw, MOST_N, MOST_C, &job);
+    draw_job(&draw, 1, MOST_N, MOST_C, &job);
     put_job(&bytes, &job);
     higher = claim_all(&draw, chance(&draw, 2) ? 1000 : drawn(&draw, 2, 30));
     draw_picks(&draw);

@@ -1,6 +1,7 @@
 /* Damaged bytes: of a dozen jobs and their certificates every byte is changed, to several other values, every shorter length is tried, and
  * a byte more. */
 #include "calls.h"
+#include "draw.h"
 #include "parts.h"
 #include "tell.h"
 #include <stdio.h>
@@ -30,14 +31,14 @@ static void try_check(void) {
 }
 
 /* The solver and the writer too, with slices as the whole job needs them. */
-static void try_job(void) {
+static void try_all(void) {
+    const struct plain_answer *answer = expected_of(&bytes, &room);
     struct solved solved;
     struct written written;
-    uint32_t expected = plain_solve_refusal(bytes.at, bytes.length, room.cells, room.words, room.picks);
+    uint32_t expected;
     solve(&solved, &bytes, &room, tried);
-    if (expected != 0) turned_down(&solved, expected);
-    if (expected == 0) same("the refusal", 0, solved.refused);
-    solved_with[expected]++;
+    answers(&solved, &bytes, answer);
+    solved_with[answer->refused]++;
     expected = plain_write_refusal(bytes.at, bytes.length, room.picks, room.cells, certificate.length);
     write_out(&written, &bytes, solved.picks.slice, room.picks, solved.cells.slice, room.cells, certificate.length);
     same("the writer's refusal", expected, written.refused);
@@ -71,7 +72,7 @@ static void draw_pair(uint64_t number) {
     struct draw draw = {2000000 + number};
     struct plain_job read;
     struct solved solved;
-    draw_job(&draw, 4, 12, &job);
+    draw_job(&draw, 1, 4, 12, &job);
     put_job(&bytes, &job);
     read_back(&bytes, &read);
     room = plain_room(&read);
@@ -88,7 +89,7 @@ void part_damage(void) {
         draw_pair(number);
         same("the verdict before", 0, judged(&bytes, certificate.at, certificate.length));
         damage(&certificate, try_check);
-        damage(&bytes, try_job);
+        damage(&bytes, try_all);
     }
     printf("damage: %lu pairs of bytes; verdicts 0 to 5:", tried);
     for (k = 0; k <= 5; k++) printf(" %lu", verdicts[k]);

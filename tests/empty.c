@@ -37,14 +37,21 @@ static void small_job(uint32_t kind) {
 }
 
 static void try_solve(void) {
+    static struct bytes given;
     uint64_t first = 5, second = 5;
-    size_t job_len = length_of(0, bytes.length), cells_len = length_of(1, CELLS), words_len = length_of(2, WORDS),
-           picks_len = length_of(3, PICKS);
-    uint32_t expected = plain_solve_refusal(bytes.at, job_len, cells_len, words_len, picks_len);
-    same("the refusal", expected,
-         quabnester_solve(pointer_of(0, bytes.at), job_len, pointer_of(1, cells), cells_len, pointer_of(2, words), words_len,
-                          pointer_of(3, picks), picks_len, &first, &second));
-    holds("first and second of a refusal", expected == 0 || (first == 0 && second == 0));
+    struct plain_room lengths;
+    const struct plain_answer *expected;
+    lengths.cells = length_of(1, CELLS);
+    lengths.words = length_of(2, WORDS);
+    lengths.picks = length_of(3, PICKS);
+    given = bytes;
+    given.length = length_of(0, bytes.length);
+    expected = expected_of(&given, &lengths);
+    same("the refusal", expected->refused,
+         quabnester_solve(pointer_of(0, given.at), given.length, pointer_of(1, cells), lengths.cells, pointer_of(2, words),
+                          lengths.words, pointer_of(3, picks), lengths.picks, &first, &second));
+    same("first", expected->first, first);
+    same("second", expected->second, second);
 }
 
 static void try_write(void) {
@@ -70,7 +77,7 @@ static void try_check(void) {
 
 void part_empty(void) {
     uint32_t kind;
-    for (kind = 0; kind <= 7; kind++) {
+    for (kind = 0; kind <= LAST_KIND; kind++) {
         small_job(kind);
         for (null = 0; null <= 1; null++) {
             for (mask = 0; mask < 16; mask++) {

@@ -1,5 +1,5 @@
 /* The example jobs through the solver, with slices as long as the program's: the answer, in the program's words, is what stands in the
- * file beside the job. */
+ * file beside the job, and all is as the second program has it. */
 #include "calls.h"
 #include "parts.h"
 #include "tell.h"
@@ -58,6 +58,7 @@ static void try_example(const char *name) {
     snprintf(out, sizeof out, "%.*s.out", stem, name);
     if (!holds("reading an example", read_file(name, &job) && read_file(out, &expected))) return;
     solve(&solved, &job, &lengths, job.length);
+    answers(&solved, &job, expected_of(&job, &lengths));
     say_answer(&text, &solved, &job);
     if (!holds(name, text.length == expected.length && memcmp(text.at, expected.at, text.length) == 0)) {
         printf("%.*s", (int)text.length, (const char *)text.at);

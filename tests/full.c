@@ -1,10 +1,12 @@
-/* Full bounds: n 1,024 and C 65,535, from solving to checking, and then one cell or one pick changed. */
+/* Full bounds: n 1,024 and C 65,535, from solving to checking; every row compared; and then one cell or one pick changed. */
 #include "calls.h"
+#include "draw.h"
 #include "parts.h"
 #include "tell.h"
 #include <stdio.h>
+#include <string.h>
 
-enum { N = MOST_LABELS, C = 65535 };
+enum { N = MOST_LABELS, C = MOST_BUDGET };
 
 static struct job job;
 static struct bytes bytes;
@@ -22,7 +24,7 @@ static void draw_full(void) {
     job.weights.count = job.values.count = N;
     for (i = 0; i < N; i++) {
         job.weights.at[i] = drawn(&draw, 1, 2000);
-        job.values.at[i] = drawn(&draw, 0, 65535);
+        job.values.at[i] = drawn(&draw, 0, MOST_VALUE);
     }
     put_job(&bytes, &job);
     read_back(&bytes, &read);
@@ -37,6 +39,34 @@ static uint64_t picked(const struct list *each) {
     return sum;
 }
 
+/* Row i of the table that was left. */
+static const uint32_t *row_of(uint32_t i) {
+    return (uint32_t *)solved.cells.slice + (size_t)i * (C + 1);
+}
+
+/* Each row is what the second program makes of the one before it. */
+static void rows_are_best(void) {
+    static uint32_t rows[2][C + 1];
+    uint32_t i;
+    holds("row 0", memcmp(row_of(0), rows[0], sizeof rows[0]) == 0);
+    for (i = 0; i < N; i++) {
+        about("full, row", i + 1);
+        plain_next_row(&read, i, rows[i % 2], rows[1 - i % 2]);
+        holds("the row", memcmp(row_of(i + 1), rows[1 - i % 2], sizeof rows[0]) == 0);
+    }
+}
+
+/* From the last label to the first, one is kept only where the best is more with it than without. */
+static void picks_are_least(void) {
+    uint32_t i, left = C;
+    for (i = N; i-- > 0;) {
+        uint32_t pick = row_of(i + 1)[left] != row_of(i)[left];
+        about("full, label", i);
+        same("the pick", pick, ((uint32_t *)solved.picks.slice)[i]);
+        left -= pick * job.weights.at[i];
+    }
+}
+
 static void solve_full(void) {
     about("full, solve", 0);
     solve(&solved, &bytes, &room, 9);
@@ -44,8 +74,10 @@ static void solve_full(void) {
     same("the value", picked(&job.values), solved.first);
     same("the weight", picked(&job.weights), solved.second);
     holds("that the picks fit", solved.second <= C);
-    same("the last cell", solved.first, ((uint32_t *)solved.cells.slice)[room.cells - 1]);
+    same("the last cell", solved.first, row_of(N)[C]);
     kept_the_rest(&solved, &room);
+    rows_are_best();
+    picks_are_least();
 }
 
 static void write_full(void) {

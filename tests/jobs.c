@@ -1,4 +1,4 @@
-/* Jobs and certificates as bytes, and jobs that are drawn from a number. */
+/* Jobs and certificates as bytes, and jobs that are made by hand. */
 #include "jobs.h"
 #include <stdio.h>
 #include <stdlib.h>
@@ -59,35 +59,4 @@ void case_a(struct job *job) {
 
 uint32_t cells_of(const struct job *job) {
     return (job->weights.count + 1) * (job->budget + 1);
-}
-
-/* the generator is known as splitmix64 */
-uint32_t drawn(struct draw *draw, uint32_t least, uint32_t most) {
-    uint64_t z = (draw->state += 0x9e3779b97f4a7c15u);
-    z = (z ^ (z >> 30)) * 0xbf58476d1ce4e5b9u;
-    z = (z ^ (z >> 27)) * 0x94d049bb133111ebu;
-    z ^= z >> 31;
-    return least + (uint32_t)((z >> 16) % ((uint64_t)most - least + 1));
-}
-
-int chance(struct draw *draw, uint32_t in) {
-    return drawn(draw, 1, in) == 1;
-}
-
-static uint32_t draw_weight(struct draw *draw, uint32_t budget) {
-    if (chance(draw, 20)) return drawn(draw, 1, UINT32_MAX);
-    if (chance(draw, 3)) return drawn(draw, 1, budget + 3);
-    return drawn(draw, 1, budget / 3 + 1);
-}
-
-void draw_job(struct draw *draw, uint32_t most_labels, uint32_t most_budget, struct job *job) {
-    uint32_t i, n = drawn(draw, 0, most_labels), most_value = chance(draw, 4) ? 65535 : drawn(draw, 0, 5);
-    job->kind = 1;
-    job->budget = drawn(draw, 0, most_budget);
-    job->weights.count = job->values.count = n;
-    job->copies.count = 0;
-    for (i = 0; i < n; i++) {
-        job->weights.at[i] = draw_weight(draw, job->budget);
-        job->values.at[i] = drawn(draw, 0, most_value);
-    }
 }

@@ -1,15 +1,19 @@
-/* Jobs and certificates as bytes, and jobs that are drawn from a number. */
+/* Jobs and certificates as bytes, and jobs that are made by hand. */
 #ifndef JOBS_H
 #define JOBS_H
 
+#include "bounds.h"
 #include <stddef.h>
 #include <stdint.h>
 
-enum { MOST_LABELS = 1024, MOST_BYTES = 16384 };
+enum {
+    MOST_NUMBERS = (MOST_LABELS > MOST_CLAIMS ? MOST_LABELS : MOST_CLAIMS) + 1, /* in a list: one too many */
+    MOST_BYTES = 16 * MOST_NUMBERS                                              /* three such lists, and some more */
+};
 
 struct list {
     uint32_t count;
-    uint32_t at[MOST_LABELS + 1];
+    uint32_t at[MOST_NUMBERS];
 };
 
 struct job {
@@ -21,8 +25,6 @@ struct bytes {
     size_t length;
     uint8_t at[MOST_BYTES];
 };
-
-/* ---- as bytes */
 
 /* A number as four bytes, lowest first. */
 void put_at(uint8_t *bytes, uint32_t number);
@@ -36,8 +38,7 @@ void put_job(struct bytes *bytes, const struct job *job);
 /* A certificate of the job's n picks and (n+1)(C+1) cells. */
 void put_certificate(struct bytes *bytes, const struct job *job, const uint32_t *picks, const uint32_t *cells);
 
-/* ---- made by hand: a list is given as its count and its numbers */
-
+/* A list is given as its count and its numbers. */
 void set_list(struct list *list, uint32_t count, const uint32_t *numbers);
 void set_job(struct job *job, uint32_t kind, uint32_t budget, uint32_t n, const uint32_t *weights, const uint32_t *values);
 
@@ -45,20 +46,5 @@ void set_job(struct job *job, uint32_t kind, uint32_t budget, uint32_t n, const 
 void case_a(struct job *job);
 
 uint32_t cells_of(const struct job *job);
-
-/* ---- drawn: the same start gives the same numbers on every machine */
-
-struct draw {
-    uint64_t state;
-};
-
-/* A number from the least to the most, both may come. */
-uint32_t drawn(struct draw *draw, uint32_t least, uint32_t most);
-
-/* Whether one chance in so many came. */
-int chance(struct draw *draw, uint32_t in);
-
-/* A small job of kind 1: weights from 1 to beyond C, few different values, so that there are many ties. */
-void draw_job(struct draw *draw, uint32_t most_labels, uint32_t most_budget, struct job *job);
 
 #endif

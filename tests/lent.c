@@ -5,9 +5,15 @@
 
 enum { SIDE = 64 };
 
-/* The dirt at a byte of the whole. */
+/* The dirt at a byte of the whole. Elements start at multiples of 4, so that only a small number's lowest byte isn't 0. */
 static uint8_t dirt(const struct lent *lent, size_t byte) {
-    return (uint8_t)(((byte + lent->salt) * 2654435761u) >> 9);
+    uint8_t any = (uint8_t)(((byte + lent->salt) * 2654435761u) >> 9);
+    switch (lent->salt % 16) {
+    case 7: return byte % 4 == 0 ? any % 8 : 0;
+    case 11: return 0;
+    case 14: return 255;
+    default: return any;
+    }
 }
 
 static size_t start_of(const struct lent *lent) {

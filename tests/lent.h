@@ -12,8 +12,8 @@ struct lent {
     uint64_t salt;
 };
 
-/* A slice of so many elements of a size, aligned for that size and no better. The salt says which dirt it holds. Ends the tests where
- * there isn't enough memory. */
+/* A slice of so many elements of a size, aligned for that size and no better. The salt says which dirt it holds: most often any numbers,
+ * and now and then small ones, nothing but 0, or nothing but 255. Ends the tests where there isn't enough memory. */
 void lend(struct lent *lent, size_t count, size_t size, uint64_t salt);
 
 /* Whether the slice holds its dirt from some byte on, and both sides do. From 0 on: nothing was written. */

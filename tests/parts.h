@@ -2,11 +2,16 @@
 #ifndef PARTS_H
 #define PARTS_H
 
+void part_listed(const char *name);          /* listed.c: the trials that a file lists */
 void part_examples(int count, char **names); /* examples.c: job files, with what is printed for each in a file beside it */
 void part_solve(void);                       /* solve_cases.c: the solver's refusals, in order, and each bound */
+void part_ties(void);                        /* tie_cases.c: jobs for which every other tie rule names other picks */
+void part_slips(void);                        /* slips.c: the calls of docs/SLIPS.md */
 void part_write(void);                       /* write_cases.c: the writer's refusals, in order, and what it writes */
 void part_check(void);                       /* check_cases.c: the checker's verdicts, in order, with their places */
 void part_empty(void);                       /* empty.c: slices of length 0 */
+void part_drawn(void);                       /* drawn.c: small jobs of every kind, with faults and damage */
+void part_large(void);                       /* large.c: large jobs of every kind */
 void part_ring(void);                        /* ring.c: solve, try every selection, write, check, check another list */
 void part_claims(void);                      /* claims.c: drawn tables of claims */
 void part_damage(void);                      /* damage.c: every byte changed, every length */

@@ -1,12 +1,13 @@
-/* A plain second reading of the rules, written from document 01 and not from the planner's sources, as simple as can be: what the
- * entries have to answer is compared with it. */
+/* Document 01's second program: what the entries have to answer and to leave in the lent slices, for every kind, as simple as can be.
+ * It was written from the document and include/quabnester.h, and not from the planner's sources. */
 #ifndef PLAIN_H
 #define PLAIN_H
 
+#include "bounds.h"
 #include <stddef.h>
 #include <stdint.h>
 
-/* ---- job bytes */
+/* ---- job bytes (plain.c) */
 
 struct plain_list {
     const uint8_t *bytes;
@@ -22,12 +23,22 @@ struct plain_job {
 uint32_t plain_number(const uint8_t *bytes);
 uint32_t plain_item(struct plain_list list, uint32_t i);
 
+/* What a list's numbers sum to; 64 bits hold the sum of any list. */
+uint64_t plain_sum(struct plain_list list);
+
+/* Reads a count and its section at `*at` and moves on behind them; 0 if either runs past the end. */
+int plain_section(const uint8_t *bytes, size_t length, size_t *at, struct plain_list *list);
+
 /* Whether job bytes can be read. */
 int plain_read(const uint8_t *bytes, size_t length, struct plain_job *job);
 
-/* ---- refusals */
+/* ---- refusals (plain.c) */
 
-/* The lowest of 2 to 5 that applies, or 0. `last_kind` is the last kind there is: 7 for the solver, 1 for checker and writer. */
+/* The bounds on n and C. */
+uint32_t plain_most_labels(uint32_t kind);
+uint32_t plain_most_budget(uint32_t kind);
+
+/* The lowest of 2 to 5 that applies, or 0. `last_kind` is the last kind there is for the entry. */
 uint32_t plain_job_refusal(const struct plain_job *job, uint32_t last_kind);
 
 struct plain_room {
@@ -38,12 +49,59 @@ struct plain_room {
 struct plain_room plain_room(const struct plain_job *job);
 
 /* The lowest of 1 to 6 and 9 that applies to the solver, or 0; 7 and 8 aren't asked. */
-uint32_t plain_solve_refusal(const uint8_t *job, size_t job_len, size_t cells, size_t words, size_t picks);
+uint32_t plain_solve_refusal(const uint8_t *job, size_t job_len, const struct plain_room *lent);
 
 /* The lowest of 1 to 6 that applies to the writer, or 0. */
 uint32_t plain_write_refusal(const uint8_t *job, size_t job_len, size_t picks, size_t cells, size_t out);
 
-/* ---- certificates */
+/* ---- answers, of jobs that aren't refused with 1 to 6 or 9 */
+
+enum {
+    PLAIN_CELLS = (MOST_SIZES + 1) * (MOST_BUDGET + 1), /* of a table that is compared whole */
+    PLAIN_WORDS = MOST_BUDGET + 1,
+    PLAIN_PICKS = MOST_LABELS > MOST_CLAIMS ? MOST_LABELS : MOST_CLAIMS
+};
+
+struct plain_answer {
+    uint32_t refused; /* 0, 7 or 8; the caller sets the others */
+    uint64_t first, second;
+    struct plain_room filled; /* so many places of each slice are written, with what stands here */
+    uint32_t cells[PLAIN_CELLS], picks[PLAIN_PICKS];
+    uint64_t words[PLAIN_WORDS];
+    uint64_t as_good; /* how many lists are as good as the picks, they among them; 0 where that wasn't counted */
+    int tried;        /* whether every selection was tried */
+};
+
+/* An answer of nothing, for a refusal with this number; or for 0, with the places that the job fills. */
+void plain_start(struct plain_answer *answer, const struct plain_job *job, uint32_t refused);
+
+/* How often label k may be taken. */
+uint64_t plain_most(const struct plain_job *job, uint32_t k);
+
+/* Kinds 1 to 6 by trying every selection (plain_try.c), each place of the table as a small job of its own. Answers 0 where there are too
+ * many selections, and then the answer says nothing. */
+int plain_try(const struct plain_job *job, struct plain_answer *answer);
+
+/* A tie rule: labels are read from the last to the first, or from the first on; each count is as small, or as great, as it can be. */
+struct plain_rule {
+    int from_last, small;
+};
+
+/* The rule of a kind, and the picks that any rule names among the best, of a job that was tried. */
+struct plain_rule plain_rule(uint32_t kind);
+void plain_picks(const struct plain_job *job, struct plain_rule rule, uint32_t *picks);
+
+/* Kinds 1 to 6 by plain tables (plain_table.c), and whether there is room for them. */
+int plain_has_room(const struct plain_job *job);
+void plain_table(const struct plain_job *job, struct plain_answer *answer);
+
+/* The row of one label more than the row before it has, label k, in kinds 1 and 2. */
+void plain_next_row(const struct plain_job *job, uint32_t k, const uint32_t *before, uint32_t *row);
+
+/* Kind 7 by a sort (plain_share.c). */
+void plain_share(const struct plain_job *job, struct plain_answer *answer);
+
+/* ---- certificates (plain_check.c) */
 
 struct plain_verdict {
     uint32_t number;
@@ -54,15 +112,5 @@ struct plain_verdict {
 int plain_low(const struct plain_job *job, const uint8_t *cells, uint32_t i, uint32_t c);
 
 struct plain_verdict plain_check(const uint8_t *job, size_t job_len, const uint8_t *certificate, size_t length);
-
-/* ---- kind 1, by trying every selection */
-
-struct plain_best {
-    uint64_t value, weight;
-    uint32_t picks; /* bit i is label i's pick */
-};
-
-/* The best selection of the first i labels with budget c, i at most 20. */
-struct plain_best plain_best(const struct plain_job *job, uint32_t i, uint32_t c);
 
 #endif

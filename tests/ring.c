@@ -1,56 +1,36 @@
-/* A ring over thousands of small jobs: solve, compare with every selection tried, write, check; then check another list in its place,
- * which is accepted only if it is as good. */
+/* A ring over thousands of small jobs of kind 1: solve, write, check; then check another list in its place, which is accepted only if it is
+ * as good. */
 #include "calls.h"
+#include "draw.h"
 #include "parts.h"
 #include "tell.h"
 #include <stdio.h>
 #include <string.h>
 
-enum { JOBS = 20000, OTHERS = 3, WHOLE = 50 };
+enum { JOBS = 20000, OTHERS = 3, MOST_N = 8, MOST_C = 40 };
 
 static struct job job;
 static struct bytes bytes, certificate;
-static struct plain_job read;
-static struct plain_best best;
 static struct solved solved;
-static unsigned long others, as_good, ties, cells_tried;
+static const struct plain_answer *best;
+static unsigned long others, as_good, ties;
 
-static uint32_t pick_of(uint32_t selection, uint32_t label) {
-    return selection >> label & 1;
-}
-
-static uint64_t sum_over(struct plain_list list, uint32_t selection) {
+static uint64_t sum_over(const struct list *list, const uint32_t *picks) {
     uint64_t sum = 0;
     uint32_t i;
-    for (i = 0; i < list.count; i++) sum += pick_of(selection, i) * (uint64_t)plain_item(list, i);
+    for (i = 0; i < list->count; i++) sum += picks[i] * (uint64_t)list->at[i];
     return sum;
-}
-
-static void cell_is_best(uint32_t cell) {
-    uint32_t width = read.budget + 1;
-    same("a cell", plain_best(&read, cell / width, cell % width).value, ((uint32_t *)solved.cells.slice)[cell]);
-    cells_tried++;
 }
 
 /* Solves the job with slices that are some places longer than needed. */
 static void try_solve(struct draw *draw, uint64_t number) {
-    struct plain_room needed = plain_room(&read), lengths = needed;
-    uint32_t i;
+    struct plain_room lengths = {cells_of(&job), 0, job.weights.count};
     lengths.cells += drawn(draw, 0, 5);
     lengths.words += drawn(draw, 0, 2);
     lengths.picks += drawn(draw, 0, 3);
+    best = expected_of(&bytes, &lengths);
     solve(&solved, &bytes, &lengths, number);
-    same("the refusal", 0, solved.refused);
-    same("the value", best.value, solved.first);
-    same("the weight", best.weight, solved.second);
-    for (i = 0; i < read.weights.count; i++) {
-        same("a pick", pick_of(best.picks, i), ((uint32_t *)solved.picks.slice)[i]);
-    }
-    kept_the_rest(&solved, &needed);
-    if (number % WHOLE == 0) {
-        for (i = 0; i < needed.cells; i++) cell_is_best(i);
-    }
-    for (i = 0; i < 3; i++) cell_is_best(drawn(draw, 0, (uint32_t)needed.cells - 1));
+    answers(&solved, &bytes, best);
 }
 
 /* Writes the certificate from the slices as they were left. */
@@ -67,41 +47,40 @@ static void try_write(struct draw *draw) {
 }
 
 /* Another list in place of ours; it may be ours again. */
-static void try_another(uint32_t selection) {
-    uint32_t i, number;
-    uint64_t value = sum_over(read.values, selection);
-    int is_best = sum_over(read.weights, selection) <= read.budget && value == best.value;
-    for (i = 0; i < read.weights.count; i++) put_at(certificate.at + 4 + 4 * i, pick_of(selection, i));
+static void try_another(struct draw *draw) {
+    uint32_t i, n = job.weights.count, number, picks[MOST_N];
+    int is_best;
+    for (i = 0; i < n; i++) {
+        picks[i] = drawn(draw, 0, 1);
+        put_at(certificate.at + 4 + 4 * i, picks[i]);
+    }
+    is_best = sum_over(&job.weights, picks) <= job.budget && sum_over(&job.values, picks) == best->first;
     number = judged(&bytes, certificate.at, certificate.length);
     holds("accepted only if it is best", (number == 0) == is_best);
     others++;
     as_good += is_best;
-    ties += is_best && selection != best.picks;
+    ties += is_best && memcmp(picks, best->picks, n * sizeof picks[0]) != 0;
 }
 
-static void try_job(uint64_t number) {
+static void try_number(uint64_t number) {
     struct draw draw = {number};
-    uint32_t i, most;
+    uint32_t i;
     about("ring", number);
-    draw_job(&draw, 8, 40, &job);
+    draw_job(&draw, 1, MOST_N, MOST_C, &job);
     put_job(&bytes, &job);
-    read_back(&bytes, &read);
-    most = ((uint32_t)1 << read.weights.count) - 1;
-    best = plain_best(&read, read.weights.count, read.budget);
     try_solve(&draw, number);
     try_write(&draw);
     same("the verdict on our own", 0, judged(&bytes, certificate.at, certificate.length));
-    same("its value", best.value, quabnester_check_detail(bytes.at, bytes.length, certificate.at, certificate.length));
-    for (i = 0; i < OTHERS; i++) try_another(drawn(&draw, 0, most));
+    same("its value", best->first, quabnester_check_detail(bytes.at, bytes.length, certificate.at, certificate.length));
+    for (i = 0; i < OTHERS; i++) try_another(&draw);
     give_back_solved(&solved);
 }
 
 void part_ring(void) {
     uint64_t number;
-    for (number = 0; number < JOBS; number++) try_job(number);
+    for (number = 0; number < JOBS; number++) try_number(number);
     about("ring", JOBS);
     holds("that some other lists were as good", ties > 0);
     holds("that some other lists weren't", as_good < others);
-    printf("ring: %d jobs, %lu cells tried; %lu lists in place of ours, %lu accepted, %lu of them others than ours\n", JOBS, cells_tried,
-           others, as_good, ties);
+    printf("ring: %d jobs; %lu lists in place of ours, %lu accepted, %lu of them others than ours\n", JOBS, others, as_good, ties);
 }

@@ -6,17 +6,14 @@
 
 static unsigned long tried, by_number[10];
 
-/* Solves a job with slices of these lengths: it is refused with this number, as the plain reading has it, and all is kept; or it isn't
- * refused. */
-static void is_refused(const struct bytes *job, const struct plain_room *lengths, uint32_t number) {
-    struct solved solved;
+/* A job with slices of these lengths is refused with this number, or with 0 it isn't, and all is as the second program has it. */
+static const struct plain_answer *is_refused(const struct bytes *job, const struct plain_room *lengths, uint32_t number) {
+    const struct plain_answer *answer;
     about("solve", tried++);
     by_number[number]++;
-    solve(&solved, job, lengths, tried);
-    same("the plain reading", number, plain_solve_refusal(job->at, job->length, lengths->cells, lengths->words, lengths->picks));
-    if (number != 0) turned_down(&solved, number);
-    if (number == 0) same("the refusal", 0, solved.refused);
-    give_back_solved(&solved);
+    answer = try_job(job, lengths, tried);
+    same("the second program", number, answer->refused);
+    return answer;
 }
 
 /* ---- one job of each kind, with any of its faults */
@@ -49,8 +46,8 @@ static void spoil(struct job *job, int fault) {
     switch (fault_numbers[fault]) {
     case 3: job->copies.at[job->copies.count++] = 1; break;
     case 4:
-        if (job->kind == 7) too_many(&job->weights, MOST_LABELS + 1);
-        if (job->kind != 7) job->budget = 65536;
+        if (job->kind == 7) too_many(&job->weights, MOST_CLAIMS + 1);
+        if (job->kind != 7) job->budget = MOST_BUDGET + 1;
         break;
     case 5: job->weights.at[1] = 0; break;
     case 9:
@@ -79,7 +76,7 @@ static void try_faults(uint32_t kind, unsigned mask) {
         spoil(&job, fault);
         if (lowest == 6) --*(lengths.picks ? &lengths.picks : lengths.words ? &lengths.words : &lengths.cells);
     }
-    if (mask >> 1 & 1) job.kind = mask >> 2 & 1 ? 0 : 8;
+    if (mask >> 1 & 1) job.kind = mask >> 2 & 1 ? 0 : LAST_KIND + 1;
     put_job(&bytes, &job);
     if (mask & 1) bytes.at[bytes.length++] = 0;
     is_refused(&bytes, &lengths, lowest);
@@ -115,21 +112,21 @@ static void job_of(struct job *job, uint32_t kind, uint32_t n, uint32_t budget) 
     job->copies.count = kind == 2 ? n : 0;
     for (i = 0; i < n; i++) {
         job->weights.at[i] = i + 1;
-        job->values.at[i] = 65535 - i;
-        job->copies.at[i] = 65535 - i;
+        job->values.at[i] = MOST_VALUE - i;
+        job->copies.at[i] = MOST_COPIES - i;
     }
 }
 
 static void try_sizes(uint32_t kind) {
     static struct job job;
-    uint32_t most = kind == 5 || kind == 6 ? 64 : MOST_LABELS;
+    uint32_t most = plain_most_labels(kind);
     job_of(&job, kind, most, kind == 5 ? 3 : 0);
     try_bound(&job, 0);
     job_of(&job, kind, most + 1, 0);
     try_bound(&job, 4);
-    job_of(&job, kind, 2, 65535);
+    job_of(&job, kind, 2, MOST_BUDGET);
     try_bound(&job, 0);
-    job_of(&job, kind, 2, 65536);
+    job_of(&job, kind, 2, MOST_BUDGET + 1);
     if (kind != 7) try_bound(&job, 4);
     job_of(&job, kind, 3, UINT32_MAX);
     if (kind == 7) try_bound(&job, 0);
@@ -149,79 +146,60 @@ static void try_numbers(uint32_t kind) {
     job.weights.at[1] = 1;
     try_bound(&job, is_blocks ? 5 : 0);
     job_of(&job, kind, 3, 8);
-    job.values.at[2] = 65536;
+    job.values.at[2] = MOST_VALUE + 1;
     if (has_values) try_bound(&job, 5);
     job.values.at[2] = 0;
     if (has_values) try_bound(&job, kind == 3 ? 5 : 0);
     job_of(&job, kind, 3, 8);
-    job.copies.at[2] = 65536;
+    job.copies.at[2] = MOST_COPIES + 1;
     if (kind == 2) try_bound(&job, 5);
-    job.copies.at[2] = 0;
+    job.copies.at[2] = LEAST_COPIES;
     if (kind == 2) try_bound(&job, 0);
 }
 
-/* ---- 7 and 8 */
+/* ---- 7 and 8, and what is just counted */
 
-/* Kind 5, sizes 5 and 10, C 7: no such sum. The table is complete, and the picks are as they were. */
-static void no_such_sum(void) {
-    static const uint32_t sizes[] = {5, 10};
-    static const struct plain_room lengths = {9, 1, 3}, filled = {8, 0, 0};
+/* Blocks, with slices that are longer than needed: refused with this number or answered with this first. */
+static void try_blocks(uint32_t kind, uint32_t budget, uint32_t n, const uint32_t *sizes, uint32_t number, uint64_t first) {
+    static const struct plain_room lengths = {MOST_BUDGET + 2, MOST_BUDGET + 2, MOST_SIZES + 1};
     static struct job job;
     static struct bytes bytes;
-    struct solved solved;
-    uint32_t a;
-    set_job(&job, 5, 7, 2, sizes, sizes);
+    set_job(&job, kind, budget, n, sizes, sizes);
     job.values.count = 0;
     put_job(&bytes, &job);
-    about("no such sum", 0);
-    solve(&solved, &bytes, &lengths, 7);
-    same("the refusal", 7, solved.refused);
-    same("first and second", 0, solved.first + solved.second);
-    for (a = 0; a <= 7; a++) {
-        same("a cell", a == 0 ? 0 : a == 5 ? 1 : UINT32_MAX, ((uint32_t *)solved.cells.slice)[a]);
-    }
-    kept_the_rest(&solved, &filled);
-    give_back_solved(&solved);
+    same("what is counted", first, is_refused(&bytes, &lengths, number)->first);
 }
 
-/* Kind 6, C 65,535, sizes 1 to 64 or the even ones from 2 to 128: too many to count, or no way though cells before it are full. */
-static void too_many_ways(uint32_t step, uint32_t number) {
-    static const struct plain_room lengths = {1, 65537, 1}, filled = {0, 65536, 0};
-    static const uint64_t few[] = {1, 1, 2, 3, 5, 7, 11, 15, 22};
-    static struct job job;
-    static struct bytes bytes;
-    struct solved solved;
-    const uint64_t *ways;
-    uint32_t i;
-    job_of(&job, 6, 64, 65535);
-    for (i = 0; i < 64; i++) job.weights.at[i] = step * (i + 1);
-    put_job(&bytes, &job);
-    about("ways in steps of", step);
-    solve(&solved, &bytes, &lengths, 8);
-    ways = solved.words.slice;
-    same("the refusal", number, solved.refused);
-    same("first and second", 0, solved.first + solved.second);
-    for (i = 0; i < 9; i++) same("a word", few[i], ways[step * i]);
-    same("the last word", number == 8 ? UINT64_MAX : 0, ways[65535]);
-    same("the last even word", UINT64_MAX, ways[65534]);
-    kept_the_rest(&solved, &filled);
-    give_back_solved(&solved);
+/* Eleven even sizes, and ten odd ones of which each way to an odd C takes one: 2^64 - 2 ways, and 2^64 - 1 with another last size. */
+static void ways_at_the_border(void) {
+    static uint32_t sizes[] = {2,    4,    6,    8,    10,   12,   14,   16,   18,   20,  22,
+                               3665, 5719, 7089, 7435, 7635, 7753, 7843, 7903, 7951, 7997};
+    sizes[20] = 7997;
+    try_blocks(6, 8001, 21, sizes, 0, UINT64_MAX - 1);
+    sizes[20] = 7995;
+    try_blocks(6, 8001, 21, sizes, 8, 0);
+}
+
+static void blocks(void) {
+    uint32_t sizes[MOST_SIZES], i;
+    for (i = 0; i < MOST_SIZES; i++) sizes[i] = 5 * (i + 1);
+    try_blocks(5, 7, 2, sizes, 7, 0);
+    try_blocks(5, 9999, MOST_SIZES, sizes, 7, 0);
+    try_blocks(6, MOST_BUDGET - 1, MOST_SIZES, sizes, 0, 0);
+    try_blocks(6, MOST_BUDGET, MOST_SIZES, sizes, 8, 0);
+    ways_at_the_border();
 }
 
 void part_solve(void) {
     uint32_t kind, number;
     unsigned mask;
-    for (kind = 1; kind <= 7; kind++) {
+    for (kind = 1; kind <= LAST_KIND; kind++) {
         for (mask = 0; mask < 1u << FAULTS; mask++) try_faults(kind, mask);
         try_sizes(kind);
         try_numbers(kind);
     }
-    no_such_sum();
-    too_many_ways(1, 8);
-    too_many_ways(2, 0);
-    printf("solve: %lu jobs; refused with 0 to 6 and 9:", tried);
-    for (number = 0; number <= 9; number++) {
-        if (number != 7 && number != 8) printf(" %lu", by_number[number]);
-    }
+    blocks();
+    printf("solve: %lu jobs; refused with 0 to 9:", tried);
+    for (number = 0; number <= 9; number++) printf(" %lu", by_number[number]);
     printf("\n");
 }

@@ -1,5 +1,6 @@
 /* The writer: its refusals in order, each slice one too short, and what it writes, of slices that are long enough or longer. */
 #include "calls.h"
+#include "draw.h"
 #include "parts.h"
 #include "tell.h"
 #include <stdio.h>
@@ -27,7 +28,7 @@ static void is_turned_down(size_t picks_len, size_t cells_len, size_t out_len, u
     about("write", tried++);
     refused++;
     write_out(&written, &bytes, picks, picks_len, cells, cells_len, out_len);
-    same("the plain reading", number, plain_write_refusal(bytes.at, bytes.length, picks_len, cells_len, out_len));
+    same("the second program", number, plain_write_refusal(bytes.at, bytes.length, picks_len, cells_len, out_len));
     same("the refusal", number, written.refused);
     same("the bytes written", 0, written.bytes);
     holds("what stood in the slice", kept_from(&written.out, 0));
@@ -38,7 +39,7 @@ static void is_written(size_t picks_len, size_t cells_len, size_t out_len) {
     struct written written;
     about("write", tried++);
     write_out(&written, &bytes, picks, picks_len, cells, cells_len, out_len);
-    same("the plain reading", 0, plain_write_refusal(bytes.at, bytes.length, picks_len, cells_len, out_len));
+    same("the second program", 0, plain_write_refusal(bytes.at, bytes.length, picks_len, cells_len, out_len));
     same("the refusal", 0, written.refused);
     same("the bytes written", BYTES, written.bytes);
     holds("the certificate", memcmp(written.out.slice, expected.at, BYTES) == 0);
@@ -51,10 +52,10 @@ static void try_faults(unsigned mask) {
     uint32_t number = 1;
     while (number < 6 && !(mask >> (number - 1) & 1)) number++;
     case_a(&job);
-    if (mask >> 1 & 1) job.kind = mask >> 2 & 1 ? 0 : 2;
+    if (mask >> 1 & 1) job.kind = mask >> 2 & 1 ? 0 : LAST_CHECKED_KIND + 1;
     if (mask >> 2 & 1) set_list(&job.copies, 1, picks);
-    if (mask >> 3 & 1) job.budget = 65536;
-    if (mask >> 4 & 1) job.values.at[2] = 65536;
+    if (mask >> 3 & 1) job.budget = MOST_BUDGET + 1;
+    if (mask >> 4 & 1) job.values.at[2] = MOST_VALUE + 1;
     put_job(&bytes, &job);
     if (mask & 1) bytes.length--;
     if (mask == 0) {
@@ -69,7 +70,7 @@ void part_write(void) {
     uint32_t kind, more;
     any_numbers();
     for (mask = 0; mask < 256; mask++) try_faults(mask);
-    for (kind = 2; kind <= 8; kind++) {
+    for (kind = LAST_CHECKED_KIND + 1; kind <= LAST_KIND + 1; kind++) {
         case_a(&job);
         job.kind = kind;
         put_job(&bytes, &job);

@@ -4,6 +4,7 @@
 #include <stddef.h>
 void *memcpy(void *to, const void *from, size_t bytes);
 int memcmp(const void *a, const void *b, size_t bytes);
+char *strchr(const char *text, int byte);
 int strcmp(const char *a, const char *b);
 size_t strlen(const char *text);
 #endif

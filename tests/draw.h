@@ -1,0 +1,47 @@
+/* Jobs that are drawn from a number: the same number gives the same job on every machine. */
+#ifndef DRAW_H
+#define DRAW_H
+
+#include "jobs.h"
+#include "plain.h"
+
+struct draw {
+    uint64_t state;
+};
+
+/* A number from the least to the most, both may come. No expression draws twice where C leaves the order open. */
+uint32_t drawn(struct draw *draw, uint32_t least, uint32_t most);
+
+/* Whether one chance in so many came. */
+int chance(struct draw *draw, uint32_t in);
+
+/* ---- small jobs (draw.c) */
+
+/* A job of a kind that keeps all its rules, with at most so many labels and so great a budget: weights from 1 to beyond C, few different
+ * values, so that there are many ties. The budget of kind 7 is any number. */
+void draw_job(struct draw *draw, uint32_t kind, uint32_t most_labels, uint32_t most_budget, struct job *job);
+
+/* Puts sizes in order, each greater than the one before it. */
+void put_in_order(struct list *sizes);
+
+/* Values for the weights of a job; and claims, as many as are counted, 1 or more, which don't sum to 0. */
+void draw_values(struct draw *draw, struct job *job);
+void draw_claims(struct draw *draw, struct list *claims);
+
+/* ---- what is wrong with them (faults.c) */
+
+/* Something that breaks a rule, or just doesn't: another kind, a list too long or too short, a number at its bound or past it. */
+void draw_fault(struct draw *draw, struct job *job);
+
+/* The job's bytes damaged: cut short, some added, one changed, a count changed, two counts swapped. They are other bytes then. */
+void draw_damage(struct draw *draw, const struct job *job, struct bytes *bytes);
+
+/* Lengths of slices to lend: what is needed, or more; now and then one too few, or none. */
+struct plain_room draw_lengths(struct draw *draw, const struct plain_room *needed);
+
+/* ---- large jobs (draw_large.c) */
+
+/* A job that runs the long loops: large weights and budgets, many labels, more than 2^64 ways, products beyond 32 bits. */
+void draw_large(struct draw *draw, uint32_t kind, struct job *job);
+
+#endif

@@ -1,0 +1,126 @@
+/* The trials that crates/trials/stdin lists, cases and bounds, through the solver: each is answered as document 01's second program has it.
+ * A line that starts with - (or *) is a case, a name and a job; one that starts with > is a bound, a name and two jobs with a slash between
+ * them; others are text. A job is `kind; budget; weights; values; copies; places lent`, and what is left out at the end is empty. */
+#include "calls.h"
+#include "parts.h"
+#include "tell.h"
+#include <stdio.h>
+#include <string.h>
+
+enum { MOST_TEXT = 65536, FIELDS = 6 };
+enum { JOBS = 100, TRIED = 40 }; /* at least so many have to be listed, and answered by trying too */
+
+static char text[MOST_TEXT + 1];
+static unsigned long jobs, tried;
+
+/* ---- reading */
+
+/* All of a file, as text; 0 where it can't be read or is too long. */
+static int read_text(const char *name) {
+    FILE *file = fopen(name, "rb");
+    size_t length;
+    if (file == NULL) return 0;
+    length = fread(text, 1, MOST_TEXT, file);
+    fclose(file);
+    text[length] = 0;
+    return 0 < length && length < MOST_TEXT && strlen(text) == length;
+}
+
+/* The number at `*at`, which is moved behind it; 0 where there is none. */
+static int read_number(const char **at, uint32_t *number) {
+    uint64_t sum = 0;
+    const char *start = *at;
+    for (; '0' <= **at && **at <= '9' && sum <= UINT32_MAX; ++*at) sum = 10 * sum + (uint64_t)(**at - '0');
+    *number = (uint32_t)sum;
+    return *at > start && sum <= UINT32_MAX;
+}
+
+/* A number, or one so many times: 1x4 stands for 1 1 1 1. */
+static int read_numbers(const char **at, struct list *list) {
+    uint32_t number, times = 1;
+    if (!read_number(at, &number)) return 0;
+    if (**at == 'x') {
+        ++*at;
+        if (!read_number(at, &times)) return 0;
+    }
+    for (; times > 0 && list->count < MOST_NUMBERS; times--) list->at[list->count++] = number;
+    return times == 0;
+}
+
+/* A field: numbers with spaces between them, up to what ends it. */
+static int read_field(const char **at, struct list *list) {
+    list->count = 0;
+    while (**at != ';' && **at != '/' && **at != '\n') {
+        if (**at == ' ') ++*at;
+        else if (!read_numbers(at, list)) return 0;
+    }
+    return 1;
+}
+
+/* The fields of a job, up to a slash or the end of the line; those that are left out are empty. */
+static int read_fields(const char **at, struct list *fields) {
+    int k;
+    for (k = 0; k < FIELDS; k++) fields[k].count = 0;
+    for (k = 0; k < FIELDS; k++) {
+        if (!read_field(at, &fields[k])) return 0;
+        if (**at != ';') return 1;
+        ++*at;
+    }
+    return 0;
+}
+
+/* ---- trying */
+
+/* With nothing said of places to lend, all that the list is meant for are lent. */
+static void try_fields(const struct list *fields) {
+    static struct bytes bytes;
+    struct plain_room lengths = {131072, 65536, 1024};
+    if (fields[5].count == 3) {
+        lengths.cells = fields[5].at[0];
+        lengths.words = fields[5].at[1];
+        lengths.picks = fields[5].at[2];
+    }
+    bytes.length = 0;
+    put_section(&bytes, fields[0].at, 1);
+    put_section(&bytes, fields[1].at, 1);
+    put_section(&bytes, fields[2].at, fields[2].count);
+    put_section(&bytes, fields[3].at, fields[3].count);
+    put_section(&bytes, fields[4].at, fields[4].count);
+    tried += (unsigned long)try_job(&bytes, &lengths, jobs)->tried;
+    jobs++;
+}
+
+/* One job of a line. */
+static int read_and_try(const char **at) {
+    static struct list fields[FIELDS];
+    if (!read_fields(at, fields) || fields[0].count != 1 || fields[1].count != 1) return 0;
+    if (fields[5].count != 0 && fields[5].count != 3) return 0;
+    try_fields(fields);
+    return 1;
+}
+
+/* A line, up to its end; 0 where it can't be read. Text has no jobs. */
+static int try_line(const char *at) {
+    int bound = *at == '>';
+    if (*at != '-' && *at != '*' && !bound) return 1;
+    while (*at != ':' && *at != '\n') at++;
+    if (*at++ != ':' || !read_and_try(&at)) return 0;
+    if (bound && (*at++ != '/' || !read_and_try(&at))) return 0;
+    return *at == '\n';
+}
+
+void part_listed(const char *name) {
+    const char *at = text;
+    uint64_t line = 0;
+    about("listed", line);
+    if (!holds("reading the list", read_text(name))) return;
+    while (*at != 0) {
+        about("listed, line", ++line);
+        if (!holds("reading a line", strchr(at, '\n') != NULL && try_line(at))) return;
+        at = strchr(at, '\n') + 1;
+    }
+    about("listed", line);
+    holds("that there are enough jobs", jobs >= JOBS);
+    holds("that every selection was tried for enough of them", tried >= TRIED);
+    printf("listed: %lu jobs, %lu of them by trying every selection too\n", jobs, tried);
+}

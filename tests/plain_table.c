@@ -1,0 +1,193 @@
+/* Document 01's second program: kinds 1 to 6 by plain tables, for jobs with too many selections to try. Where a small job is answered both
+ * ways the tests compare the two, so that trying holds these tables. See the head of plain.c. */
+#include "plain.h"
+
+/* Row i of a table by budget, and a table for rows that aren't handed over. */
+static uint32_t rows[PLAIN_CELLS];
+
+static uint32_t *row_of(uint32_t *table, const struct plain_job *job, uint32_t i) {
+    return table + (size_t)i * (job->budget + 1);
+}
+
+int plain_has_room(const struct plain_job *job) {
+    return ((uint64_t)job->weights.count + 1) * ((uint64_t)job->budget + 1) <= PLAIN_CELLS || job->kind == 4 || job->kind >= 6;
+}
+
+static void fill(uint32_t *row, uint32_t budget, uint32_t number) {
+    uint32_t c;
+    for (c = 0; c <= budget; c++) row[c] = number;
+}
+
+/* ---- kinds 1 and 2: row i is of the first i labels */
+
+/* What budget c is worth, if `from` of it goes to the labels before and the rest to copies of one label. */
+static uint32_t worth(const uint32_t *before, uint32_t from, uint32_t c, uint32_t weight, uint32_t value) {
+    return before[from] + (c - from) / weight * value;
+}
+
+/* The best place to start from for c, of those that are 1 to `most` copies before it. */
+static uint32_t best_start(const uint32_t *before, uint32_t c, uint32_t weight, uint32_t value, uint64_t most) {
+    uint32_t from = c, best = c - weight;
+    uint64_t k;
+    for (k = 1; k <= most && weight <= from; k++) {
+        from -= weight;
+        if (worth(before, from, c, weight, value) > worth(before, best, c, weight, value)) best = from;
+    }
+    return best;
+}
+
+/* One label more, at most `most` times: the greatest of before[c - k * weight] + k * value. What was the best start one copy earlier still
+ * is, among those before c, unless it is too many copies before c; only then all are looked at again. */
+void plain_next_row(const struct plain_job *job, uint32_t k, const uint32_t *before, uint32_t *row) {
+    static uint32_t start[MOST_BUDGET + 1];
+    uint32_t c, weight = plain_item(job->weights, k), value = plain_item(job->values, k);
+    uint64_t most = plain_most(job, k);
+    for (c = 0; c <= job->budget; c++) {
+        start[c] = c;
+        if (most > 0 && weight <= c) {
+            uint32_t from = start[c - weight];
+            if ((c - from) / weight > most) from = best_start(before, c, weight, value, most);
+            if (worth(before, from, c, weight, value) > before[c]) start[c] = from;
+        }
+        row[c] = worth(before, start[c], c, weight, value);
+    }
+}
+
+/* Each count, from the last label to the first, is the smallest with which the rest of the budget still makes the best. */
+static void least_counts(const struct plain_job *job, struct plain_answer *answer) {
+    uint32_t i, left = job->budget;
+    for (i = job->weights.count; i-- > 0;) {
+        const uint32_t *before = row_of(answer->cells, job, i), *row = row_of(answer->cells, job, i + 1);
+        uint32_t from = left, weight = plain_item(job->weights, i), value = plain_item(job->values, i);
+        while (worth(before, from, left, weight, value) != row[left]) from -= weight;
+        answer->picks[i] = (left - from) / weight;
+        left = from;
+    }
+    answer->second = job->budget - left;
+}
+
+static void limited(const struct plain_job *job, struct plain_answer *answer) {
+    uint32_t i, n = job->weights.count;
+    fill(answer->cells, job->budget, 0);
+    for (i = 0; i < n; i++) plain_next_row(job, i, row_of(answer->cells, job, i), row_of(answer->cells, job, i + 1));
+    answer->first = row_of(answer->cells, job, n)[job->budget];
+    least_counts(job, answer);
+}
+
+/* ---- kind 3: row i is of the labels from i on, and the row of all of them is handed over */
+
+static void any_number_from(const struct plain_job *job, uint32_t i) {
+    const uint32_t *after = row_of(rows, job, i + 1);
+    uint32_t *row = row_of(rows, job, i), c, weight = plain_item(job->weights, i), value = plain_item(job->values, i);
+    for (c = 0; c <= job->budget; c++) {
+        row[c] = after[c];
+        if (weight <= c && row[c - weight] + value > row[c]) row[c] = row[c - weight] + value;
+    }
+}
+
+/* Each count, from the first label on, is the greatest with which the rest of the budget still makes the best. */
+static void any_number(const struct plain_job *job, struct plain_answer *answer) {
+    uint32_t i, c, n = job->weights.count, left = job->budget;
+    fill(row_of(rows, job, n), job->budget, 0);
+    for (i = n; i-- > 0;) any_number_from(job, i);
+    for (c = 0; c <= job->budget; c++) answer->cells[c] = rows[c];
+    answer->first = rows[job->budget];
+    for (i = 0; i < n; i++) {
+        const uint32_t *row = row_of(rows, job, i), *after = row_of(rows, job, i + 1);
+        uint32_t weight = plain_item(job->weights, i), value = plain_item(job->values, i), from = left % weight;
+        while (worth(after, from, left, weight, value) != row[left]) from += weight;
+        answer->picks[i] = (left - from) / weight;
+        left = from;
+    }
+    answer->second = job->budget - left;
+}
+
+/* ---- kind 4 */
+
+static void sums(const struct plain_job *job, struct plain_answer *answer) {
+    static uint8_t reached[MOST_BUDGET + 1];
+    uint32_t i, t, C = job->budget;
+    for (t = 0; t <= C; t++) reached[t] = t == 0;
+    for (i = 0; i < job->weights.count; i++) {
+        uint32_t weight = plain_item(job->weights, i);
+        for (t = C; t >= weight; t--) reached[t] |= reached[t - weight]; /* from above, so that no label is used twice */
+    }
+    for (t = 0; t < answer->filled.words; t++) answer->words[t] = 0;
+    for (t = 0; t <= C; t++) {
+        answer->words[t / 64] |= (uint64_t)reached[t] << t % 64;
+        answer->second += reached[t];
+    }
+    answer->first = reached[C];
+}
+
+/* ---- kind 5: row i is of the first i sizes, and the row of all of them is handed over */
+
+static void add_size(const struct plain_job *job, uint32_t i) {
+    const uint32_t *before = row_of(rows, job, i);
+    uint32_t *row = row_of(rows, job, i + 1), a, size = plain_item(job->weights, i);
+    for (a = 0; a <= job->budget; a++) {
+        row[a] = before[a];
+        if (size <= a && row[a - size] != UINT32_MAX && row[a - size] + 1 < row[a]) row[a] = row[a - size] + 1;
+    }
+}
+
+/* Each count, from the last size to the first, is the greatest with which the rest can still be made of the fewest. */
+static void greatest_counts(const struct plain_job *job, struct plain_answer *answer) {
+    uint32_t i, left = job->budget;
+    for (i = job->weights.count; i-- > 0;) {
+        const uint32_t *before = row_of(rows, job, i), *row = row_of(rows, job, i + 1);
+        uint32_t size = plain_item(job->weights, i), from = left % size;
+        while (before[from] == UINT32_MAX || before[from] + (left - from) / size != row[left]) from += size;
+        answer->picks[i] = (left - from) / size;
+        left = from;
+    }
+}
+
+static void blocks(const struct plain_job *job, struct plain_answer *answer) {
+    uint32_t i, a, n = job->weights.count;
+    const uint32_t *fewest = row_of(rows, job, n);
+    fill(rows, job->budget, UINT32_MAX);
+    rows[0] = 0;
+    for (i = 0; i < n; i++) add_size(job, i);
+    for (a = 0; a <= job->budget; a++) answer->cells[a] = fewest[a];
+    if (fewest[job->budget] == UINT32_MAX) {
+        answer->refused = 7;
+        answer->filled.picks = 0;
+        return;
+    }
+    answer->first = fewest[job->budget];
+    greatest_counts(job, answer);
+}
+
+/* ---- kind 6 */
+
+/* The sum, or 2^64 - 1 where it is more. */
+static uint64_t at_most_full(uint64_t a, uint64_t b) {
+    return a > UINT64_MAX - b ? UINT64_MAX : a + b;
+}
+
+static void ways(const struct plain_job *job, struct plain_answer *answer) {
+    uint32_t i, a;
+    for (a = 0; a <= job->budget; a++) answer->words[a] = a == 0;
+    for (i = 0; i < job->weights.count; i++) {
+        uint32_t size = plain_item(job->weights, i);
+        for (a = 0; a <= job->budget; a++) {
+            if (size <= a) answer->words[a] = at_most_full(answer->words[a], answer->words[a - size]);
+        }
+    }
+    answer->first = answer->words[job->budget];
+    if (answer->first != UINT64_MAX) return;
+    answer->refused = 8;
+    answer->first = 0;
+}
+
+void plain_table(const struct plain_job *job, struct plain_answer *answer) {
+    plain_start(answer, job, 0);
+    switch (job->kind) {
+    case 3: any_number(job, answer); break;
+    case 4: sums(job, answer); break;
+    case 5: blocks(job, answer); break;
+    case 6: ways(job, answer); break;
+    default: limited(job, answer); break;
+    }
+}

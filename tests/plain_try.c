@@ -1,0 +1,152 @@
+/* Document 01's second program: kinds 1 to 6 by trying every selection of a small job, one by one. Each place of the table is a small job
+ * of its own, of the first i labels with budget c, for which all is tried again. See the head of plain.c. */
+#include "plain.h"
+
+enum { LABELS = 12, SELECTIONS = 300000 }; /* no more than these are tried for a job */
+
+static uint32_t left; /* how many selections may still be tried */
+
+/* ---- one selection after the other */
+
+struct selection {
+    uint32_t counts[LABELS];
+    uint64_t weight, value, blocks;
+};
+
+/* The same selection with another count of label k. */
+static void set_count(const struct plain_job *job, struct selection *s, uint32_t k, uint32_t count) {
+    uint64_t more = (uint64_t)count - s->counts[k]; /* below 0 it wraps, and so do the sums, back to what they have to be */
+    s->weight += more * plain_item(job->weights, k);
+    s->value += job->kind <= 3 ? more * plain_item(job->values, k) : 0;
+    s->blocks += more;
+    s->counts[k] = count;
+}
+
+/* The next selection of the first i labels that is allowed and weighs at most c, or 0 after the last. The counts go up as the digits of a
+ * number do: the first that can go up does, and those before it go back to 0. */
+static int next_selection(const struct plain_job *job, uint32_t i, uint32_t c, struct selection *s) {
+    uint32_t k;
+    if (left == 0) return 0;
+    left--;
+    for (k = 0; k < i; k++) {
+        if (s->counts[k] < plain_most(job, k) && s->weight + plain_item(job->weights, k) <= c) {
+            set_count(job, s, k, s->counts[k] + 1);
+            return 1;
+        }
+        if (s->counts[k] > 0) set_count(job, s, k, 0);
+    }
+    return 0;
+}
+
+/* ---- which one is asked for */
+
+/* What trying all selections of the first i labels for c shows. */
+struct outcome {
+    uint64_t asked, as_good; /* how many selections count, and how many of these are as good as the best */
+    struct selection best;   /* the one that the tie rule names */
+};
+
+/* Whether a selection that weighs at most c counts: kinds 1 to 3 ask no more, the others ask for exactly c. */
+static int counts_for(const struct plain_job *job, const struct selection *s, uint32_t c) {
+    return job->kind <= 3 || s->weight == c;
+}
+
+/* Above 0 if a is better than b, 0 if they are equally good: more value, or fewer blocks. Kinds 4 and 6 don't choose. */
+static int compared(const struct plain_job *job, const struct selection *a, const struct selection *b) {
+    if (job->kind <= 3) return (a->value > b->value) - (a->value < b->value);
+    if (job->kind == 5) return (a->blocks < b->blocks) - (a->blocks > b->blocks);
+    return 0;
+}
+
+struct plain_rule plain_rule(uint32_t kind) {
+    struct plain_rule rule;
+    rule.from_last = kind != 3;
+    rule.small = kind <= 2;
+    return rule;
+}
+
+/* Of two selections that are equally good, whether a comes before b: the first count that differs decides, as labels are read. */
+static int goes_first(struct plain_rule rule, uint32_t i, const struct selection *a, const struct selection *b) {
+    uint32_t k;
+    for (k = 0; k < i; k++) {
+        uint32_t label = rule.from_last ? i - 1 - k : k, x = a->counts[label], y = b->counts[label];
+        if (x != y) return rule.small ? x < y : x > y;
+    }
+    return 0;
+}
+
+static struct outcome try_all(const struct plain_job *job, uint32_t i, uint32_t c, struct plain_rule rule) {
+    static const struct outcome none;
+    struct outcome all = none;
+    struct selection s = none.best;
+    do {
+        int better = !counts_for(job, &s, c) ? -1 : all.asked++ == 0 ? 1 : compared(job, &s, &all.best);
+        if (better > 0) all.as_good = 0;
+        if (better >= 0) all.as_good++;
+        if (better > 0 || (better == 0 && goes_first(rule, i, &s, &all.best))) all.best = s;
+    } while (next_selection(job, i, c, &s));
+    return all;
+}
+
+void plain_picks(const struct plain_job *job, struct plain_rule rule, uint32_t *picks) {
+    struct outcome all;
+    uint32_t k;
+    left = SELECTIONS;
+    all = try_all(job, job->weights.count, job->budget, rule);
+    for (k = 0; k < job->weights.count; k++) picks[k] = all.best.counts[k];
+}
+
+/* ---- the table and the answer */
+
+/* The number that is asked for: a value, whether c is reached, fewest blocks or ways. */
+static uint64_t number_of(const struct plain_job *job, const struct outcome *all) {
+    switch (job->kind) {
+    case 4: return all->asked > 0;
+    case 5: return all->asked > 0 ? all->best.blocks : UINT32_MAX;
+    case 6: return all->asked;
+    default: return all->best.value;
+    }
+}
+
+/* What the table says of the first i labels and c. */
+static uint64_t place(const struct plain_job *job, uint32_t i, uint32_t c) {
+    struct outcome all = try_all(job, i, c, plain_rule(job->kind));
+    return number_of(job, &all);
+}
+
+static void try_places(const struct plain_job *job, struct plain_answer *answer) {
+    uint32_t m, n = job->weights.count, width = job->budget + 1;
+    int rows = job->kind <= 2; /* a row for each number of labels, or one for all of them */
+    for (m = 0; m < answer->filled.cells; m++) answer->cells[m] = (uint32_t)place(job, rows ? m / width : n, m % width);
+    for (m = 0; m < answer->filled.words; m++) answer->words[m] = job->kind == 6 ? place(job, n, m) : 0;
+    if (job->kind != 4) return;
+    for (m = 0; m < width; m++) {
+        uint64_t reached = place(job, n, m);
+        answer->words[m / 64] |= reached << m % 64;
+        answer->second += reached;
+    }
+}
+
+/* Kind 5 and no list at all is refusal 7. So few selections are never too many ways. */
+static void try_answer(const struct plain_job *job, struct plain_answer *answer) {
+    struct outcome all = try_all(job, job->weights.count, job->budget, plain_rule(job->kind));
+    uint32_t k;
+    if (job->kind == 5 && all.asked == 0) {
+        answer->refused = 7;
+        answer->filled.picks = 0;
+        return;
+    }
+    answer->as_good = all.as_good;
+    answer->first = number_of(job, &all);
+    if (job->kind <= 3) answer->second = all.best.weight;
+    for (k = 0; k < answer->filled.picks; k++) answer->picks[k] = all.best.counts[k];
+}
+
+int plain_try(const struct plain_job *job, struct plain_answer *answer) {
+    plain_start(answer, job, 0);
+    if (job->kind > 6 || job->weights.count > LABELS || answer->filled.cells + answer->filled.words > SELECTIONS) return 0;
+    left = SELECTIONS;
+    try_places(job, answer);
+    try_answer(job, answer);
+    return left > 0;
+}

@@ -1,0 +1,75 @@
+/* The calls of docs/SLIPS.md that the program can't show, with the right answers that stand there: on tables that held something, on slices that are
+ * too short, and the checker's. The jobs of the other slips are examples/slip-*.job. */
+#include "calls.h"
+#include "parts.h"
+#include "tell.h"
+#include <stdio.h>
+#include <string.h>
+
+enum { CELLS = 6 }; /* as many as any of them needs, or more */
+
+/* A job of one label of weight 1, on these cells and one pick, of which so many are lent; and what comes of it. */
+struct call {
+    uint32_t slip, kind, value, budget;
+    uint32_t cells[CELLS], cells_lent, pick, picks_lent;
+    uint32_t refused, first, second, cells_after[CELLS], pick_after;
+};
+
+static const struct call calls[] = {
+    {2, 1, 3, 2, {0, 9, 18, 0, 0, 0}, 6, 77, 1, 0, 3, 1, {0, 0, 0, 0, 3, 3}, 1},
+    {3, 1, 3, 1, {0, 0, 0, 9, 0, 9}, 6, 77, 1, 0, 3, 1, {0, 0, 0, 3, 0, 9}, 1},
+    {16, 7, 0, 2, {7, 7, 7, 7, 7, 7}, 6, 77, 1, 0, 0, 0, {7, 7, 7, 7, 7, 7}, 2},
+    {17, 1, 3, 1, {7, 7, 7, 77, 7, 7}, 3, 77, 1, 6, 0, 0, {7, 7, 7, 77, 7, 7}, 77},
+    {17, 1, 3, 1, {7, 7, 7, 7, 7, 7}, 4, 77, 0, 6, 0, 0, {7, 7, 7, 7, 7, 7}, 77},
+};
+
+/* A certificate for the job weight 1, value 3, C 1. */
+struct claim {
+    uint32_t slip, pick, cells[4], number, detail;
+};
+
+static const struct claim claims[] = {
+    {14, 1, {0, 0, 9, 3}, 0, 3},
+    {15, 0, {4294967293u, 0, 4294967293u, 0}, 14, 3},
+};
+
+static void one_label(struct bytes *bytes, uint32_t kind, uint32_t value, uint32_t budget) {
+    static const uint32_t weight = 1;
+    static struct job job;
+    set_job(&job, kind, budget, 1, &weight, &value);
+    if (kind > 3) job.values.count = 0;
+    put_job(bytes, &job);
+}
+
+static void try_call(const struct call *call) {
+    static struct bytes bytes;
+    uint32_t cells[CELLS], pick = call->pick, i;
+    uint64_t word = 77, first = 77, second = 77;
+    about("slip", call->slip);
+    memcpy(cells, call->cells, sizeof cells);
+    one_label(&bytes, call->kind, call->value, call->budget);
+    same("the refusal", call->refused,
+         quabnester_solve(bytes.at, bytes.length, cells, call->cells_lent, &word, 1, &pick, call->picks_lent, &first, &second));
+    same("first", call->first, first);
+    same("second", call->second, second);
+    same("the pick", call->pick_after, pick);
+    same("the word", 77, word);
+    for (i = 0; i < CELLS; i++) same_at("cell", i, call->cells_after[i], cells[i]);
+}
+
+static void try_claim(const struct claim *claim) {
+    static struct bytes bytes, certificate;
+    about("slip", claim->slip);
+    one_label(&bytes, 1, 3, 1);
+    certificate.length = 0;
+    put_section(&certificate, &claim->pick, 1);
+    put_section(&certificate, claim->cells, 4);
+    verdict_is(&bytes, &certificate, claim->number, claim->detail);
+}
+
+void part_slips(void) {
+    size_t k;
+    for (k = 0; k < sizeof calls / sizeof calls[0]; k++) try_call(&calls[k]);
+    for (k = 0; k < sizeof claims / sizeof claims[0]; k++) try_claim(&claims[k]);
+    printf("slips: %d calls\n", (int)(sizeof calls / sizeof calls[0] + sizeof claims / sizeof claims[0]));
+}
