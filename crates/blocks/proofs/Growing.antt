@@ -8,7 +8,7 @@ use lib.ListN.{length}
 use Rattle.meaning.specs.Lists.{at}
 use Rattle.meaning.specs.Cells.{LeastShown, noWay}
 use Rattle.meaning.specs.Job.{Job, labels}
-use Rattle.meaning.specs.Refusals.{mostBudget}
+use Rattle.meaning.specs.Bounds.{mostBudget}
 use Rattle.meaning.specs.Blocks.{MadeOf, WaysShown, tooMany}
 use Rattle.meaning.proofs.Making.{few-blocks, fewest-none, fewest-no-sizes, fewest-skip, fewest-more, ways-none, no-sizes, ways-skip, ways-more}
 use Rattle.rows.specs.Rows.{Swept, FirstAlone}

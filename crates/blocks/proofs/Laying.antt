@@ -18,11 +18,11 @@ use Rattle.meaning.specs.Blocks.{Makes, Fewest, Laid, blockOrder, MadeOf}
 use Rattle.meaning.proofs.Totals.{one-more, one-fewer, more-sum, fewer-sum}
 use Rattle.meaning.proofs.Making.{makes-more, makes-less}
 use Rattle.meaning.proofs.Greedy.{last-is}
-use Rattle.rows.specs.Ways.{Way, turnOf, taken, passed}
+use Rattle.rows.specs.Traces.{Trace, turnOf, taken, passed}
 use Rattle.rows.proofs.Stores.{by}
 use Rattle.rows.proofs.LeadsOn.{light-true, light-false}
-use Rattle.rows.proofs.Ways.{way-chosen}
-use Rattle.blocks.specs.Sizes.{leavesFewer, leadsDown, WayDown}
+use Rattle.rows.proofs.Traces.{trace-chosen}
+use Rattle.blocks.specs.Sizes.{leavesFewer, leadsDown, TraceDown}
 
 -- what the test says where it passes, and where it fails
 fewer-true : (row : ℕ → ℕ) (w a : ℕ) → leavesFewer row w a ≡ true → (w ≤ a) × (row (a - w) < row a)
@@ -39,17 +39,17 @@ down-light row sizes m a on = fewer-true row (at sizes m) a on .0
 
 -- the steps of the way, by the number of sizes that are still to be settled
 module _ (row : ℕ → ℕ) (sizes : List ℕ) (amount i a : ℕ) (picks : List ℕ) (some-left : 0 < i) (inside : i ≤ length sizes)
-    (way : Way last-most (leadsDown row sizes) sizes (length sizes) amount (length sizes - i) a picks) where
+    (way : Trace last-most (leadsDown row sizes) sizes (length sizes) amount (length sizes - i) a picks) where
   turn-now : turnOf last-most (length sizes) (length sizes - i) ≡ i - 1
   unfolding turnOf
   turn-now = omega arith
 
   pub down-taken : leadsDown row sizes (i - 1) a ≡ true
-      → Way last-most (leadsDown row sizes) sizes (length sizes) amount (length sizes - i) (a - at sizes (i - 1)) (set picks (i - 1) (at picks (i - 1) + 1))
+      → Trace last-most (leadsDown row sizes) sizes (length sizes) amount (length sizes - i) (a - at sizes (i - 1)) (set picks (i - 1) (at picks (i - 1) + 1))
   down-taken on = rw (add-one, ← turn-now) (taken way (omega arith) (rw turn-now on))
 
   pub down-passed : leadsDown row sizes (i - 1) a ≡ false
-      → Way last-most (leadsDown row sizes) sizes (length sizes) amount (length sizes - (i - 1)) a picks
+      → Trace last-most (leadsDown row sizes) sizes (length sizes) amount (length sizes - (i - 1)) a picks
   down-passed off =
       let next : suc (length sizes - i) ≡ length sizes - (i - 1) = omega arith in
       rw (← next) (passed way (omega arith) (rw turn-now off))
@@ -139,8 +139,8 @@ module _ (j : Job) (row : ℕ → ℕ) (amount : ℕ) (rows : (a : ℕ) → a �
         (λ none-of. omega arith)
 
   -- so the counts found are the chosen ones
-  pub down-laid : (found : List ℕ) → row amount < noWay → WayDown row (j .weights) amount found → Laid j amount found
+  pub down-laid : (found : List ℕ) → row amount < noWay → TraceDown row (j .weights) amount found → Laid j amount found
   unfolding Laid blockOrder labels
   down-laid found some-way down =
-      way-chosen last-is (leadsDown row (j .weights)) (j .weights) (labels j) amount (down-light row (j .weights)) FewestAt long
+      trace-chosen last-is (leadsDown row (j .weights)) (j .weights) (labels j) amount (down-light row (j .weights)) FewestAt long
       left-fewest more-fewest fewer-fewest unused (down .left) found (some-fewest amount (omega arith) some-way) (down .way)

@@ -4,4 +4,4 @@
 pub mod Growing
 pub mod Laying
 -- what the doors owe
-pub mod Doors
+pub mod BlocksDoor

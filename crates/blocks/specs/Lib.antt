@@ -1,3 +1,3 @@
 -- The definitions that the contracts of this crate cite beside those of `meaning` and `rows`.
 pub mod Sizes
-pub mod Doors
+pub mod BlocksDoor

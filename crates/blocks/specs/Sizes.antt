@@ -7,12 +7,12 @@ use lib.Dec.{leb, ltb}
 use lib.ListN.{length}
 use Rattle.meaning.specs.Lists.{at}
 use Rattle.meaning.specs.Cells.{noWay}
-use Rattle.meaning.specs.Refusals.{mostBudget}
+use Rattle.meaning.specs.Bounds.{mostBudget}
 use Rattle.meaning.specs.Orders.{last-most}
 use Rattle.meaning.specs.Blocks.{tooMany}
 use Rattle.rows.specs.Rows.{Swept, FirstAlone}
 use Rattle.rows.specs.Rounds.{LabelByLabel}
-use Rattle.rows.specs.Ways.{Way}
+use Rattle.rows.specs.Traces.{Trace}
 
 -- what the sizes and the width of a row keep in kinds 5 and 6
 pub record Bounded (width : ℕ) (sizes : List ℕ) : Type 0 where
@@ -50,6 +50,6 @@ abbrev pub leadsDown : (ℕ → ℕ) → List ℕ → ℕ → ℕ → Bool
 leadsDown row sizes m a = leavesFewer row (at sizes m) a
 
 -- kind 5: the way down the sizes, from the last one at the whole amount, with all counts settled
-pub record WayDown (row : ℕ → ℕ) (sizes : List ℕ) (amount : ℕ) (picks : List ℕ) : Type 0 where
+pub record TraceDown (row : ℕ → ℕ) (sizes : List ℕ) (amount : ℕ) (picks : List ℕ) : Type 0 where
   pub left : ℕ
-  pub way : Way last-most (leadsDown row sizes) sizes (length sizes) amount (length sizes) left picks
+  pub way : Trace last-most (leadsDown row sizes) sizes (length sizes) amount (length sizes) left picks

@@ -1,19 +1,19 @@
 // Kinds 5 and 6: the fewest blocks that sum to an amount, and the ways to make it.
-// Sizes come as numbers or as a part of the job bytes (`handed`), so they have two slices.
+// Sizes come as numbers or as a part of the job bytes (`listFrom`), so they have two slices.
 use meaning::Answer;
 ghost use mathlib.Core.Path.{_≡_};
-ghost use mathlib.Core.List.{[]};
+ghost use mathlib.Core.List.{[], _∷_};
 ghost use Prim.Native.Nat.{_+_, _-_, _≤_, _<_};
 ghost use lib.ListN.{length};
 ghost use Rattle.meaning.specs.Lists.{at};
 ghost use Rattle.meaning.specs.Job.{fewest-blocks, block-ways};
 ghost use Rattle.meaning.specs.Lent.{lentOf};
 ghost use Rattle.meaning.specs.Solved.{Solved, Unrefused};
-ghost use Rattle.meaning.specs.Doors.{SolvedInCells, SolvedInWords};
-ghost use Rattle.numbers.specs.Handed.{handed, weightsHanded};
+ghost use Rattle.meaning.specs.SolvedIn.{SolvedInCells, SolvedInWords};
+ghost use Rattle.numbers.specs.TwoSlices.{listFrom, weightsFrom};
 ghost use Rattle.rows.specs.Rows.{Swept};
-ghost use Rattle.blocks.specs.Sizes.{Bounded, fewerOf, waysOf, FewestGrown, WaysGrown, leavesFewer, WayDown};
-ghost use Rattle.blocks.specs.Doors.{LetIn};
+ghost use Rattle.blocks.specs.Sizes.{Bounded, fewerOf, waysOf, FewestGrown, WaysGrown, leavesFewer, TraceDown};
+ghost use Rattle.blocks.specs.BlocksDoor.{LetIn};
 
 // ---- kind 5: the fewest blocks
 
@@ -63,8 +63,8 @@ fn lay(row: &mut [u32], w: u32)
 
 // The row of fewest blocks, size by size.
 fn fill_fewest(weights: &[u32], wbytes: &[u8], row: &mut [u32])
-    requires { ⌜ Bounded (length (now row)) (handed (now weights) (now wbytes)) ⌝ }
-    ensures { λ _. ⌜ FewestGrown (handed (now (weights .entry)) (now (wbytes .entry))) (length (now (row .entry))) (now (row .exit)) ⌝ }
+    requires { ⌜ Bounded (length (now row)) (listFrom (now weights) (now wbytes)) ⌝ }
+    ensures { λ _. ⌜ FewestGrown (listFrom (now (weights .entry)) (now (wbytes .entry))) (length (now (row .entry))) (now (row .exit)) ⌝ }
 {
     let width = row.len();
     rows::set_all(row, width, 4_294_967_295);
@@ -90,10 +90,10 @@ fn leads(row: &[u32], w: u32, a: usize) -> bool
 }
 
 // The blocks for the greatest amount of a row, on the way down the sizes.
-fn way_down(weights: &[u32], wbytes: &[u8], row: &[u32], picks: &mut [u32])
-    requires { ⌜ Bounded (length (now row)) (handed (now weights) (now wbytes)) ⌝ }
-    requires { ⌜ length (handed (now weights) (now wbytes)) ≡ length (now picks) ⌝ }
-    ensures { λ _. ⌜ WayDown (at (now (row .entry))) (handed (now (weights .entry)) (now (wbytes .entry))) (length (now (row .entry)) - 1) (now (picks .exit)) ⌝ }
+fn trace_down(weights: &[u32], wbytes: &[u8], row: &[u32], picks: &mut [u32])
+    requires { ⌜ Bounded (length (now row)) (listFrom (now weights) (now wbytes)) ⌝ }
+    requires { ⌜ length (listFrom (now weights) (now wbytes)) ≡ length (now picks) ⌝ }
+    ensures { λ _. ⌜ TraceDown (at (now (row .entry))) (listFrom (now (weights .entry)) (now (wbytes .entry))) (length (now (row .entry)) - 1) (now (picks .exit)) ⌝ }
 {
     let n = picks.len();
     rows::set_all(picks, n, 0);
@@ -118,8 +118,8 @@ fn fewest(
     cells: &mut [u32],
     picks: &mut [u32],
 ) -> Answer
-    requires { ⌜ Unrefused fewest-blocks (weightsHanded 5 budget (now weights) (now wbytes)) (lentOf (now cells) [] (now picks)) ⌝ }
-    ensures { λ r. ⌜ SolvedInCells (weightsHanded 5 budget (now (weights .entry)) (now (wbytes .entry))) (now (cells .entry)) (now (picks .entry)) r (now (cells .exit)) (now (picks .exit)) ⌝ }
+    requires { ⌜ Unrefused fewest-blocks (weightsFrom 5 (budget ∷ []) (now weights) (now wbytes)) (lentOf (now cells) [] (now picks)) ⌝ }
+    ensures { λ r. ⌜ SolvedInCells (weightsFrom 5 (budget ∷ []) (now (weights .entry)) (now (wbytes .entry))) (now (cells .entry)) (now (picks .entry)) r (now (cells .exit)) (now (picks .exit)) ⌝ }
 {
     let n = numbers::list_length(weights, wbytes);
     let width = budget as usize + 1;
@@ -128,7 +128,7 @@ fn fewest(
     if blocks == 4_294_967_295 {
         return Answer::Refused(7);
     }
-    way_down(weights, wbytes, &cells[..width], &mut picks[..n]);
+    trace_down(weights, wbytes, &cells[..width], &mut picks[..n]);
     Answer::Blocks(blocks)
 }
 
@@ -160,8 +160,8 @@ fn count(words: &mut [u64], w: u32)
 
 // The row of ways, size by size.
 fn fill_ways(weights: &[u32], wbytes: &[u8], words: &mut [u64])
-    requires { ⌜ Bounded (length (now words)) (handed (now weights) (now wbytes)) ⌝ }
-    ensures { λ _. ⌜ WaysGrown (handed (now (weights .entry)) (now (wbytes .entry))) (length (now (words .entry))) (now (words .exit)) ⌝ }
+    requires { ⌜ Bounded (length (now words)) (listFrom (now weights) (now wbytes)) ⌝ }
+    ensures { λ _. ⌜ WaysGrown (listFrom (now (weights .entry)) (now (wbytes .entry))) (length (now (words .entry))) (now (words .exit)) ⌝ }
 {
     rows::first_alone(words);
     let n = numbers::list_length(weights, wbytes);
@@ -174,8 +174,8 @@ fn fill_ways(weights: &[u32], wbytes: &[u8], words: &mut [u64])
 
 // Kind 6: the row, and the ways for the whole budget or that they are too many to count. No other amount has a say in that.
 fn ways(budget: u32, weights: &[u32], wbytes: &[u8], words: &mut [u64]) -> Answer
-    requires { ⌜ Unrefused block-ways (weightsHanded 6 budget (now weights) (now wbytes)) (lentOf [] (now words) []) ⌝ }
-    ensures { λ r. ⌜ SolvedInWords (weightsHanded 6 budget (now (weights .entry)) (now (wbytes .entry))) (now (words .entry)) r (now (words .exit)) ⌝ }
+    requires { ⌜ Unrefused block-ways (weightsFrom 6 (budget ∷ []) (now weights) (now wbytes)) (lentOf [] (now words) []) ⌝ }
+    ensures { λ r. ⌜ SolvedInWords (weightsFrom 6 (budget ∷ []) (now (weights .entry)) (now (wbytes .entry))) (now (words .entry)) r (now (words .exit)) ⌝ }
 {
     let width = budget as usize + 1;
     fill_ways(weights, wbytes, &mut words[..width]);
@@ -197,8 +197,8 @@ pub fn solve(
     words: &mut [u64],
     picks: &mut [u32],
 ) -> Answer
-    requires { ⌜ LetIn (weightsHanded kind budget (now weights) (now wbytes)) (lentOf (now cells) (now words) (now picks)) ⌝ }
-    ensures { λ r. ⌜ Solved (weightsHanded kind budget (now (weights .entry)) (now (wbytes .entry))) (lentOf (now (cells .entry)) (now (words .entry)) (now (picks .entry))) r (lentOf (now (cells .exit)) (now (words .exit)) (now (picks .exit))) ⌝ }
+    requires { ⌜ LetIn (weightsFrom kind (budget ∷ []) (now weights) (now wbytes)) (lentOf (now cells) (now words) (now picks)) ⌝ }
+    ensures { λ r. ⌜ Solved (weightsFrom kind (budget ∷ []) (now (weights .entry)) (now (wbytes .entry))) (lentOf (now (cells .entry)) (now (words .entry)) (now (picks .entry))) r (lentOf (now (cells .exit)) (now (words .exit)) (now (picks .exit))) ⌝ }
 {
     if kind == 5 {
         return fewest(budget, weights, wbytes, cells, picks);

@@ -8,18 +8,18 @@ use Rattle.meaning.specs.declared.Verdict.the-variants.{Refused}
 use Rattle.meaning.specs.Job.{Job, jobOf}
 use Rattle.meaning.specs.Bytes.{JobRead, numbersIn, readJob, readable, unreadable}
 use Rattle.meaning.specs.Lists.{upTo}
-use Rattle.meaning.specs.Answers.{judgedOf}
+use Rattle.meaning.specs.Answers.{verdictNumbers}
 use Rattle.meaning.specs.Certificates.{Checked, certifiedRefusal, unlessRefused, verdictOf, verdictOnCertificate, verdictOnJob}
 use Rattle.meaning.proofs.Verdicts.{readable-on}
-use Rattle.numbers.specs.Handed.{handed, jobHanded}
-use Rattle.claims.specs.Asked.{onceJob}
-use Rattle.claims.proofs.Once.{is-kind-1, no-copies}
+use Rattle.numbers.specs.TwoSlices.{listFrom, jobFrom}
+use Rattle.verdicts.specs.Asked.{onceJob}
+use Rattle.verdicts.proofs.Once.{is-kind-1, no-copies}
 
 module _ (jobB certB : List ℕ) (v : Verdict) where
   -- the verdict is the one on what the job bytes are read as
   checked : (r : JobRead) → readJob jobB ≡ r → v ≡ verdictOnJob r certB → Checked jobB certB v
   unfolding Checked verdictOf
-  checked r e f = ap judgedOf (f ∙ ap (λ (x : JobRead). verdictOnJob x certB) (sym e))
+  checked r e f = ap verdictNumbers (f ∙ ap (λ (x : JobRead). verdictOnJob x certB) (sym e))
 
   pub not-read : (place : ℕ) → readJob jobB ≡ unreadable place → v ≡ Refused 1 0 → Checked jobB certB v
   unfolding verdictOnJob
@@ -35,16 +35,16 @@ module _ (jobB certB : List ℕ) (v : Verdict) where
     job-judged ok f = checked (readable j) reads (f ∙ sym (readable-on j certB ok))
 
 -- a job that isn't refused is of kind 1 and has no copies, so it is judged as such
-module _ (kind budget : ℕ) (wb vb cb : List ℕ) (ok : 0 ≡ certifiedRefusal (jobHanded kind budget [] wb [] vb [] cb) 0) where
-  once-is : jobHanded kind budget [] wb [] vb [] cb ≡ onceJob budget wb vb
-  unfolding jobOf handed numbersIn upTo
+module _ (kind budget : ℕ) (wb vb cb : List ℕ) (ok : 0 ≡ certifiedRefusal (jobFrom kind (budget ∷ []) [] wb [] vb [] cb) 0) where
+  once-is : jobFrom kind (budget ∷ []) [] wb [] vb [] cb ≡ onceJob budget wb vb
+  unfolding jobOf listFrom numbersIn upTo
   once-is =
-      let j : Job = jobHanded kind budget [] wb [] vb [] cb in
+      let j : Job = jobFrom kind (budget ∷ []) [] wb [] vb [] cb in
       ap₂ (λ (k : ℕ) (copies : List ℕ). jobOf k (budget ∷ []) (numbersIn wb) (numbersIn vb) copies) (is-kind-1 j (sym ok)) (no-copies j (sym ok))
 
   pub once-ok : certifiedRefusal (onceJob budget wb vb) 0 ≡ 0
   once-ok = subst (λ (j : Job). certifiedRefusal j 0 ≡ 0) once-is (sym ok)
 
-  pub once-judged : (jobB certB : List ℕ) (v : Verdict) → readJob jobB ≡ readable (jobHanded kind budget [] wb [] vb [] cb)
+  pub once-judged : (jobB certB : List ℕ) (v : Verdict) → readJob jobB ≡ readable (jobFrom kind (budget ∷ []) [] wb [] vb [] cb)
       → v ≡ verdictOnCertificate (onceJob budget wb vb) certB → Checked jobB certB v
   once-judged jobB certB v reads e = job-judged jobB certB v (onceJob budget wb vb) (reads ∙ ap readable once-is) once-ok e

@@ -3,48 +3,48 @@
 use mathlib.Core.Path.{_≡_, refl, sym, ap, _∙_}
 use mathlib.Core.Option.{Option, none, some}
 use Prim.Native.Nat.{ℕ, zero, suc}
-use Rattle.meaning.specs.Job.{Job, Sort, once, packing, labels}
+use Rattle.meaning.specs.Job.{Job, Knapsack, once, packing, labels}
 use Rattle.meaning.specs.Lent as meaning
 use Rattle.meaning.specs.Lent.{roomFor, roomOf}
 use Rattle.meaning.specs.Refusals.{jobRefusal, rulesOf}
-use Rattle.meaning.specs.Certificates.{certificateCells, certifiedAs, certifiedRefusal, certifiedSort}
+use Rattle.meaning.specs.Certificates.{certificateCells, certifiedAs, certifiedRefusal, certifiedKnapsack}
 use Rattle.rules.specs.declared.Room.{Room}
 use Rattle.rules.specs.Places.{NeededBy, roomFrom}
 use Rattle.requests.proofs.Judging.{earlier-given, none-earlier}
-use Rattle.claims.proofs.Once.{once-sort, is-kind-1}
+use Rattle.verdicts.proofs.Once.{once-knapsack, is-kind-1}
 
 -- ---- by kind
 
 -- kind 1 alone has certificates
-no-sort : (n : ℕ) → ¬ (n ≡ 1) → certifiedSort n ≡ none
-unfolding certifiedSort
-no-sort zero h = refl
-no-sort (suc zero) h = absurd (h refl)
-no-sort (suc (suc n)) h = refl
+no-knapsack : (n : ℕ) → ¬ (n ≡ 1) → certifiedKnapsack n ≡ none
+unfolding certifiedKnapsack
+no-knapsack zero h = refl
+no-knapsack (suc zero) h = absurd (h refl)
+no-knapsack (suc (suc n)) h = refl
 
 module _ (j : Job) (later : ℕ) where
   -- 2: another kind
   pub other-kind : ¬ (j .kind-number ≡ 1) → certifiedRefusal j later ≡ 2
   unfolding certifiedRefusal certifiedAs
-  other-kind h = ap (λ (o : Option Sort). certifiedAs o j later) (no-sort (j .kind-number) h)
+  other-kind h = ap (λ (o : Option Knapsack). certifiedAs o j later) (no-knapsack (j .kind-number) h)
 
   -- 3 to 5: kind 1 by its rules
   pub by-rules : j .kind-number ≡ 1 → certifiedRefusal j later ≡ jobRefusal (rulesOf (packing once)) j later
   unfolding certifiedRefusal certifiedAs
-  by-rules e = ap (λ (o : Option Sort). certifiedAs o j later) (once-sort (j .kind-number) e)
+  by-rules e = ap (λ (o : Option Knapsack). certifiedAs o j later) (once-knapsack (j .kind-number) e)
 
 -- ---- what comes later
 
 module _ (j : Job) (later : ℕ) where
-  by-sort : (o : Option Sort) → ¬ (certifiedAs o j 0 ≡ 0) → certifiedAs o j later ≡ certifiedAs o j 0
+  by-knapsack : (o : Option Knapsack) → ¬ (certifiedAs o j 0 ≡ 0) → certifiedAs o j later ≡ certifiedAs o j 0
   unfolding certifiedAs
-  by-sort none h = refl
-  by-sort (some k) h = earlier-given (rulesOf (packing k)) j later h
+  by-knapsack none h = refl
+  by-knapsack (some k) h = earlier-given (rulesOf (packing k)) j later h
 
   -- it isn't asked where one of 2 to 5 applies
   pub refused-before : ¬ (certifiedRefusal j 0 ≡ 0) → certifiedRefusal j later ≡ certifiedRefusal j 0
   unfolding certifiedRefusal
-  refused-before h = by-sort (certifiedSort (j .kind-number)) h
+  refused-before h = by-knapsack (certifiedKnapsack (j .kind-number)) h
 
 -- it is where none does
 pub later-asked : (j : Job) → certifiedRefusal j 0 ≡ 0 → (later : ℕ) → certifiedRefusal j later ≡ later

@@ -12,31 +12,31 @@ ghost use Rattle.meaning.specs.declared.Verdict.the-variants.{Refused};
 ghost use Rattle.meaning.specs.Job.{jobOf};
 ghost use Rattle.meaning.specs.Certificates.{Checked, certifiedRefusal, verdictOnCertificate};
 ghost use Rattle.meaning.specs.Writer.{Writes, WritesBytes};
-ghost use Rattle.numbers.specs.Handed.{jobHanded};
-ghost use Rattle.claims.specs.Asked.{onceJob};
+ghost use Rattle.numbers.specs.TwoSlices.{jobFrom};
+ghost use Rattle.verdicts.specs.Asked.{onceJob};
 ghost use Rattle.certificate.specs.Copying.{CopiedFor};
 
-// Where a list comes as numbers and as a part of the job bytes (`handed`), ws and wb are the weights, vs and vb the values, cs and cb the
+// Where a list comes as numbers and as a part of the job bytes (`listFrom`), weights and wbytes are the weights, values and vbytes the values, copies and cbytes the
 // copies.
 
 // The lowest of 2 to 5 that applies to a job, and 0 for none. Kind 1 alone has certificates.
 fn job_refusal(
     kind: u32,
     budget: u32,
-    ws: &[u32],
-    wb: &[u8],
-    vs: &[u32],
-    vb: &[u8],
-    cs: &[u32],
-    cb: &[u8],
+    weights: &[u32],
+    wbytes: &[u8],
+    values: &[u32],
+    vbytes: &[u8],
+    copies: &[u32],
+    cbytes: &[u8],
 ) -> u32
-    ensures { λ r. ⌜ r ≡ certifiedRefusal (jobHanded kind budget (now (ws .entry)) (now (wb .entry)) (now (vs .entry)) (now (vb .entry)) (now (cs .entry)) (now (cb .entry))) 0 ⌝ }
+    ensures { λ r. ⌜ r ≡ certifiedRefusal (jobFrom kind (budget ∷ []) (now (weights .entry)) (now (wbytes .entry)) (now (values .entry)) (now (vbytes .entry)) (now (copies .entry)) (now (cbytes .entry))) 0 ⌝ }
 {
     if kind != 1 {
         return 2;
     }
     let rules = rules::knapsack_rules(kind);
-    requests::job_refusal(rules, budget, ws, wb, vs, vb, cs, cb)
+    requests::job_refusal(rules, budget, weights, wbytes, values, vbytes, copies, cbytes)
 }
 
 // ---- the checker
@@ -67,7 +67,7 @@ fn judge(budget: u32, weights: &[u8], values: &[u8], certificate: &[u8]) -> Verd
     if cells_end < certificate.len() {
         return refused_with(11);
     }
-    claims::judge_cells(
+    verdicts::judge_cells(
         budget,
         weights,
         values,
@@ -128,26 +128,26 @@ fn copy_out(picks: &[u32], n: usize, cells: &[u32], count: usize, out: &mut [u8]
 }
 
 // Writes the certificate of picks and cells for a job, however its lists come.
-fn write_handed(
+fn write_job(
     kind: u32,
     budget: u32,
-    ws: &[u32],
-    wb: &[u8],
-    vs: &[u32],
-    vb: &[u8],
-    cs: &[u32],
-    cb: &[u8],
+    weights: &[u32],
+    wbytes: &[u8],
+    values: &[u32],
+    vbytes: &[u8],
+    copies: &[u32],
+    cbytes: &[u8],
     picks: &[u32],
     cells: &[u32],
     out: &mut [u8],
 ) -> Written
-    ensures { λ r. ⌜ Writes (jobHanded kind budget (now (ws .entry)) (now (wb .entry)) (now (vs .entry)) (now (vb .entry)) (now (cs .entry)) (now (cb .entry))) (now (picks .entry)) (now (cells .entry)) (now (out .entry)) r (now (out .exit)) ⌝ }
+    ensures { λ r. ⌜ Writes (jobFrom kind (budget ∷ []) (now (weights .entry)) (now (wbytes .entry)) (now (values .entry)) (now (vbytes .entry)) (now (copies .entry)) (now (cbytes .entry))) (now (picks .entry)) (now (cells .entry)) (now (out .entry)) r (now (out .exit)) ⌝ }
 {
-    let refused = job_refusal(kind, budget, ws, wb, vs, vb, cs, cb);
+    let refused = job_refusal(kind, budget, weights, wbytes, values, vbytes, copies, cbytes);
     if refused != 0 {
         return Written::Refused(refused);
     }
-    let n = numbers::list_length(ws, wb);
+    let n = numbers::list_length(weights, wbytes);
     let room = rules::knapsack_room(kind, n, budget);
     copy_out(picks, n, cells, room.cells, out)
 }
@@ -166,7 +166,7 @@ pub fn write(
     ensures { λ r. ⌜ Writes (jobOf kind (budget ∷ []) (now (weights .entry)) (now (values .entry)) (now (copies .entry))) (now (picks .entry)) (now (cells .entry)) (now (out .entry)) r (now (out .exit)) ⌝ }
 {
     let none: [u8; 0] = [];
-    write_handed(
+    write_job(
         kind,
         budget,
         weights,
@@ -200,7 +200,7 @@ pub fn write_bytes(job: &[u8], picks: &[u32], cells: &[u32], out: &mut [u8]) -> 
         return Written::Refused(1);
     };
     let none: [u32; 0] = [];
-    write_handed(
+    write_job(
         kind,
         budget,
         &none,

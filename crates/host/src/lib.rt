@@ -4,7 +4,7 @@ use meaning::Verdict;
 use meaning::Written;
 ghost use mathlib.Core.Path.{_≡_};
 ghost use Rattle.meaning.specs.Lent.{lentOf};
-ghost use Rattle.meaning.specs.Answers.{saidOf};
+ghost use Rattle.meaning.specs.Answers.{answerNumbers};
 ghost use Rattle.meaning.specs.Certificates.{verdictOf};
 ghost use Rattle.meaning.specs.Host.{refusalNumber, valueOrPlace, firstNumber, secondNumber, SolvedHost, WritesHost};
 
@@ -32,7 +32,7 @@ fn verdict_detail(verdict: Verdict) -> u64
 
 // 0, or the refusal number.
 fn answer_refusal(answer: Answer) -> u32
-    ensures { λ r. ⌜ r ≡ saidOf answer .refusal ⌝ }
+    ensures { λ r. ⌜ r ≡ answerNumbers answer .refusal ⌝ }
 {
     match answer {
         Answer::Refused(number) => number,
@@ -42,7 +42,7 @@ fn answer_refusal(answer: Answer) -> u32
 
 // The value, yes as 1, the blocks, the ways or the spare.
 fn first_number(answer: Answer) -> u64
-    ensures { λ r. ⌜ r ≡ firstNumber (saidOf answer) ⌝ }
+    ensures { λ r. ⌜ r ≡ firstNumber (answerNumbers answer) ⌝ }
 {
     match answer {
         Answer::Refused(_) => 0,
@@ -56,7 +56,7 @@ fn first_number(answer: Answer) -> u64
 
 // The weight, or the totals.
 fn second_number(answer: Answer) -> u64
-    ensures { λ r. ⌜ r ≡ secondNumber (saidOf answer) ⌝ }
+    ensures { λ r. ⌜ r ≡ secondNumber (answerNumbers answer) ⌝ }
 {
     match answer {
         Answer::Knapsack { value: _, weight } => weight as u64,

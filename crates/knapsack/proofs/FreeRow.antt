@@ -9,20 +9,20 @@ use mathlib.Core.List.{List}
 use lib.ListN.{length}
 use Rattle.meaning.specs.Lists.{at, total}
 use Rattle.meaning.specs.Job.{Job, labels, free}
-use Rattle.meaning.specs.Refusals.{mostValue}
+use Rattle.meaning.specs.Bounds.{mostValue}
 use Rattle.meaning.specs.Knapsacks.{MayPick, Fits, Best, BestValue, BestPicks, orderOf}
 use Rattle.meaning.proofs.Totals.{one-more, one-fewer, more-total, fewer-total}
 use Rattle.meaning.proofs.Steps.{best-none, none-better}
 use Rattle.meaning.proofs.Free.{free-more, free-fewer}
 use Rattle.meaning.proofs.Greedy.{first-is}
-use Rattle.rows.specs.Rows.{AnyCount, Low, leadsOn}
+use Rattle.rows.specs.Rows.{AnyCount, Capped, leadsOn}
 use Rattle.rows.proofs.Stores.{by}
 use Rattle.rows.proofs.LeadsOn.{leads-true, leads-false}
-use Rattle.rows.proofs.Counts.{topped-low, topped-best}
+use Rattle.rows.proofs.Counts.{greatest-capped, greatest-best}
 use Rattle.rows.proofs.Rounds.{each-round}
-use Rattle.rows.proofs.Ways.{way-spent, way-chosen}
+use Rattle.rows.proofs.Traces.{trace-spent, trace-chosen}
 use Rattle.knapsack.specs.Tables.{Bounded, Climbed}
-use Rattle.knapsack.specs.Ways.{leadsAlong, WayAlong}
+use Rattle.knapsack.specs.Traces.{leadsAlong, TraceAlong}
 
 -- ---- the row as it is filled
 
@@ -33,16 +33,16 @@ unfolding MayPick
 climbed-best j width row =
     each-round _ _ (λ i s. (c : ℕ) → c < width → BestValue free j i c (at s c)) (labels j)
     (λ s none c h. rw (none c h) (best-none free j c))
-    (λ i s t inside best up. topped-best free j i width (at s) (at t) best up)
+    (λ i s t inside best up. greatest-best free j i width (at s) (at t) best up)
     (labels j) row (omega arith)
 
 -- and low
-pub climbed-low : (ws vs : List ℕ) (width i : ℕ) (row : List ℕ) → Bounded width ws vs → i ≤ length ws → Climbed ws vs width i row → Low (at row) width
-unfolding Low mostValue
-climbed-low ws vs width i row b =
-    each-round _ _ (λ k s. Low (at s) width) (length ws)
+pub climbed-capped : (ws vs : List ℕ) (width i : ℕ) (row : List ℕ) → Bounded width ws vs → i ≤ length ws → Climbed ws vs width i row → Capped (at row) width
+unfolding Capped mostValue
+climbed-capped ws vs width i row b =
+    each-round _ _ (λ k s. Capped (at s) width) (length ws)
     (λ s none c l. omega (arith, none c l))
-    (λ k s t inside low up. topped-low AnyCount (at s) (at t) (at ws k) (at vs k) width (b .heavy k inside) (b .cheap k inside) low up)
+    (λ k s t inside low up. greatest-capped AnyCount (at s) (at t) (at ws k) (at vs k) width (b .heavy k inside) (b .cheap k inside) low up)
     i row
 
 -- ---- the way along
@@ -52,9 +52,9 @@ pub along-light : (row : ℕ → ℕ) (ws vs : List ℕ) (m c : ℕ) → leadsAl
 along-light row ws vs m c on = leads-true row (at ws m) (at vs m) c on .0
 
 -- the picks weigh what is not left
-pub along-weight : (row : ℕ → ℕ) (ws vs : List ℕ) (budget c : ℕ) (found : List ℕ) → WayAlong row ws vs budget c found → total ws found + c ≡ budget
-unfolding WayAlong
-along-weight row ws vs budget c found way = way-spent first-is (leadsAlong row ws vs) ws (length ws) budget (along-light row ws vs) way
+pub along-weight : (row : ℕ → ℕ) (ws vs : List ℕ) (budget c : ℕ) (found : List ℕ) → TraceAlong row ws vs budget c found → total ws found + c ≡ budget
+unfolding TraceAlong
+along-weight row ws vs budget c found way = trace-spent first-is (leadsAlong row ws vs) ws (length ws) budget (along-light row ws vs) way
 
 -- `row` holds the best values up to the budget
 module _ (j : Job) (row : ℕ → ℕ) (budget : ℕ) (rows : (c : ℕ) → c ≤ budget → BestValue free j (labels j) c (row c)) where
@@ -117,9 +117,9 @@ module _ (j : Job) (row : ℕ → ℕ) (budget : ℕ) (rows : (c : ℕ) → c �
         (λ none-of. omega arith)
 
   -- so the counts found are the chosen picks
-  pub along-picks : (left : ℕ) (found : List ℕ) → WayAlong row (j .weights) (j .values) budget left found → BestPicks free j (labels j) budget found
-  unfolding WayAlong BestPicks orderOf labels
+  pub along-picks : (left : ℕ) (found : List ℕ) → TraceAlong row (j .weights) (j .values) budget left found → BestPicks free j (labels j) budget found
+  unfolding TraceAlong BestPicks orderOf labels
   along-picks left found way =
       let r = rows budget (omega arith) in
-      way-chosen first-is (leadsAlong row (j .weights) (j .values)) (j .weights) (labels j) budget (along-light row (j .weights) (j .values)) BestAt long
+      trace-chosen first-is (leadsAlong row (j .weights) (j .values)) (j .weights) (labels j) budget (along-light row (j .weights) (j .values)) BestAt long
       left-best more-best fewer-best unused left found (r .picks, r .best) way

@@ -9,19 +9,19 @@ use mathlib.Core.List.{List, [], _∷_, _++_, append-nil}
 use lib.ListN.{length, drop, set, length-append}
 use lib.Seq.{append-snoc}
 use Rattle.meaning.specs.Lists.{at, total}
-use Rattle.meaning.specs.Job.{Job, Sort, labels}
+use Rattle.meaning.specs.Job.{Job, Knapsack, labels}
 use Rattle.meaning.specs.Orders.{last-least}
-use Rattle.meaning.specs.Refusals.{mostValue}
+use Rattle.meaning.specs.Bounds.{mostValue}
 use Rattle.meaning.specs.Knapsacks.{MayPick, BestValue, BestPicks, orderOf}
 use Rattle.meaning.proofs.Totals.{total-with}
 use Rattle.meaning.proofs.OneOfEach.{best-value-unique}
 use Rattle.meaning.proofs.Steps.{best-none}
 use Rattle.meaning.proofs.Trace.{trace-step, picks-worth}
-use Rattle.rows.specs.Rows.{Worth, SomeCount, ToppedRow, Least, Stored, NextRow, Low}
+use Rattle.rows.specs.Rows.{Worth, SomeCount, GreatestRow, Least, Stored, NextRow, Capped}
 use Rattle.rows.proofs.Stores.{by, stored-first}
-use Rattle.rows.proofs.Counts.{topped-same, topped-may, topped-low, topped-best}
+use Rattle.rows.proofs.Counts.{greatest-same, greatest-may, greatest-capped, greatest-best}
 use Rattle.knapsack.specs.Tables.{Bounded, rowOf, Filled}
-use Rattle.knapsack.specs.Ways.{WayBack, begin, back}
+use Rattle.knapsack.specs.Traces.{TraceBack, begin, back}
 
 -- ---- the table as it is filled
 
@@ -48,7 +48,7 @@ module _ (ws vs : List ℕ) (limit : ℕ → ℕ) (width : ℕ) where
   -- one row more
   pub filled-more : (i from w v most : ℕ) (t u : List ℕ) → from ≡ i * width → w ≡ at ws i → v ≡ at vs i → most ≡ limit i
       → Filled ws vs limit width i t → NextRow t u from width w v most → Filled ws vs limit width (i + 1) u
-  unfolding ToppedRow
+  unfolding GreatestRow
   filled-more i from w v most t u e₁ e₂ e₃ e₄ d r₀ =
       let r = rw (e₁, e₂, e₃, e₄) at r₀ in
       let kept : (m c : ℕ) → m ≤ i → c < width → rowOf t width m c ≡ rowOf u width m c = λ m c h l.
@@ -56,7 +56,7 @@ module _ (ws vs : List ℕ) (limit : ℕ → ℕ) (width : ℕ) where
       record {
         first = λ c h. sym (kept 0 c (omega arith) h) ∙ d .first c h;
         next = λ m h c l.
-            topped-same (λ x. x ≤ limit m) (rowOf t width m) (rowOf u width m) (at ws m) (at vs m) c (rowOf u width (suc m) c) (λ b k. kept m b (omega arith) (omega arith))
+            greatest-same (λ x. x ≤ limit m) (rowOf t width m) (rowOf u width m) (at ws m) (at vs m) c (rowOf u width (suc m) c) (λ b k. kept m b (omega arith) (omega arith))
             (by m i
             (λ k. rw (← kept (suc m) c k l) (d .next m k c l))
             (λ k.
@@ -65,33 +65,33 @@ module _ (ws vs : List ℕ) (limit : ℕ → ℕ) (width : ℕ) where
       }
 
   -- its rows are low
-  pub filled-low : Bounded width ws vs → (n : ℕ) (t : List ℕ) → n ≤ length ws → Filled ws vs limit width n t → (i : ℕ) → i ≤ n → Low (rowOf t width i) width
-  unfolding Low mostValue
-  filled-low b n t few d zero h c l = omega (arith, d .first c l)
-  filled-low b n t few d (suc i) h c l =
-      topped-low (λ x. x ≤ limit i) (rowOf t width i) (rowOf t width (suc i)) (at ws i) (at vs i) width (b .heavy i (omega arith)) (b .cheap i (omega arith))
-      (filled-low b n t few d i (omega arith)) (d .next i h) c l
+  pub filled-capped : Bounded width ws vs → (n : ℕ) (t : List ℕ) → n ≤ length ws → Filled ws vs limit width n t → (i : ℕ) → i ≤ n → Capped (rowOf t width i) width
+  unfolding Capped mostValue
+  filled-capped b n t few d zero h c l = omega (arith, d .first c l)
+  filled-capped b n t few d (suc i) h c l =
+      greatest-capped (λ x. x ≤ limit i) (rowOf t width i) (rowOf t width (suc i)) (at ws i) (at vs i) width (b .heavy i (omega arith)) (b .cheap i (omega arith))
+      (filled-capped b n t few d i (omega arith)) (d .next i h) c l
 
 -- ---- the way back as it is gone
 
 -- one label more
-pub way-more : (row : ℕ → ℕ → ℕ) (ws vs : List ℕ) (n budget i c x : ℕ) (picks : List ℕ) → 0 < i → i ≤ length picks
-    → WayBack row ws vs n budget i c (drop i picks) → Least (row (i - 1)) (at ws (i - 1)) (at vs (i - 1)) c (row (suc (i - 1)) c) x
-    → WayBack row ws vs n budget (i - 1) (c - at ws (i - 1) * x) (drop (i - 1) (set picks (i - 1) x))
-way-more row ws vs n budget i c x picks pos inside way l =
+pub trace-more : (row : ℕ → ℕ → ℕ) (ws vs : List ℕ) (n budget i c x : ℕ) (picks : List ℕ) → 0 < i → i ≤ length picks
+    → TraceBack row ws vs n budget i c (drop i picks) → Least (row (i - 1)) (at ws (i - 1)) (at vs (i - 1)) c (row (suc (i - 1)) c) x
+    → TraceBack row ws vs n budget (i - 1) (c - at ws (i - 1) * x) (drop (i - 1) (set picks (i - 1) x))
+trace-more row ws vs n budget i c x picks pos inside way l =
     let here : i ≡ suc (i - 1) = omega arith in
     rw (stored-first picks (i - 1) x (omega arith))
-    (back {rest = c - at ws (i - 1) * x} (subst (λ (m : ℕ). WayBack row ws vs n budget m c (drop m picks)) here way) l (omega (arith, l .made .spent)))
+    (back {rest = c - at ws (i - 1) * x} (subst (λ (m : ℕ). TraceBack row ws vs n budget m c (drop m picks)) here way) l (omega (arith, l .made .spent)))
 
 -- it has come to a row of the table, and no more is left than there was
-pub way-within : {row : ℕ → ℕ → ℕ} {ws vs : List ℕ} {n budget i c : ℕ} {found : List ℕ} → WayBack row ws vs n budget i c found → (i ≤ n) × (c ≤ budget)
-way-within begin = (omega arith, omega arith)
-way-within (back way l e) = let (a, b) = way-within way in (omega arith, omega arith)
+pub trace-within : {row : ℕ → ℕ → ℕ} {ws vs : List ℕ} {n budget i c : ℕ} {found : List ℕ} → TraceBack row ws vs n budget i c found → (i ≤ n) × (c ≤ budget)
+trace-within begin = (omega arith, omega arith)
+trace-within (back way l e) = let (a, b) = trace-within way in (omega arith, omega arith)
 
 -- ---- what it holds
 
 -- where the limits are those of a knapsack
-module _ (k : Sort) (j : Job) (limit : ℕ → ℕ) (width : ℕ) (cells : List ℕ)
+module _ (k : Knapsack) (j : Job) (limit : ℕ → ℕ) (width : ℕ) (cells : List ℕ)
     (few : (i x : ℕ) → i < labels j → MayPick k (at (j .copies) i) x → x ≤ limit i)
     (may : (i x : ℕ) → i < labels j → x ≤ limit i → MayPick k (at (j .copies) i) x)
     (d : Filled (j .weights) (j .values) limit width (labels j) cells) where
@@ -99,37 +99,37 @@ module _ (k : Sort) (j : Job) (limit : ℕ → ℕ) (width : ℕ) (cells : List 
   row i c = rowOf cells width i c
 
   -- each row tops the row before it, by the counts that may be picked
-  row-topped : (i : ℕ) → i < labels j → ToppedRow (MayPick k (at (j .copies) i)) (row i) (at (j .weights) i) (at (j .values) i) width (row (suc i))
-  unfolding ToppedRow
-  row-topped i h c l =
-      topped-may (λ x. x ≤ limit i) (MayPick k (at (j .copies) i)) (row i) (at (j .weights) i) (at (j .values) i) c (row (suc i) c)
+  row-greatest : (i : ℕ) → i < labels j → GreatestRow (MayPick k (at (j .copies) i)) (row i) (at (j .weights) i) (at (j .values) i) width (row (suc i))
+  unfolding GreatestRow
+  row-greatest i h c l =
+      greatest-may (λ x. x ≤ limit i) (MayPick k (at (j .copies) i)) (row i) (at (j .weights) i) (at (j .values) i) c (row (suc i) c)
       (λ x. may i x h) (λ x light. few i x h) (d .next i h c l)
 
   -- each cell is the best value of its labels and its budget
   pub row-best : (i c : ℕ) → i ≤ labels j → c < width → BestValue k j i c (row i c)
   row-best zero c h l = rw (d .first c l) (best-none k j c)
-  row-best (suc i) c h l = topped-best k j i width (row i) (row (suc i)) (λ b m. row-best i b (omega arith) m) (row-topped i h) c l
+  row-best (suc i) c h l = greatest-best k j i width (row i) (row (suc i)) (λ b m. row-best i b (omega arith) m) (row-greatest i h) c l
 
   -- some count leads back from each cell
   pub some-back : (i c : ℕ) → i < labels j → c < width → SomeCount (row i) (at (j .weights) i) (at (j .values) i) c (row (suc i) c)
-  unfolding ToppedRow
-  some-back i c h l = let t = row-topped i h c l in record { count = t .count; made = t .made }
+  unfolding GreatestRow
+  some-back i c h l = let t = row-greatest i h c l in record { count = t .count; made = t .made }
 
   -- ---- the way back
 
   module _ (least : orderOf k ≡ last-least) (budget : ℕ) (wide : budget < width) where
-    abbrev Way : ℕ → ℕ → List ℕ → Type 0
-    Way = WayBack row (j .weights) (j .values) (labels j) budget
+    abbrev Trace : ℕ → ℕ → List ℕ → Type 0
+    Trace = TraceBack row (j .weights) (j .values) (labels j) budget
 
     -- one label: the least count that its row leaves is the chosen one
     one-back : (i c x rest : ℕ) (p : List ℕ) → i < labels j → c ≤ budget
         → Least (row i) (at (j .weights) i) (at (j .values) i) c (row (suc i) c) x → rest + at (j .weights) i * x ≡ c
         → BestPicks k j i rest p → BestPicks k j (suc i) c (p ++ (x ∷ []))
-    unfolding ToppedRow BestPicks
+    unfolding GreatestRow BestPicks
     one-back i c x rest p h hc l e best =
         let w = at (j .weights) i in
         let v = at (j .values) i in
-        let t = row-topped i h c (omega arith) in
+        let t = row-greatest i h c (omega arith) in
         let here : c - w * x ≡ rest = omega arith in
         let left : l .made .left ≡ rest = omega (arith, l .made .spent) in
         let no-more : x ≤ t .count = by (t .count) x (λ u. absurd (l .fewer (t .count) u (t .made))) (λ u. u) in
@@ -147,14 +147,14 @@ module _ (k : Sort) (j : Job) (limit : ℕ → ℕ) (width : ℕ) (cells : List 
         (λ y light. (row i (c - w * y), row-best i (c - w * y) (omega arith) (omega arith)))
 
     -- the chosen picks of the labels to come, and after them those found, are the chosen picks of all
-    pub back-picks : {i c : ℕ} {found : List ℕ} → Way i c found → (p : List ℕ) → BestPicks k j i c p → BestPicks k j (labels j) budget (p ++ found)
+    pub back-picks : {i c : ℕ} {found : List ℕ} → Trace i c found → (p : List ℕ) → BestPicks k j i c p → BestPicks k j (labels j) budget (p ++ found)
     back-picks begin p best = rw append-nil best
     back-picks (back {i} {c} {x} {rest} {found} way l e) p best =
-        let (h, hc) = way-within way in
+        let (h, hc) = trace-within way in
         rw (← append-snoc p x found) (back-picks way (p ++ (x ∷ [])) (one-back i c x rest p h hc l e best))
 
   -- what they weigh, and what is left of the budget
-  pub back-weight : {budget i c : ℕ} {found : List ℕ} → WayBack row (j .weights) (j .values) (labels j) budget i c found
+  pub back-weight : {budget i c : ℕ} {found : List ℕ} → TraceBack row (j .weights) (j .values) (labels j) budget i c found
       → (p : List ℕ) → length p ≡ i → total (j .weights) (p ++ found) + c ≡ total (j .weights) p + budget
   back-weight begin p long = rw append-nil
   back-weight (back {i} {c} {x} {rest} {found} way l e) p long =

@@ -4,4 +4,4 @@
 pub mod FullRows
 pub mod FreeRow
 -- from a job that is let in to what the functions ask, and from what they leave to the promise
-pub mod Doors
+pub mod KnapsackDoor

@@ -1,4 +1,4 @@
 -- The definitions that the contracts of this crate cite beside those of `meaning`.
 pub mod Tables
-pub mod Ways
-pub mod Doors
+pub mod Traces
+pub mod KnapsackDoor

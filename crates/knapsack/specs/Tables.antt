@@ -6,8 +6,8 @@ use mathlib.Core.List.{List}
 use lib.Dec.{eqb}
 use lib.ListN.{length}
 use Rattle.meaning.specs.Lists.{at, if}
-use Rattle.meaning.specs.Refusals.{mostBudget, mostValue}
-use Rattle.rows.specs.Rows.{ToppedRow, AnyCount}
+use Rattle.meaning.specs.Bounds.{mostBudget, mostValue}
+use Rattle.rows.specs.Rows.{GreatestRow, AnyCount}
 use Rattle.rows.specs.Rounds.{LabelByLabel}
 
 -- what the lists and the width of a row keep in kinds 1 to 3
@@ -29,9 +29,9 @@ rowOf cells width i c = at cells (i * width + c)
 -- kinds 1 and 2: the rows up to that of the first i labels. The first is 0, and each other is made of the one before it and its label
 pub record Filled (weights values : List ℕ) (limit : ℕ → ℕ) (width i : ℕ) (cells : List ℕ) : Type 0 where
   pub first : (c : ℕ) → c < width → rowOf cells width 0 c ≡ 0
-  pub next : (m : ℕ) → m < i → ToppedRow (λ x. x ≤ limit m) (rowOf cells width m) (at weights m) (at values m) width (rowOf cells width (suc m))
+  pub next : (m : ℕ) → m < i → GreatestRow (λ x. x ≤ limit m) (rowOf cells width m) (at weights m) (at values m) width (rowOf cells width (suc m))
 
 -- kind 3: the one row after the first i labels, any number of each; with none it is 0
 abbrev pub Climbed : List ℕ → List ℕ → ℕ → ℕ → List ℕ → Type 0
 Climbed weights values width i row =
-    LabelByLabel (λ s. (c : ℕ) → c < width → at s c ≡ 0) (λ m s t. ToppedRow AnyCount (at s) (at weights m) (at values m) width (at t)) i row
+    LabelByLabel (λ s. (c : ℕ) → c < width → at s c ≡ 0) (λ m s t. GreatestRow AnyCount (at s) (at weights m) (at values m) width (at t)) i row

@@ -1,5 +1,5 @@
 // Kinds 1 to 3: the table of best values within a budget, and the picks that it leads to.
-// A list comes as numbers or as a part of the job bytes (`handed`), so each has two slices.
+// A list comes as numbers or as a part of the job bytes (`listFrom`), so each has two slices.
 use meaning::Answer;
 ghost use mathlib.Core.Path.{_≡_};
 ghost use mathlib.Core.List.{[], _∷_};
@@ -9,19 +9,19 @@ ghost use Rattle.meaning.specs.Lists.{at};
 ghost use Rattle.meaning.specs.Job.{jobOf, packing, free};
 ghost use Rattle.meaning.specs.Lent.{lentOf};
 ghost use Rattle.meaning.specs.Solved.{Unrefused};
-ghost use Rattle.meaning.specs.Doors.{SolvedInCells};
-ghost use Rattle.numbers.specs.Handed.{handed, jobHanded};
-ghost use Rattle.rows.specs.Rows.{SomeCount, Low};
+ghost use Rattle.meaning.specs.SolvedIn.{SolvedInCells};
+ghost use Rattle.numbers.specs.TwoSlices.{listFrom, jobFrom};
+ghost use Rattle.rows.specs.Rows.{SomeCount, Capped};
 ghost use Rattle.knapsack.specs.Tables.{Bounded, limitOf, rowOf, Filled, Climbed};
-ghost use Rattle.knapsack.specs.Ways.{WayBack, WayAlong};
-ghost use Rattle.knapsack.specs.Doors.{LetIn};
+ghost use Rattle.knapsack.specs.Traces.{TraceBack, TraceAlong};
+ghost use Rattle.knapsack.specs.KnapsackDoor.{LetIn};
 
 // ---- kinds 1 and 2: a row for each label
 
 // How often label i may be picked.
 fn allowed(kind: u32, copies: &[u32], cbytes: &[u8], i: usize) -> u32
-    requires { ⌜ (¬ (kind ≡ 1) → i < length (handed (now copies) (now cbytes))) ⌝ }
-    ensures { λ r. ⌜ r ≡ limitOf kind (handed (now (copies .entry)) (now (cbytes .entry))) i ⌝ }
+    requires { ⌜ (¬ (kind ≡ 1) → i < length (listFrom (now copies) (now cbytes))) ⌝ }
+    ensures { λ r. ⌜ r ≡ limitOf kind (listFrom (now (copies .entry)) (now (cbytes .entry))) i ⌝ }
 {
     if kind == 1 {
         return 1;
@@ -41,10 +41,10 @@ fn fill(
     width: usize,
     cells: &mut [u32],
 )
-    requires { ⌜ Bounded width (handed (now weights) (now wbytes)) (handed (now values) (now vbytes)) ⌝ }
-    requires { ⌜ (¬ (kind ≡ 1) → length (handed (now copies) (now cbytes)) ≡ length (handed (now weights) (now wbytes))) ⌝ }
-    requires { ⌜ (length (handed (now weights) (now wbytes)) + 1) * width ≡ length (now cells) ⌝ }
-    ensures { λ _. ⌜ Filled (handed (now (weights .entry)) (now (wbytes .entry))) (handed (now (values .entry)) (now (vbytes .entry))) (limitOf kind (handed (now (copies .entry)) (now (cbytes .entry)))) width (length (handed (now (weights .entry)) (now (wbytes .entry)))) (now (cells .exit)) ⌝ }
+    requires { ⌜ Bounded width (listFrom (now weights) (now wbytes)) (listFrom (now values) (now vbytes)) ⌝ }
+    requires { ⌜ (¬ (kind ≡ 1) → length (listFrom (now copies) (now cbytes)) ≡ length (listFrom (now weights) (now wbytes))) ⌝ }
+    requires { ⌜ (length (listFrom (now weights) (now wbytes)) + 1) * width ≡ length (now cells) ⌝ }
+    ensures { λ _. ⌜ Filled (listFrom (now (weights .entry)) (now (wbytes .entry))) (listFrom (now (values .entry)) (now (vbytes .entry))) (limitOf kind (listFrom (now (copies .entry)) (now (cbytes .entry)))) width (length (listFrom (now (weights .entry)) (now (wbytes .entry)))) (now (cells .exit)) ⌝ }
 {
     rows::set_all(cells, width, 0);
     let n = numbers::list_length(weights, wbytes);
@@ -61,7 +61,7 @@ fn fill(
 }
 
 // The picks of kinds 1 and 2, on the way back through the rows. Gives what is left of the budget.
-fn way_back(
+fn trace_back(
     weights: &[u32],
     wbytes: &[u8],
     values: &[u32],
@@ -70,10 +70,10 @@ fn way_back(
     cells: &[u32],
     picks: &mut [u32],
 ) -> usize
-    requires { ⌜ Bounded width (handed (now weights) (now wbytes)) (handed (now values) (now vbytes)) ⌝ }
-    requires { ⌜ ((length (handed (now weights) (now wbytes)) + 1) * width ≡ length (now cells)) × (length (handed (now weights) (now wbytes)) ≡ length (now picks)) ⌝ }
-    requires { ⌜ ((i c : ℕ) → i < length (handed (now weights) (now wbytes)) → c < width → SomeCount (rowOf (now cells) width i) (at (handed (now weights) (now wbytes)) i) (at (handed (now values) (now vbytes)) i) c (rowOf (now cells) width (suc i) c)) ⌝ }
-    ensures { λ r. ⌜ WayBack (rowOf (now (cells .entry)) width) (handed (now (weights .entry)) (now (wbytes .entry))) (handed (now (values .entry)) (now (vbytes .entry))) (length (handed (now (weights .entry)) (now (wbytes .entry)))) (width - 1) 0 r (now (picks .exit)) ⌝ }
+    requires { ⌜ Bounded width (listFrom (now weights) (now wbytes)) (listFrom (now values) (now vbytes)) ⌝ }
+    requires { ⌜ ((length (listFrom (now weights) (now wbytes)) + 1) * width ≡ length (now cells)) × (length (listFrom (now weights) (now wbytes)) ≡ length (now picks)) ⌝ }
+    requires { ⌜ ((i c : ℕ) → i < length (listFrom (now weights) (now wbytes)) → c < width → SomeCount (rowOf (now cells) width i) (at (listFrom (now weights) (now wbytes)) i) (at (listFrom (now values) (now vbytes)) i) c (rowOf (now cells) width (suc i) c)) ⌝ }
+    ensures { λ r. ⌜ TraceBack (rowOf (now (cells .entry)) width) (listFrom (now (weights .entry)) (now (wbytes .entry))) (listFrom (now (values .entry)) (now (vbytes .entry))) (length (listFrom (now (weights .entry)) (now (wbytes .entry)))) (width - 1) 0 r (now (picks .exit)) ⌝ }
 {
     let mut i = picks.len();
     let mut c = width - 1;
@@ -94,8 +94,8 @@ fn way_back(
 
 // The row of kind 3, label by label.
 fn fill_row(weights: &[u32], wbytes: &[u8], values: &[u32], vbytes: &[u8], row: &mut [u32])
-    requires { ⌜ Bounded (length (now row)) (handed (now weights) (now wbytes)) (handed (now values) (now vbytes)) ⌝ }
-    ensures { λ _. ⌜ Climbed (handed (now (weights .entry)) (now (wbytes .entry))) (handed (now (values .entry)) (now (vbytes .entry))) (length (now (row .entry))) (length (handed (now (weights .entry)) (now (wbytes .entry)))) (now (row .exit)) ⌝ }
+    requires { ⌜ Bounded (length (now row)) (listFrom (now weights) (now wbytes)) (listFrom (now values) (now vbytes)) ⌝ }
+    ensures { λ _. ⌜ Climbed (listFrom (now (weights .entry)) (now (wbytes .entry))) (listFrom (now (values .entry)) (now (vbytes .entry))) (length (now (row .entry))) (length (listFrom (now (weights .entry)) (now (wbytes .entry)))) (now (row .exit)) ⌝ }
 {
     let width = row.len();
     rows::set_all(row, width, 0);
@@ -104,13 +104,13 @@ fn fill_row(weights: &[u32], wbytes: &[u8], values: &[u32], vbytes: &[u8], row: 
     while i < n {
         let w = numbers::item(weights, wbytes, i);
         let v = numbers::item(values, vbytes, i);
-        rows::raise_up(row, w, v);
+        rows::add_any_number(row, w, v);
         i += 1;
     }
 }
 
 // The picks of kind 3, on the way along the labels. Gives what is left of the budget.
-fn way_along(
+fn trace_along(
     weights: &[u32],
     wbytes: &[u8],
     values: &[u32],
@@ -118,9 +118,9 @@ fn way_along(
     row: &[u32],
     picks: &mut [u32],
 ) -> usize
-    requires { ⌜ Bounded (length (now row)) (handed (now weights) (now wbytes)) (handed (now values) (now vbytes)) ⌝ }
-    requires { ⌜ Low (at (now row)) (length (now row)) × (length (handed (now weights) (now wbytes)) ≡ length (now picks)) ⌝ }
-    ensures { λ r. ⌜ WayAlong (at (now (row .entry))) (handed (now (weights .entry)) (now (wbytes .entry))) (handed (now (values .entry)) (now (vbytes .entry))) (length (now (row .entry)) - 1) r (now (picks .exit)) ⌝ }
+    requires { ⌜ Bounded (length (now row)) (listFrom (now weights) (now wbytes)) (listFrom (now values) (now vbytes)) ⌝ }
+    requires { ⌜ Capped (at (now row)) (length (now row)) × (length (listFrom (now weights) (now wbytes)) ≡ length (now picks)) ⌝ }
+    ensures { λ r. ⌜ TraceAlong (at (now (row .entry))) (listFrom (now (weights .entry)) (now (wbytes .entry))) (listFrom (now (values .entry)) (now (vbytes .entry))) (length (now (row .entry)) - 1) r (now (picks .exit)) ⌝ }
 {
     let n = picks.len();
     rows::set_all(picks, n, 0);
@@ -154,9 +154,9 @@ fn full_table(
     cells: &mut [u32],
     picks: &mut [u32],
 ) -> Answer
-    requires { ⌜ LetIn (jobHanded kind budget (now weights) (now wbytes) (now values) (now vbytes) (now copies) (now cbytes)) (now cells) (now picks) ⌝ }
+    requires { ⌜ LetIn (jobFrom kind (budget ∷ []) (now weights) (now wbytes) (now values) (now vbytes) (now copies) (now cbytes)) (now cells) (now picks) ⌝ }
     requires { ⌜ kind < 3 ⌝ }
-    ensures { λ r. ⌜ SolvedInCells (jobHanded kind budget (now (weights .entry)) (now (wbytes .entry)) (now (values .entry)) (now (vbytes .entry)) (now (copies .entry)) (now (cbytes .entry))) (now (cells .entry)) (now (picks .entry)) r (now (cells .exit)) (now (picks .exit)) ⌝ }
+    ensures { λ r. ⌜ SolvedInCells (jobFrom kind (budget ∷ []) (now (weights .entry)) (now (wbytes .entry)) (now (values .entry)) (now (vbytes .entry)) (now (copies .entry)) (now (cbytes .entry))) (now (cells .entry)) (now (picks .entry)) r (now (cells .exit)) (now (picks .exit)) ⌝ }
 {
     let n = numbers::list_length(weights, wbytes);
     let width = budget as usize + 1;
@@ -172,7 +172,7 @@ fn full_table(
         width,
         &mut cells[..needed],
     );
-    let left = way_back(
+    let left = trace_back(
         weights,
         wbytes,
         values,
@@ -197,13 +197,13 @@ fn one_row(
     cells: &mut [u32],
     picks: &mut [u32],
 ) -> Answer
-    requires { ⌜ Unrefused (packing free) (jobOf 3 (budget ∷ []) (handed (now weights) (now wbytes)) (handed (now values) (now vbytes)) []) (lentOf (now cells) [] (now picks)) ⌝ }
-    ensures { λ r. ⌜ SolvedInCells (jobOf 3 (budget ∷ []) (handed (now (weights .entry)) (now (wbytes .entry))) (handed (now (values .entry)) (now (vbytes .entry))) []) (now (cells .entry)) (now (picks .entry)) r (now (cells .exit)) (now (picks .exit)) ⌝ }
+    requires { ⌜ Unrefused (packing free) (jobOf 3 (budget ∷ []) (listFrom (now weights) (now wbytes)) (listFrom (now values) (now vbytes)) []) (lentOf (now cells) [] (now picks)) ⌝ }
+    ensures { λ r. ⌜ SolvedInCells (jobOf 3 (budget ∷ []) (listFrom (now (weights .entry)) (now (wbytes .entry))) (listFrom (now (values .entry)) (now (vbytes .entry))) []) (now (cells .entry)) (now (picks .entry)) r (now (cells .exit)) (now (picks .exit)) ⌝ }
 {
     let n = numbers::list_length(weights, wbytes);
     let width = budget as usize + 1;
     fill_row(weights, wbytes, values, vbytes, &mut cells[..width]);
-    let left = way_along(
+    let left = trace_along(
         weights,
         wbytes,
         values,
@@ -230,8 +230,8 @@ pub fn solve(
     cells: &mut [u32],
     picks: &mut [u32],
 ) -> Answer
-    requires { ⌜ LetIn (jobHanded kind budget (now weights) (now wbytes) (now values) (now vbytes) (now copies) (now cbytes)) (now cells) (now picks) ⌝ }
-    ensures { λ r. ⌜ SolvedInCells (jobHanded kind budget (now (weights .entry)) (now (wbytes .entry)) (now (values .entry)) (now (vbytes .entry)) (now (copies .entry)) (now (cbytes .entry))) (now (cells .entry)) (now (picks .entry)) r (now (cells .exit)) (now (picks .exit)) ⌝ }
+    requires { ⌜ LetIn (jobFrom kind (budget ∷ []) (now weights) (now wbytes) (now values) (now vbytes) (now copies) (now cbytes)) (now cells) (now picks) ⌝ }
+    ensures { λ r. ⌜ SolvedInCells (jobFrom kind (budget ∷ []) (now (weights .entry)) (now (wbytes .entry)) (now (values .entry)) (now (vbytes .entry)) (now (copies .entry)) (now (cbytes .entry))) (now (cells .entry)) (now (picks .entry)) r (now (cells .exit)) (now (picks .exit)) ⌝ }
 {
     if kind == 3 {
         return one_row(budget, weights, wbytes, values, vbytes, cells, picks);

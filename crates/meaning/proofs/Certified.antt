@@ -14,18 +14,18 @@ use borrow.Author.Tests.{eq-eqb, eqb-true, le-ltb, ltb-false, lt-ltb, not-false}
 use Rattle.meaning.specs.declared.Verdict.{Verdict}
 use Rattle.meaning.specs.declared.Verdict.the-variants.{Accepted}
 use Rattle.meaning.specs.Lists.{at, every, total}
-use Rattle.meaning.specs.Job.{Job, Sort, packing, labels, once}
+use Rattle.meaning.specs.Job.{Job, Knapsack, packing, labels, once}
 use Rattle.meaning.specs.Lent.{cellCount}
 use Rattle.meaning.specs.Refusals.{rulesOf}
 use Rattle.meaning.specs.Bytes.{JobRead, bytesOf, bytesOfAll, readJob, readable, sectionBytes, unreadable}
 use Rattle.meaning.specs.Knapsacks.{Best, Fits, FullTable, cellNumber}
-use Rattle.meaning.specs.Answers.{judgedOf}
-use Rattle.meaning.specs.Certificates.{certifiedRefusal, cellAt, lowCell, misvalued, mostPicks, overPicked, overweight, tooLow, verdictOf, verdictOnJob, certifiedAs, certifiedSort, Checked}
+use Rattle.meaning.specs.Answers.{verdictNumbers}
+use Rattle.meaning.specs.Certificates.{certifiedRefusal, cellAt, lowCell, misvalued, mostPicks, overPicked, overweight, tooLow, verdictOf, verdictOnJob, certifiedAs, certifiedKnapsack, Checked}
 use Rattle.meaning.specs.Demands.{AcceptedWith, Accepts, BestList, Demand3, Sound, ValidJob, areBytes, listIn}
 use Rattle.meaning.proofs.Totals.{total-part}
 use Rattle.meaning.proofs.CellNumbers.{RowAndBudget, CellOf, row-and-budget, cell-of}
 use Rattle.meaning.proofs.OneOfEach.{best-value-unique}
-use Rattle.meaning.proofs.Unique.{judged-unique}
+use Rattle.meaning.proofs.Unique.{verdict-numbers-unique}
 use Rattle.meaning.proofs.Sections.{All32, limit32}
 use Rattle.meaning.proofs.Valid.{is-valid, Passed, Valid, cells-32, labels-32, has-passed}
 use Rattle.meaning.proofs.Covering.{CountsShown, covered, exact-keeps, once-shown}
@@ -35,38 +35,38 @@ use Rattle.meaning.proofs.Verdicts.{ReadAndSeen, Seen, accepts-seen, fi
 -- ---- a job that a certificate may be for
 
 -- the one knapsack that has certificates
-pub certified-once : (n : ℕ) (k : Sort) → certifiedSort n ≡ some k → (n ≡ 1) × (k ≡ once)
-unfolding certifiedSort
+pub certified-once : (n : ℕ) (k : Knapsack) → certifiedKnapsack n ≡ some k → (n ≡ 1) × (k ≡ once)
+unfolding certifiedKnapsack
 certified-once zero k e = let z : _≡_ {A = ℕ} 0 1 = cc in absurd (omega arith)
 certified-once (suc zero) k e = (refl, sym (Option·some-injective once k e))
 certified-once (suc (suc n)) k e = let z : _≡_ {A = ℕ} 0 1 = cc in absurd (omega arith)
 
 -- a kind that has certificates allows the counts that a certificate may show
-pub counts-shown : (j : Job) (k : Sort) → certifiedSort (j .kind-number) ≡ some k → CountsShown k j
-counts-shown j k e = subst (λ (s : Sort). CountsShown s j) (sym (certified-once (j .kind-number) k e .1)) (once-shown j)
+pub counts-shown : (j : Job) (k : Knapsack) → certifiedKnapsack (j .kind-number) ≡ some k → CountsShown k j
+counts-shown j k e = subst (λ (s : Knapsack). CountsShown s j) (sym (certified-once (j .kind-number) k e .1)) (once-shown j)
 
 -- not refused with 2 to 5: it is of a kind that has certificates, and keeps its rules
 pub record MayCertify (j : Job) (later : ℕ) : Type 0 where
-  pub sort : Sort
-  pub of-sort : certifiedSort (j .kind-number) ≡ some sort
-  pub keeps : Passed (rulesOf (packing sort)) j later
+  pub knapsack : Knapsack
+  pub of-knapsack : certifiedKnapsack (j .kind-number) ≡ some knapsack
+  pub keeps : Passed (rulesOf (packing knapsack)) j later
 
 pub may-certify : (j : Job) (later : ℕ) → certifiedRefusal j later ≡ 0 → MayCertify j later
 unfolding certifiedRefusal certifiedAs
-may-certify j later e = go (certifiedSort (j .kind-number)) refl e
+may-certify j later e = go (certifiedKnapsack (j .kind-number)) refl e
   where
-    go : (o : Option Sort) → certifiedSort (j .kind-number) ≡ o → certifiedAs o j later ≡ 0 → MayCertify j later
+    go : (o : Option Knapsack) → certifiedKnapsack (j .kind-number) ≡ o → certifiedAs o j later ≡ 0 → MayCertify j later
     go none f h = absurd (omega arith)
-    go (some k) f h = record { sort = k; of-sort = f; keeps = has-passed (rulesOf (packing k)) j later h }
+    go (some k) f h = record { knapsack = k; of-knapsack = f; keeps = has-passed (rulesOf (packing k)) j later h }
 
 -- a job of such a kind that is not refused is valid
-pub certified-valid : (j : Job) (k : Sort) → certifiedSort (j .kind-number) ≡ some k → certifiedRefusal j 0 ≡ 0 → Valid k j
+pub certified-valid : (j : Job) (k : Knapsack) → certifiedKnapsack (j .kind-number) ≡ some k → certifiedRefusal j 0 ≡ 0 → Valid k j
 unfolding certifiedRefusal certifiedAs
-certified-valid j k e h = is-valid k j 0 (has-passed (rulesOf (packing k)) j 0 (ap (λ (o : Option Sort). certifiedAs o j 0) (sym e) ∙ h))
+certified-valid j k e h = is-valid k j 0 (has-passed (rulesOf (packing k)) j 0 (ap (λ (o : Option Knapsack). certifiedAs o j 0) (sym e) ∙ h))
 
 -- ---- accepted picks are best, and best picks with exact cells are accepted, once over the allowed counts
 
-module _ (k : Sort) (j : Job) (shown : CountsShown k j) (picks cells : List ℕ) where
+module _ (k : Knapsack) (j : Job) (shown : CountsShown k j) (picks cells : List ℕ) where
   -- rule 14 at cell m
   abbrev lowAt : ℕ → Bool
   lowAt m = tooLow j cells (m / (j .budget + 1)) (m % (j .budget + 1))
@@ -107,7 +107,7 @@ module _ (k : Sort) (j : Job) (shown : CountsShown k j) (picks cells : List ℕ)
       }
 
 -- best picks fit 32 bits
-pub picks-32 : (k : Sort) (j : Job) → CountsShown k j → (picks : List ℕ) → Best k j (labels j) (j .budget) picks → All32 picks
+pub picks-32 : (k : Knapsack) (j : Job) → CountsShown k j → (picks : List ℕ) → Best k j (labels j) (j .budget) picks → All32 picks
 unfolding All32
 picks-32 k j shown picks best m h =
     let m′ : m < labels j = omega (arith, best .fits .selection .one-each) in
@@ -116,13 +116,13 @@ picks-32 k j shown picks best m h =
 -- ---- written as bytes
 
 -- the certificate of best picks and exact cells is accepted for a valid job
-pub accepted-written : (j : Job) (k : Sort) (picks cells : List ℕ) → certifiedSort (j .kind-number) ≡ some k → certifiedRefusal j 0 ≡ 0
+pub accepted-written : (j : Job) (k : Knapsack) (picks cells : List ℕ) → certifiedKnapsack (j .kind-number) ≡ some k → certifiedRefusal j 0 ≡ 0
     → BestList k j picks → length cells ≡ cellCount j → FullTable k j cells
     → verdictOnJob (readable j) (sectionBytes picks ++ sectionBytes cells) ≡ Accepted (total (j .values) picks)
 unfolding BestList
-accepted-written j k picks cells of-sort ok best long table =
-    let v : Valid k j = certified-valid j k of-sort ok in
-    let shown : CountsShown k j = counts-shown j k of-sort in
+accepted-written j k picks cells of-knapsack ok best long table =
+    let v : Valid k j = certified-valid j k of-knapsack ok in
+    let shown : CountsShown k j = counts-shown j k of-knapsack in
     readable-on j (sectionBytes picks ++ sectionBytes cells) ok
     ∙ verdict-written j picks cells (best .fits .selection .one-each) long (labels-32 k j v) (cells-32 k j v)
     (picks-32 k j shown picks best) (table-32 k j v cells long table)
@@ -158,11 +158,11 @@ section-are-bytes ns = bytes-append (bytesOf (length ns)) (bytesOfAll ns) (numbe
 -- what the checker promises is one verdict
 pub verdict-is : (jobB certB : List ℕ) (v : Verdict) → Checked jobB certB v → verdictOf jobB certB ≡ v
 unfolding Checked
-verdict-is jobB certB v checked = judged-unique (verdictOf jobB certB) v (sym checked)
+verdict-is jobB certB v checked = verdict-numbers-unique (verdictOf jobB certB) v (sym checked)
 
 pub accepted-with : (jobB certB : List ℕ) (v : ℕ) → verdictOf jobB certB ≡ Accepted v → AcceptedWith Checked jobB certB v
 unfolding Checked
-accepted-with jobB certB v e = record { verdict = ap judgedOf (sym e); no-other = λ w checked. sym (verdict-is jobB certB w checked) ∙ e }
+accepted-with jobB certB v e = record { verdict = ap verdictNumbers (sym e); no-other = λ w checked. sym (verdict-is jobB certB w checked) ∙ e }
 
 -- first half: accepted means that nothing within budget is worth more
 accepted-best : (jobB certB : List ℕ) (v : ℕ) → verdictOf jobB certB ≡ Accepted v → Sound jobB certB v
@@ -177,18 +177,18 @@ accepted-best jobB certB v e = go (readJob jobB) refl
         let m : MayCertify j 0 = may-certify j 0 ok in
         record {
           job = j;
-          valid-job = record { reads = f; sort = m .sort; of-sort = m .of-sort; not-refused = ok };
-          best = seen-best (m .sort) j (counts-shown j (m .sort) (m .of-sort)) (listIn certB) (s .cells) v (s .long) (s .judged);
+          valid-job = record { reads = f; knapsack = m .knapsack; of-knapsack = m .of-knapsack; not-refused = ok };
+          best = seen-best (m .knapsack) j (counts-shown j (m .knapsack) (m .of-knapsack)) (listIn certB) (s .cells) v (s .long) (s .judged);
           value = s .judged .value;
         }
 
 -- second half: for a valid job and any list, some certificate with that list is accepted exactly when the list is allowed, fits and is best
 module _ (jobB : List ℕ) (j : Job) (job-ok : ValidJob jobB j) (p : List ℕ) where
-  abbrev k : Sort
-  k = job-ok .sort
+  abbrev k : Knapsack
+  k = job-ok .knapsack
 
   shown-here : CountsShown k j
-  shown-here = counts-shown j k (job-ok .of-sort)
+  shown-here = counts-shown j k (job-ok .of-knapsack)
 
   on-job : (certB : List ℕ) → verdictOf jobB certB ≡ verdictOnJob (readable j) certB
   unfolding verdictOf
@@ -206,7 +206,7 @@ module _ (jobB : List ℕ) (j : Job) (job-ok : ValidJob jobB j) (p : List ℕ) w
   unfolding BestList
   whenever best =
       let cells : List ℕ = fullCells k j shown-here in
-      let v : Valid k j = certified-valid j k (job-ok .of-sort) (job-ok .not-refused) in
+      let v : Valid k j = certified-valid j k (job-ok .of-knapsack) (job-ok .not-refused) in
       let few : length p < limit32 = subst (λ (n : ℕ). n < limit32) (sym (best .fits .selection .one-each)) (labels-32 k j v) in
       record {
         certB = sectionBytes p ++ sectionBytes cells;
@@ -216,7 +216,7 @@ module _ (jobB : List ℕ) (j : Job) (job-ok : ValidJob jobB j) (p : List ℕ) w
         accepted =
             accepted-with jobB (sectionBytes p ++ sectionBytes cells) (total (j .values) p)
             (on-job (sectionBytes p ++ sectionBytes cells)
-            ∙ accepted-written j k p cells (job-ok .of-sort) (job-ok .not-refused) best (full-long k j shown-here) (full-table k j shown-here));
+            ∙ accepted-written j k p cells (job-ok .of-knapsack) (job-ok .not-refused) best (full-long k j shown-here) (full-table k j shown-here));
       }
 
 -- the checker's promise meets both

@@ -22,7 +22,7 @@ use Rattle.meaning.specs.Bytes.{jobBytes, readJob, readable, sectionByte
 use Rattle.meaning.specs.Knapsacks.{BestPicks}
 use Rattle.meaning.specs.Blocks.{Laid}
 use Rattle.meaning.specs.Shares.{sharesOf}
-use Rattle.meaning.specs.Answers.{is-blocks, is-knapsack, is-refusal, is-shares, is-sums, is-ways, judgedOf, saidOf, wroteOf}
+use Rattle.meaning.specs.Answers.{is-blocks, is-knapsack, is-refusal, is-shares, is-sums, is-ways, verdictNumbers, answerNumbers, writtenNumbers}
 use Rattle.meaning.specs.Solved.{waysAnswer}
 use Rattle.meaning.specs.Certificates.{verdictOf}
 use Rattle.meaning.specs.Host.{firstNumber, refusalNumber, secondNumber, valueOrPlace}
@@ -205,7 +205,7 @@ refusal-9 = refl
 
 -- ---- the numbers of each answer: 0 in every number that its case hasn't got
 
-answer-numbers : Computes saidOf (
+answer-numbers : Computes answerNumbers (
     Says.Refused 5 gives record { case = is-refusal; refusal = 5; value = 0; weight = 0; yes = 0; totals = 0; blocks = 0; ways = 0; spare = 0 }
     ∷ Says.Knapsack 9 7 gives record { case = is-knapsack; refusal = 0; value = 9; weight = 7; yes = 0; totals = 0; blocks = 0; ways = 0; spare = 0 }
     ∷ Says.Sums true 4 gives record { case = is-sums; refusal = 0; value = 0; weight = 0; yes = 1; totals = 4; blocks = 0; ways = 0; spare = 0 }
@@ -218,7 +218,7 @@ answer-numbers : Computes saidOf (
 unfolding opens
 answer-numbers = refl
 
-verdict-numbers : Computes judgedOf (
+verdict-numbers : Computes verdictNumbers (
     Accepted 3 gives record { accepts = true; refusal = 0; value = 3; place = 0 }
     ∷ Refused 14 5 gives record { accepts = false; refusal = 14; value = 0; place = 5 }
     ∷ []
@@ -226,7 +226,7 @@ verdict-numbers : Computes judgedOf (
 unfolding opens
 verdict-numbers = refl
 
-report-numbers : Computes wroteOf (
+report-numbers : Computes writtenNumbers (
     Reports.Bytes 12 gives record { done = true; refusal = 0; bytes = 12 }
     ∷ Reports.Refused 6 gives record { done = false; refusal = 6; bytes = 0 }
     ∷ []
@@ -245,7 +245,7 @@ second-entry = refl
 
 -- the planner's entry: the first and the second number of each answer
 abbrev first-said : Answer → ℕ
-first-said a = firstNumber (saidOf a)
+first-said a = firstNumber (answerNumbers a)
 
 first-numbers : Computes first-said (
     Says.Refused 5 gives 0
@@ -261,7 +261,7 @@ unfolding opens firstNumber
 first-numbers = refl
 
 abbrev second-said : Answer → ℕ
-second-said a = secondNumber (saidOf a)
+second-said a = secondNumber (answerNumbers a)
 
 second-numbers : Computes second-said (
     Says.Refused 5 gives 0

@@ -10,7 +10,7 @@ use mathlib.Core.List.{List, [], _++_, _∷_}
 use lib.Dec.{T, leb, leb·zero, lit<, ltb, not-T}
 use mir.Facts.{and-no, and-yes, clash, leb-no, leb-yes, ltb-absurd, ltb-no, or-no}
 use Rattle.meaning.specs.Lists.{at, total}
-use Rattle.meaning.specs.Job.{Job, Sort, labels, once}
+use Rattle.meaning.specs.Job.{Job, Knapsack, labels, once}
 use Rattle.meaning.specs.Knapsacks.{Best, BestValue, Fits, FullTable, MayPick}
 use Rattle.meaning.specs.Certificates.{belowWith, cellAt, mostPicks, someCount, tooLow}
 use Rattle.meaning.proofs.Tests.{up-to}
@@ -66,7 +66,7 @@ module _ (j : Job) (cells : List ℕ) (i c x : ℕ) where
 -- ---- over the allowed counts
 
 -- the counts that a kind allows, and that weigh no more than C, are from 0 to the most that a certificate may show
-pub record CountsShown (k : Sort) (j : Job) : Type 0 where
+pub record CountsShown (k : Knapsack) (j : Job) : Type 0 where
   pub within : (i x : ℕ) → MayPick k (at (j .copies) i) x → at (j .weights) i * x ≤ j .budget → x ≤ mostPicks j i
   pub allowed : (i x : ℕ) → x ≤ mostPicks j i → MayPick k (at (j .copies) i) x
   pub narrow : (i : ℕ) → mostPicks j i < limit32
@@ -76,7 +76,7 @@ pub once-shown : (j : Job) → CountsShown once j
 unfolding MayPick mostPicks
 once-shown j = record { within = λ i x h light. h; allowed = λ i x h. h; narrow = λ i. lit< tt }
 
-module _ (k : Sort) (j : Job) (shown : CountsShown k j) (cells : List ℕ) where
+module _ (k : Knapsack) (j : Job) (shown : CountsShown k j) (cells : List ℕ) where
   -- K(i,c) is no less than the value of any selection of the first i labels that fits c
   module _ (rule : (i c : ℕ) → i < labels j → c ≤ j .budget → T (not (tooLow j cells (suc i) c))) where
     covers : (i c : ℕ) → i ≤ labels j → c ≤ j .budget → (q : List ℕ) → Fits k j i c q → total (j .values) q ≤ cellAt j cells i c

@@ -16,7 +16,7 @@ use Rattle.meaning.specs.declared.Section.the-variants.{Part, Broken}
 use Rattle.meaning.specs.Lists.{if}
 use Rattle.meaning.specs.Job.{Job}
 use Rattle.meaning.specs.Bytes.{JobRead, atEnd, readJob, readable, unreadable, withSection}
-use Rattle.meaning.specs.Answers.{judgedOf}
+use Rattle.meaning.specs.Answers.{verdictNumbers}
 use Rattle.meaning.specs.Certificates.{Checked, certificateBroken, certifiedRefusal, unlessFound, unlessRefused, verdictOf, verdictOnCells, verdictOnCertificate, verdictOnJob}
 use Rattle.meaning.specs.Host.{refusalNumber, valueOrPlace}
 
@@ -72,8 +72,8 @@ pub record AcceptedBy (jobB certB : List ℕ) : Type 0 where
   pub given : valueOrPlace (verdictOf jobB certB) ≡ value
 
 by-numbers : (jobB certB : List ℕ) (v : Verdict) → Numbered v → verdictOf jobB certB ≡ v → refusalNumber v ≡ 0 → AcceptedBy jobB certB
-unfolding Checked refusalNumber valueOrPlace judgedOf
-by-numbers jobB certB _ (accepts v) e h = record { value = v; accepted = ap judgedOf (sym e); given = ap valueOrPlace e ∙ add-zero v }
+unfolding Checked refusalNumber valueOrPlace verdictNumbers
+by-numbers jobB certB _ (accepts v) e h = record { value = v; accepted = ap verdictNumbers (sym e); given = ap valueOrPlace e ∙ add-zero v }
 by-numbers jobB certB _ (refuses r place) e h = absurd (omega arith)
 
 pub zero-is-accepted : (jobB certB : List ℕ) → refusalNumber (verdictOf jobB certB) ≡ 0 → AcceptedBy jobB certB

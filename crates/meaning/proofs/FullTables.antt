@@ -8,7 +8,7 @@ use native.Mathlib.Omega.{arith}
 use mathlib.Core.List.{List, map}
 use lib.ListN.{length}
 use Rattle.meaning.specs.Lists.{at, upTo}
-use Rattle.meaning.specs.Job.{Job, Sort}
+use Rattle.meaning.specs.Job.{Job, Knapsack}
 use Rattle.meaning.specs.Lent.{cellCount}
 use Rattle.meaning.specs.Knapsacks.{BestValue, FullTable, cellNumber}
 use Rattle.meaning.specs.Certificates.{mostPicks}
@@ -33,7 +33,7 @@ greatest-of f dec (suc n) t =
       ]
     ]
 
-module _ (k : Sort) (j : Job) (shown : CountsShown k j) where
+module _ (k : Knapsack) (j : Job) (shown : CountsShown k j) where
   -- the best value of one label more, from those of the labels before it
   next-best : (i c : ℕ) → c ≤ j .budget → ((c′ : ℕ) → c′ ≤ j .budget → (v : ℕ) × BestValue k j i c′ v) → (b : ℕ) × BestValue k j (suc i) c b
   next-best i c hc before =
@@ -78,7 +78,7 @@ module _ (k : Sort) (j : Job) (shown : CountsShown k j) where
       (subst (λ (x : ℕ). BestValue k j x (m % (j .budget + 1)) (bestAt m)) (here .row) (best-of (m / (j .budget + 1)) (m % (j .budget + 1)) (column-within m) .1)))
 
 -- the cells of a full table fit 32 bits
-pub table-32 : (k : Sort) (j : Job) → Valid k j → (cells : List ℕ) → length cells ≡ cellCount j → FullTable k j cells → All32 cells
+pub table-32 : (k : Knapsack) (j : Job) → Valid k j → (cells : List ℕ) → length cells ≡ cellCount j → FullTable k j cells → All32 cells
 unfolding FullTable All32
 table-32 k j ok cells long table m h =
     let here : RowAndBudget j m = row-and-budget j m (subst (λ (n : ℕ). m < n) long h) in

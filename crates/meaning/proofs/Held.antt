@@ -13,14 +13,14 @@ use Rattle.meaning.specs.declared.Answer.{Answer}
 use Rattle.meaning.specs.declared.Answer.the-variants as Says
 use Rattle.meaning.specs.Lists.{at, if, sum, total}
 use Rattle.meaning.specs.Slices.{Holds}
-use Rattle.meaning.specs.Job.{Job, Kind, Sort, block-ways, fewest-blocks, free, labels, limited, once, packing, sharing, subset-sums}
+use Rattle.meaning.specs.Job.{Job, Kind, Knapsack, block-ways, fewest-blocks, free, labels, limited, once, packing, sharing, subset-sums}
 use Rattle.meaning.specs.Lent.{Lent}
 use Rattle.meaning.specs.Bytes.{jobBytes, readJob, readable}
 use Rattle.meaning.specs.Knapsacks.{BestPicks, Fits, FullTable, ValueTable}
 use Rattle.meaning.specs.Sums.{TotalCount}
 use Rattle.meaning.specs.Blocks.{Makes, WaysFor, tooMany}
 use Rattle.meaning.specs.Shares.{spareOf}
-use Rattle.meaning.specs.Answers.{Said, Which, is-blocks, is-knapsack, is-refusal, is-shares, is-sums, is-ways, saidOf}
+use Rattle.meaning.specs.Answers.{AnswerNumbers, Which, is-blocks, is-knapsack, is-refusal, is-shares, is-sums, is-ways, answerNumbers}
 use Rattle.meaning.specs.Solved.{Built, Gives, Solved, SolvedBytes, TableHolds, Unrefused, a-sum, no-such-sum, waysAnswer}
 use Rattle.meaning.specs.Trials.{AllGo, Goes, Trial, _and_, done, solve, trials}
 use Rattle.meaning.proofs.OneOfEach.{best-value-unique}
@@ -50,28 +50,28 @@ refusals is-ways = 0
 refusals is-shares = 0
 
 -- no other case says what a refusal says
-pub not-said : (r : ℕ) (a : Answer) → refusals (saidOf a .case) ≡ 0 → ¬ (saidOf (Says.Refused r) ≡ saidOf a)
-unfolding saidOf refusals
-not-said r a other e = let z : 1 ≡ refusals (saidOf a .case) = ap (λ (s : Said). refusals (s .case)) e in omega arith
+pub not-said : (r : ℕ) (a : Answer) → refusals (answerNumbers a .case) ≡ 0 → ¬ (answerNumbers (Says.Refused r) ≡ answerNumbers a)
+unfolding answerNumbers refusals
+not-said r a other e = let z : 1 ≡ refusals (answerNumbers a .case) = ap (λ (s : AnswerNumbers). refusals (s .case)) e in omega arith
 
 late-ways : (j : Job) (w r : ℕ) → WaysFor j (labels j) (j .budget) w → (b : Bool) → ltb w tooMany ≡ b
-    → saidOf (Says.Refused r) ≡ saidOf (if b (Says.Ways w) (Says.Refused 8)) → Late block-ways j r
-unfolding if Late saidOf refusals
+    → answerNumbers (Says.Refused r) ≡ answerNumbers (if b (Says.Ways w) (Says.Refused 8)) → Late block-ways j r
+unfolding if Late answerNumbers refusals
 late-ways j w r ways true h e = absurd (not-said r (Says.Ways w) refl e)
-late-ways j w r ways false h e = (ap (λ (s : Said). s .refusal) e, (w, ways, omega (arith, ltb-false, h)))
+late-ways j w r ways false h e = (ap (λ (s : AnswerNumbers). s .refusal) e, (w, ways, omega (arith, ltb-false, h)))
 
-late : (k : Kind) (j : Job) (r : ℕ) (p : List ℕ) → Gives k j (saidOf (Says.Refused r)) p → Late k j r
-unfolding Gives Built waysAnswer Late saidOf refusals
+late : (k : Kind) (j : Job) (r : ℕ) (p : List ℕ) → Gives k j (answerNumbers (Says.Refused r)) p → Late k j r
+unfolding Gives Built waysAnswer Late answerNumbers refusals
 late (packing s) j r p g = not-said r (Says.Knapsack (total (j .values) p) (total (j .weights) p)) refl (g .numbers)
 late subset-sums j r p g = not-said r (Says.Sums (g .yes) (g .totals)) refl (g .numbers)
 late fewest-blocks j r p (a-sum makes laid e) = absurd (not-said r (Says.Blocks (sum p)) refl e)
-late fewest-blocks j r p (no-such-sum none e written) = (ap (λ (s : Said). s .refusal) e, none)
+late fewest-blocks j r p (no-such-sum none e written) = (ap (λ (s : AnswerNumbers). s .refusal) e, none)
 late block-ways j r p g = late-ways j (g .ways) r (g .how-many) (ltb (g .ways) tooMany) refl (g .numbers)
 late sharing j r p g = not-said r (Says.Shares (spareOf j)) refl (g .numbers)
 
-same-ways : (n w : ℕ) (b : Bool) → saidOf (Says.Ways n) ≡ saidOf (if b (Says.Ways w) (Says.Refused 8)) → n ≡ w
-unfolding if saidOf refusals
-same-ways n w true e = ap (λ (s : Said). s .ways) e
+same-ways : (n w : ℕ) (b : Bool) → answerNumbers (Says.Ways n) ≡ answerNumbers (if b (Says.Ways w) (Says.Refused 8)) → n ≡ w
+unfolding if answerNumbers refusals
+same-ways n w true e = ap (λ (s : AnswerNumbers). s .ways) e
 same-ways n w false e = absurd (not-said 8 (Says.Ways n) refl (sym e))
 
 -- ---- what an answer is held to, for every job that isn't refused
@@ -81,19 +81,19 @@ module _ (j : Job) (before after : Lent) where
   refused-only k r ok h = late k j r _ (unrefused-answered k j before after (Says.Refused r) ok h .gives)
 
   -- demand 2's maximum
-  pub nothing-worth-more : (k : Sort) (v w : ℕ) → Unrefused (packing k) j before → Solved j before (Says.Knapsack v w) after
+  pub nothing-worth-more : (k : Knapsack) (v w : ℕ) → Unrefused (packing k) j before → Solved j before (Says.Knapsack v w) after
       → (q : List ℕ) → Fits k j (labels j) (j .budget) q → total (j .values) q ≤ v
-  unfolding Gives BestPicks saidOf
+  unfolding Gives BestPicks answerNumbers
   nothing-worth-more k v w ok h q fits =
       let x = unrefused-answered (packing k) j before after (Says.Knapsack v w) ok h in
-      let value : v ≡ total (j .values) (x .content .picks) = ap (λ (s : Said). s .value) (x .gives .numbers) in
+      let value : v ≡ total (j .values) (x .content .picks) = ap (λ (s : AnswerNumbers). s .value) (x .gives .numbers) in
       rw value (x .gives .picked .one-of .greatest q fits)
 
   pub totals-counted : (can : Bool) (n : ℕ) → Unrefused subset-sums j before → Solved j before (Says.Sums can n) after → TotalCount j n
-  unfolding Gives saidOf
+  unfolding Gives answerNumbers
   totals-counted can n ok h =
       let g = unrefused-answered subset-sums j before after (Says.Sums can n) ok h .gives in
-      let same : n ≡ g .totals = ap (λ (s : Said). s .totals) (g .numbers) in
+      let same : n ≡ g .totals = ap (λ (s : AnswerNumbers). s .totals) (g .numbers) in
       rw same (g .how-many)
 
   pub ways-counted : (n : ℕ) → Unrefused block-ways j before → Solved j before (Says.Ways n) after → WaysFor j (labels j) (j .budget) n
@@ -104,8 +104,8 @@ module _ (j : Job) (before after : Lent) where
       rw same (g .how-many)
 
   pub spare-left : (n : ℕ) → Unrefused sharing j before → Solved j before (Says.Shares n) after → n ≡ spareOf j
-  unfolding Gives saidOf
-  spare-left n ok h = ap (λ (s : Said). s .spare) (unrefused-answered sharing j before after (Says.Shares n) ok h .gives .numbers)
+  unfolding Gives answerNumbers
+  spare-left n ok h = ap (λ (s : AnswerNumbers). s .spare) (unrefused-answered sharing j before after (Says.Shares n) ok h .gives .numbers)
 
 -- ---- whoever solves a proved trial answers what it says, and writes its picks
 
@@ -114,7 +114,7 @@ pub trial-says : (j : Job) (a : Answer) (p : List ℕ) → Goes (solve j a p) �
 unfolding Goes
 trial-says j a p (k′, m) k before after a′ ok h =
     let same : k ≡ k′ = Option·some-injective k k′ (sym (ok .of-kind) ∙ m .unrefused .of-kind) in
-    solved-says k j before after a′ a p ok (subst (λ (x : Kind). Gives x j (saidOf a) p) (sym same) (m .answer)) h
+    solved-says k j before after a′ a p ok (subst (λ (x : Kind). Gives x j (answerNumbers a) p) (sym same) (m .answer)) h
 
 -- the trial at a place of a list of them all
 unfoldable GoesAt : List Trial → ℕ → Type 0

@@ -16,10 +16,10 @@ use Rattle.meaning.specs.Job.{Job, Kind, once, limited, free, packing, s
 use Rattle.meaning.specs.Lent.{Lent, roomFor}
 use Rattle.meaning.specs.Refusals.{kindRefusal}
 use Rattle.meaning.specs.Bytes.{readJob, readable, unreadable}
-use Rattle.meaning.specs.Answers.{saidOf}
+use Rattle.meaning.specs.Answers.{answerNumbers}
 use Rattle.meaning.specs.Solved.{Unrefused, Answered, Gives, Outcome, Solved, SolvedAs, SolvedBytes, SolvedRead, TableHolds, TurnedDown, SolvedLists}
 use Rattle.meaning.proofs.OneOfEach.{table-unique}
-use Rattle.meaning.proofs.Unique.{gives-unique, no-influence, said-unique}
+use Rattle.meaning.proofs.Unique.{gives-unique, no-influence, answer-numbers-unique}
 
 -- ---- a lent slice
 
@@ -66,7 +66,7 @@ kind-number (suc (suc (suc (suc (suc (suc (suc zero))))))) k e = let same : shar
 kind-number (suc (suc (suc (suc (suc (suc (suc (suc m)))))))) k e = let z : _≡_ {A = ℕ} 0 1 = cc in absurd (omega arith)
 
 -- a refusal leaves the slices as they were
-pub turned-down : (r : ℕ) (before : Lent) → TurnedDown r before (saidOf (Says.Refused r)) before
+pub turned-down : (r : ℕ) (before : Lent) → TurnedDown r before (answerNumbers (Says.Refused r)) before
 turned-down r before = record { numbers = refl; nothing-written = refl }
 
 -- a job of no kind is refused with 2
@@ -77,14 +77,14 @@ solved-no-kind j before e = rw e (turned-down 2 before)
 -- `Solved` for a job of kind k, by its refusal number
 pub solved-kind : (j : Job) (before : Lent) (k : Kind) (r : ℕ) (a : Answer) (after : Lent)
     → kindOf (j .kind-number) ≡ some k → kindRefusal (roomFor k j) k j before ≡ r
-    → Outcome r (roomFor k j) (TableHolds k j) k j before (saidOf a) after → Solved j before a after
+    → Outcome r (roomFor k j) (TableHolds k j) k j before (answerNumbers a) after → Solved j before a after
 unfolding Solved SolvedLists SolvedAs
 solved-kind j before k r a after e f h = rw (e, f) h
 
 -- and back
 pub kind-solved : (j : Job) (before : Lent) (k : Kind) (r : ℕ) (a : Answer) (after : Lent)
     → kindOf (j .kind-number) ≡ some k → kindRefusal (roomFor k j) k j before ≡ r
-    → Solved j before a after → Outcome r (roomFor k j) (TableHolds k j) k j before (saidOf a) after
+    → Solved j before a after → Outcome r (roomFor k j) (TableHolds k j) k j before (answerNumbers a) after
 unfolding Solved SolvedLists SolvedAs
 kind-solved j before k r a after e f h = rw (e, f) at h
 
@@ -109,24 +109,24 @@ solved-unreadable bytes place before e = rw e (turned-down 1 before)
 
 -- it is answered
 pub unrefused-answered : (k : Kind) (j : Job) (before after : Lent) (a : Answer) → Unrefused k j before → Solved j before a after
-    → Answered (roomFor k j) (TableHolds k j) k j before (saidOf a) after
+    → Answered (roomFor k j) (TableHolds k j) k j before (answerNumbers a) after
 unfolding Outcome
 unrefused-answered k j before after a ok h = kind-solved j before k 0 a after (ok .of-kind) (ok .no-refusal) h
 
 -- and what answers it solves it
 pub answered-solved : (k : Kind) (j : Job) (before after : Lent) (a : Answer) → Unrefused k j before
-    → Answered (roomFor k j) (TableHolds k j) k j before (saidOf a) after → Solved j before a after
+    → Answered (roomFor k j) (TableHolds k j) k j before (answerNumbers a) after → Solved j before a after
 unfolding Outcome
 answered-solved k j before after a ok h = solved-kind j before k 0 a after (ok .of-kind) (ok .no-refusal) h
 
 -- whoever solves a job that the meanings answer by b and p answers b and writes p
 pub solved-says : (k : Kind) (j : Job) (before after : Lent) (a b : Answer) (p : List ℕ)
-    → Unrefused k j before → Gives k j (saidOf b) p → Solved j before a after
+    → Unrefused k j before → Gives k j (answerNumbers b) p → Solved j before a after
     → (a ≡ b) × Holds p (before .picks) (after .picks)
 solved-says k j before after a b p ok g h =
     let answered = unrefused-answered k j before after a ok h in
-    let (same, said) = gives-unique k j (saidOf a) (saidOf b) (answered .content .picks) p (answered .gives) g in
-    (said-unique said, rw same at (answered .picks-hold))
+    let (same, said) = gives-unique k j (answerNumbers a) (answerNumbers b) (answered .content .picks) p (answered .gives) g in
+    (answer-numbers-unique said, rw same at (answered .picks-hold))
 
 -- the first places hold this content, and past it stands what stood there
 pub record ContentIn (content before after : Lent) : Type 0 where
@@ -147,9 +147,9 @@ pub uninfluenced : (k : Kind) (j : Job) (before after before′ after′ : Lent)
 uninfluenced k j before after before′ after′ a a′ ok ok′ h h′ =
     let x = unrefused-answered k j before after a ok h in
     let y = unrefused-answered k j before′ after′ a′ ok′ h′ in
-    let (said, same) = no-influence k j before before′ after after′ (saidOf a) (saidOf a′) (table-unique k j) x y in
+    let (said, same) = no-influence k j before before′ after after′ (answerNumbers a) (answerNumbers a′) (table-unique k j) x y in
     record {
-      answer = said-unique said;
+      answer = answer-numbers-unique said;
       content = x .content;
       in-first = record { cells = x .cells-hold; words = x .words-hold; picks = x .picks-hold };
       in-second = subst (λ (l : Lent). ContentIn l before′ after′) (sym same) (record { cells = y .cells-hold; words = y .words-hold; picks = y .picks-hold });

@@ -28,7 +28,7 @@ pub mod Numbers
 pub mod Sections
 -- certificates: the third demand
 pub mod Valid
-pub mod Doors
+pub mod SolvedIn
 pub mod Covering
 pub mod FullTables
 pub mod Verdicts

@@ -10,7 +10,7 @@ use lib.ListN.{length}
 use lib.Seq.{ext-getD}
 use Rattle.meaning.specs.Lists.{at}
 use Rattle.meaning.specs.Cells.{LeastShown, none-shown, shown}
-use Rattle.meaning.specs.Job.{Job, Kind, Sort, block-ways, fewest-blocks, free, packing, limited, once, sharing, subset-sums}
+use Rattle.meaning.specs.Job.{Job, Kind, Knapsack, block-ways, fewest-blocks, free, packing, limited, once, sharing, subset-sums}
 use Rattle.meaning.specs.Lent.{Lent, Room, cellCount, roomFor, roomOf}
 use Rattle.meaning.specs.Orders.{AgreeEarlier, Chosen, Earlier, NoWorse, Order, first-most, last-least, last-most}
 use Rattle.meaning.specs.Knapsacks.{BestValue, FullTable, OneRow, ValueTable}
@@ -71,7 +71,7 @@ only-choice o n P p has only = record { one-of = has; settled = λ m h q k agree
 
 -- ---- the best value is one number
 
-pub best-value-unique : {k : Sort} {j : Job} {i c v w : ℕ} → BestValue k j i c v → BestValue k j i c w → v ≡ w
+pub best-value-unique : {k : Knapsack} {j : Job} {i c v w : ℕ} → BestValue k j i c v → BestValue k j i c w → v ≡ w
 best-value-unique a b =
     a .value ∙ le-antisymm (b .best .greatest (a .picks) (a .best .fits)) (a .best .greatest (b .picks) (b .best .fits)) ∙ sym (b .value)
 
@@ -96,14 +96,14 @@ bits-unique (suc k) x y hx hy h =
 
 -- ---- the tables: what the needed places hold
 
-rows-unique : (k : Sort) (j : Job) (s t : List ℕ) → FullTable k j s → FullTable k j t → (m : ℕ) → m < cellCount j → at s m ≡ at t m
+rows-unique : (k : Knapsack) (j : Job) (s t : List ℕ) → FullTable k j s → FullTable k j t → (m : ℕ) → m < cellCount j → at s m ≡ at t m
 unfolding FullTable
 rows-unique k j s t a b m h =
     let here : RowAndBudget j m = row-and-budget j m h in
     subst (λ (x : ℕ). at s x ≡ at t x) (here .numbered)
     (best-value-unique (a (m / (j .budget + 1)) (m % (j .budget + 1)) (here .row) (here .column)) (b (m / (j .budget + 1)) (m % (j .budget + 1)) (here .row) (here .column)))
 
-row-unique : (k : Sort) (j : Job) (s t : List ℕ) → OneRow k j s → OneRow k j t → (m : ℕ) → m < j .budget + 1 → at s m ≡ at t m
+row-unique : (k : Knapsack) (j : Job) (s t : List ℕ) → OneRow k j s → OneRow k j t → (m : ℕ) → m < j .budget + 1 → at s m ≡ at t m
 unfolding OneRow
 row-unique k j s t a b m h = best-value-unique (a m (omega arith)) (b m (omega arith))
 

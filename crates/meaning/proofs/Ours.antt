@@ -15,17 +15,17 @@ use Rattle.meaning.specs.declared.Answer.the-variants as Says
 use Rattle.meaning.specs.declared.Written.the-variants.{Bytes, Refused}
 use Rattle.meaning.specs.Lists.{if, total}
 use Rattle.meaning.specs.Slices.{Holds}
-use Rattle.meaning.specs.Job.{Job, Kind, kindOf, allKinds, packing, labels, once, Sort}
+use Rattle.meaning.specs.Job.{Job, Kind, kindOf, allKinds, packing, labels, once, Knapsack}
 use Rattle.meaning.specs.Lent.{Lent, Room, cellCount, roomFor, roomOf}
 use Rattle.meaning.specs.Refusals.{kindRefusal, rulesOf, roomFits}
 use Rattle.meaning.specs.Bytes.{JobRead, readJob, readable, sectionBytes, unreadable}
 use Rattle.meaning.specs.Knapsacks.{BestPicks, ValueTable}
-use Rattle.meaning.specs.Answers.{saidOf, wroteOf, Said}
+use Rattle.meaning.specs.Answers.{answerNumbers, writtenNumbers, AnswerNumbers}
 use Rattle.meaning.specs.Solved.{Answered, Gives, Outcome, Packed, Solved, SolvedBytes, SolvedRead, TableHolds}
 use Rattle.meaning.specs.Certificates.{Checked, certifiedRefusal, verdictOf, verdictOnJob}
 use Rattle.meaning.specs.Writer.{Writes, WritesBytes, WritesRead, bytesNeeded, newBytes, certificate, slicesFit, writerRefusal, writtenAs, WritesAs}
 use Rattle.meaning.specs.Demands.{AcceptedWith, BestList, OursAccepted}
-use Rattle.meaning.proofs.Unique.{said-unique, wrote-unique}
+use Rattle.meaning.proofs.Unique.{answer-numbers-unique, written-numbers-unique}
 use Rattle.meaning.proofs.Laws.{holds-first, kind-solved}
 use Rattle.meaning.proofs.Numbers.{section-long}
 use Rattle.meaning.proofs.Valid.{Passed, not-refused, past-if}
@@ -56,17 +56,17 @@ pub record WroteAll (j : Job) (picks cells out : List ℕ) (n : ℕ) (out′ : L
   pub many : n ≡ bytesNeeded j
   pub written : Holds (certificate j picks cells) out out′
 
-bytes≢refused : (n r : ℕ) → wroteOf (Bytes n) ≡ wroteOf (Refused r) → ⊥
-bytes≢refused n r e = let f : Bytes n ≡ Refused r = wrote-unique (Bytes n) (Refused r) e in let z : _≡_ {A = ℕ} 0 1 = cc in omega arith
+bytes≢refused : (n r : ℕ) → writtenNumbers (Bytes n) ≡ writtenNumbers (Refused r) → ⊥
+bytes≢refused n r e = let f : Bytes n ≡ Refused r = written-numbers-unique (Bytes n) (Refused r) e in let z : _≡_ {A = ℕ} 0 1 = cc in omega arith
 
 wrote-all : (r : ℕ) (j : Job) (picks cells out : List ℕ) (n : ℕ) (out′ : List ℕ) → writerRefusal j picks cells out ≡ r
     → WritesAs r (bytesNeeded j) (certificate j picks cells) out (Bytes n) out′ → WroteAll j picks cells out n out′
 unfolding writtenAs newBytes
-wrote-all zero j picks cells out n out′ e w = let f : Bytes n ≡ Bytes (bytesNeeded j) = wrote-unique (Bytes n) (Bytes (bytesNeeded j)) (w .numbers) in record { not-turned-down = e; many = cc; written = w .leaves }
+wrote-all zero j picks cells out n out′ e w = let f : Bytes n ≡ Bytes (bytesNeeded j) = written-numbers-unique (Bytes n) (Bytes (bytesNeeded j)) (w .numbers) in record { not-turned-down = e; many = cc; written = w .leaves }
 wrote-all (suc r) j picks cells out n out′ e w = absurd (bytes≢refused n (suc r) (w .numbers))
 
 -- what came of a job that is not refused with the slices as they are after the call
-answered-after : (r : ℕ) (room : Room) (table : Lent → Type 0) (k : Kind) (j : Job) (before after : Lent) (s : Said) → kindRefusal room k j before ≡ r
+answered-after : (r : ℕ) (room : Room) (table : Lent → Type 0) (k : Kind) (j : Job) (before after : Lent) (s : AnswerNumbers) → kindRefusal room k j before ≡ r
     → kindRefusal room k j after ≡ 0 → Outcome r room table k j before s after → Answered room table k j before s after
 unfolding Outcome
 answered-after zero room table k j before after s e f h = h
@@ -91,8 +91,8 @@ module _ (j : Job) (before after : Lent) (a : Answer) (out out′ : List ℕ) (n
   unfolding writerRefusal
   certify = may-certify j later (wrote .not-turned-down)
 
-  is-once : (j .kind-number ≡ 1) × (certify .sort ≡ once)
-  is-once = certified-once (j .kind-number) (certify .sort) (certify .of-sort)
+  is-once : (j .kind-number ≡ 1) × (certify .knapsack ≡ once)
+  is-once = certified-once (j .kind-number) (certify .knapsack) (certify .of-knapsack)
 
   ok : certifiedRefusal j 0 ≡ 0
   unfolding writerRefusal
@@ -115,17 +115,17 @@ module _ (j : Job) (before after : Lent) (a : Answer) (out out′ : List ℕ) (n
       yes-and (cells-fit && leb 0 (length (after .words))) (leb (labels j) (length (after .picks)))
       (yes-and cells-fit (leb 0 (length (after .words))) (yes-leb (rooms .1)) (yes-leb {b = length (after .words)} zero-le)) (yes-leb (rooms .0))
 
-  answered : Answered (roomFor one j) (TableHolds one j) one j before (saidOf a) after
+  answered : Answered (roomFor one j) (TableHolds one j) one j before (answerNumbers a) after
   unfolding kindOf allKinds
   answered =
-      answered-after (kindRefusal (roomFor one j) one j before) (roomFor one j) (TableHolds one j) one j before after (saidOf a) refl
-      (not-refused (roomFor one j) once j after later (subst (λ (k : Sort). Passed (rulesOf (packing k)) j later) (is-once .1) (certify .keeps)) enough)
+      answered-after (kindRefusal (roomFor one j) one j before) (roomFor one j) (TableHolds one j) one j before after (answerNumbers a) refl
+      (not-refused (roomFor one j) once j after later (subst (λ (k : Knapsack). Passed (rulesOf (packing k)) j later) (is-once .1) (certify .keeps)) enough)
       (kind-solved j before one (kindRefusal (roomFor one j) one j before) a after (ap kindOf (is-once .0)) refl solved)
 
   abbrev picks : List ℕ
   picks = answered .content .picks
 
-  packed : Packed once j (saidOf a) picks
+  packed : Packed once j (answerNumbers a) picks
   unfolding Gives
   packed = answered .gives
 
@@ -157,10 +157,10 @@ module _ (j : Job) (before after : Lent) (a : Answer) (out out′ : List ℕ) (n
   ours jobB reads = (
     total (j .values) picks,
     total (j .weights) picks,
-    said-unique (packed .numbers),
+    answer-numbers-unique (packed .numbers),
     accepted-with jobB (take n out′) (total (j .values) picks)
         (ap₂ verdictOnJob reads output
-        ∙ accepted-written j once picks (answered .content .cells) (certify .of-sort ∙ ap some (is-once .1)) ok best long-cells (answered .table-right)),
+        ∙ accepted-written j once picks (answered .content .cells) (certify .of-knapsack ∙ ap some (is-once .1)) ok best long-cells (answered .table-right)),
   )
 
 -- the same where the job comes as bytes to all three

@@ -18,12 +18,12 @@ use Rattle.meaning.specs.Lent.{Lent, Room, cellCount, roomFor, roomOf}
 use Rattle.meaning.specs.Refusals.{jobRefusal, kindRefusal, rulesOf}
 use Rattle.meaning.specs.Bytes.{readJob, readable}
 use Rattle.meaning.specs.Knapsacks.{BestPicks}
-use Rattle.meaning.specs.Answers.{saidOf}
+use Rattle.meaning.specs.Answers.{answerNumbers}
 use Rattle.meaning.specs.Solved.{Answered, Gives, Outcome, Solved, SolvedBytes, TableHolds}
-use Rattle.meaning.specs.Certificates.{Checked, certifiedAs, certifiedRefusal, certifiedSort}
+use Rattle.meaning.specs.Certificates.{Checked, certifiedAs, certifiedRefusal, certifiedKnapsack}
 use Rattle.meaning.specs.Writer.{Writes, WritesBytes, WritesRead, bytesNeeded, certificate, slicesFit, writerRefusal, writtenAs, WritesAs}
 use Rattle.meaning.specs.Demands.{AcceptedWith}
-use Rattle.meaning.proofs.Unique.{said-unique, wrote-unique}
+use Rattle.meaning.proofs.Unique.{answer-numbers-unique, written-numbers-unique}
 use Rattle.meaning.proofs.Laws.{bytes-solved, kind-solved}
 use Rattle.meaning.proofs.Valid.{is-cleared}
 use Rattle.meaning.proofs.Ours.{ours-accepted}
@@ -40,12 +40,12 @@ holds-long new before after h = omega (arith, ap length h, length-append new (dr
 
 -- a job that was answered with a value wasn't refused
 module _ (room : Room) (table : Lent → Type 0) (k : Kind) (j : Job) (before after : Lent) (value weight : ℕ) where
-  not-turned-down : (r : ℕ) → Outcome r room table k j before (saidOf (Says.Knapsack value weight)) after
-      → (r ≡ 0) × Answered room table k j before (saidOf (Says.Knapsack value weight)) after
+  not-turned-down : (r : ℕ) → Outcome r room table k j before (answerNumbers (Says.Knapsack value weight)) after
+      → (r ≡ 0) × Answered room table k j before (answerNumbers (Says.Knapsack value weight)) after
   unfolding Outcome
   not-turned-down zero h = (refl, h)
   not-turned-down (suc r) h =
-      let same : Says.Knapsack value weight ≡ Says.Refused (suc r) = said-unique (h .numbers) in
+      let same : Says.Knapsack value weight ≡ Says.Refused (suc r) = answer-numbers-unique (h .numbers) in
       let z : _≡_ {A = ℕ} 0 1 = cc in
       absurd (omega arith)
 
@@ -53,7 +53,7 @@ module _ (j : Job) (one : j .kind-number ≡ 1) (before after : Lent) (value wei
   abbrev kind : Kind
   kind = packing once
 
-  answered : (kindRefusal (roomFor kind j) kind j before ≡ 0) × Answered (roomFor kind j) (TableHolds kind j) kind j before (saidOf (Says.Knapsack value weight)) after
+  answered : (kindRefusal (roomFor kind j) kind j before ≡ 0) × Answered (roomFor kind j) (TableHolds kind j) kind j before (answerNumbers (Says.Knapsack value weight)) after
   unfolding kindOf allKinds
   answered =
       not-turned-down (roomFor kind j) (TableHolds kind j) kind j before after value weight (kindRefusal (roomFor kind j) kind j before)
@@ -65,8 +65,8 @@ module _ (j : Job) (one : j .kind-number ≡ 1) (before after : Lent) (value wei
   keeps-rules = subst (λ (later : ℕ). jobRefusal (rulesOf kind) j later ≡ 0) (is-cleared (roomFor kind j) kind j before (answered .0) .keeps .later-none) (answered .0)
 
   not-refused : certifiedRefusal j 0 ≡ 0
-  unfolding certifiedRefusal certifiedAs certifiedSort
-  not-refused = ap (λ (n : ℕ). certifiedAs (certifiedSort n) j 0) one ∙ keeps-rules
+  unfolding certifiedRefusal certifiedAs certifiedKnapsack
+  not-refused = ap (λ (n : ℕ). certifiedAs (certifiedKnapsack n) j 0) one ∙ keeps-rules
 
   -- and left its picks and cells in the slices
   picks-there : labels j ≤ length (after .picks)
@@ -89,7 +89,7 @@ module _ (j : Job) (one : j .kind-number ≡ 1) (before after : Lent) (value wei
     all-written : (w : Written) (out′ : List ℕ) → Writes j (after .picks) (after .cells) out w out′ → w ≡ Bytes (bytesNeeded j)
     unfolding Writes writtenAs
     all-written w out′ writes =
-        wrote-unique w (Bytes (bytesNeeded j))
+        written-numbers-unique w (Bytes (bytesNeeded j))
         (subst (λ (r : ℕ). WritesAs r (bytesNeeded j) (certificate j (after .picks) (after .cells)) out w out′) not-refused-6 writes .numbers)
 
     pub ring-by-lists : (jobB : List ℕ) → readJob jobB ≡ readable j → (w : Written) (out′ : List ℕ) → Writes j (after .picks) (after .cells) out w out′

@@ -11,7 +11,7 @@ use Rattle.meaning.specs.Job.{Job, Kind, block-ways, fewest-blocks, free
 use Rattle.meaning.specs.Lent.{roomFor}
 use Rattle.meaning.specs.Refusals.{kindRefusal}
 use Rattle.meaning.specs.Sums.{TotalCount, YesOrNo, is-not, is-so}
-use Rattle.meaning.specs.Answers.{saidOf}
+use Rattle.meaning.specs.Answers.{answerNumbers}
 use Rattle.meaning.specs.Solved.{Built, Gives, a-sum}
 use Rattle.meaning.specs.Certificates.{Checked}
 use Rattle.meaning.specs.Trials.{AllGo, Goes, Means, _and_, certJ, done, jobJ, justEnough, trials}
@@ -27,7 +27,7 @@ unfolding jobOf
 F₂ = jobOf 4 (7 ∷ []) (3 ∷ 5 ∷ 9 ∷ []) [] []
 
 -- a trial of kind k whose answer is given
-goes : (k : Kind) {j : Job} {a : Answer} {p : List ℕ} → kindOf (j .kind-number) ≡ some k → kindRefusal (roomFor k j) k j (justEnough k j) ≡ 0 → Gives k j (saidOf a) p → (k′ : Kind) × Means k′ j a p
+goes : (k : Kind) {j : Job} {a : Answer} {p : List ℕ} → kindOf (j .kind-number) ≡ some k → kindRefusal (roomFor k j) k j (justEnough k j) ≡ 0 → Gives k j (answerNumbers a) p → (k′ : Kind) × Means k′ j a p
 goes k e f g = (k, record { unrefused = record { of-kind = e; no-refusal = f }; answer = g })
 
 pub sixteen : AllGo trials

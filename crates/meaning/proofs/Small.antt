@@ -12,7 +12,7 @@ use lib.Seq.{getD-take, length-take-le}
 use mir.Facts.{and-yes, eqb-no, eqb-yes, leb-yes, yes-eqb, yes-leb}
 use Rattle.meaning.specs.Lists.{at, sum, total, every}
 use Rattle.meaning.specs.Counting.{Counted, Distinct}
-use Rattle.meaning.specs.Job.{Job, labels, Sort, once, limited, free}
+use Rattle.meaning.specs.Job.{Job, labels, Knapsack, once, limited, free}
 use Rattle.meaning.specs.Orders.{Order, last-least, first-most, last-most, Earlier, NoWorse, AgreeEarlier}
 use Rattle.meaning.specs.Knapsacks.{MayPick, Selection, Fits, orderOf, BestPicks}
 use Rattle.meaning.specs.Sums.{Reached, ReachedWithin}
@@ -72,23 +72,23 @@ settles-out o n p q t m h a =
 -- ---- selections
 
 -- `MayPick` as a test
-unfoldable pub isAllowed : Sort → ℕ → ℕ → Bool
+unfoldable pub isAllowed : Knapsack → ℕ → ℕ → Bool
 isAllowed once copies x = leb x 1
 isAllowed limited copies x = leb x copies
 isAllowed free copies x = true
 
-allowed-out : (k : Sort) (c x : ℕ) → T (isAllowed k c x) → MayPick k c x
+allowed-out : (k : Knapsack) (c x : ℕ) → T (isAllowed k c x) → MayPick k c x
 unfolding isAllowed MayPick
 allowed-out once c x t = leb→le x 1 t
 allowed-out limited c x t = leb→le x c t
 allowed-out free c x t = tt
 
 -- `Selection` of the first i labels as a test
-unfoldable pub selects : Sort → Job → ℕ → List ℕ → Bool
+unfoldable pub selects : Knapsack → Job → ℕ → List ℕ → Bool
 unfolding below isAllowed
 selects k j i p = eqb (length p) i && below i (λ m. isAllowed k (at (j .copies) m) (at p m))
 
-pub selects-out : (k : Sort) (j : Job) (i : ℕ) (p : List ℕ) → T (selects k j i p) → Selection k j i p
+pub selects-out : (k : Knapsack) (j : Job) (i : ℕ) (p : List ℕ) → T (selects k j i p) → Selection k j i p
 unfolding selects
 selects-out k j i p t =
     let (e, h) = and-yes (eqb (length p) i) (below i (λ m. isAllowed k (at (j .copies) m) (at p m))) t in
@@ -98,29 +98,29 @@ selects-out k j i p t =
     }
 
 -- and of all labels
-unfoldable pub isSelection : Sort → Job → List ℕ → Bool
+unfoldable pub isSelection : Knapsack → Job → List ℕ → Bool
 unfolding selects
 isSelection k j p = selects k j (labels j) p
 
-pub selection-out : (k : Sort) (j : Job) (p : List ℕ) → T (isSelection k j p) → Selection k j (labels j) p
+pub selection-out : (k : Knapsack) (j : Job) (p : List ℕ) → T (isSelection k j p) → Selection k j (labels j) p
 unfolding isSelection
 selection-out k j p t = selects-out k j (labels j) p t
 
 -- limits that no selection of the first i labels that weighs at most c passes, where `limits-right` holds
-unfoldable pub limits : Sort → Job → ℕ → ℕ → List ℕ
+unfoldable pub limits : Knapsack → Job → ℕ → ℕ → List ℕ
 limits once j i c = replicate i 1
 limits limited j i c = take i (j .copies)
 limits free j i c = map (λ (w : ℕ). c / w) (j .weights)
 
 -- what a job and i have to keep for the limits to be right: in kind 3, i is all labels
-unfoldable pub limits-right : Sort → Job → ℕ → Bool
+unfoldable pub limits-right : Knapsack → Job → ℕ → Bool
 unfolding every
 limits-right once j i = true
 limits-right limited j i = leb i (length (j .copies))
 limits-right free j i = eqb i (labels j) && every (leb 1) (j .weights)
 
 -- such a selection is within them
-pub limits-hold : (k : Sort) (j : Job) (i c : ℕ) (q : List ℕ) → T (limits-right k j i) → Selection k j i q → total (j .weights) q ≤ c → Within (limits k j i c) q
+pub limits-hold : (k : Knapsack) (j : Job) (i c : ℕ) (q : List ℕ) → T (limits-right k j i) → Selection k j i q → total (j .weights) q ≤ c → Within (limits k j i c) q
 unfolding limits limits-right labels MayPick
 limits-hold once j i c q t s h =
     let l : length {A = ℕ} (replicate i 1) ≡ i = length-replicate i 1 in
@@ -186,7 +186,7 @@ fitting j c q = leb (total (j .weights) q) c
 abbrev worth-no-less : Job → List ℕ → List ℕ → Bool
 worth-no-less j p q = leb (total (j .values) q) (total (j .values) p)
 
-module _ (k : Sort) (j : Job) (p : List ℕ) where
+module _ (k : Knapsack) (j : Job) (p : List ℕ) where
   -- the limits of a fitting selection
   abbrev pick-limits : List ℕ
   pick-limits = limits k j (labels j) (j .budget)

@@ -10,7 +10,7 @@ use lib.ListN.{getD, length}
 use mir.Facts.{and-yes, eqb-yes, leb-yes, ltb-yes, or-yes, yes-eqb, yes-leb}
 use Rattle.meaning.specs.Lists.{at, sum, total}
 use Rattle.meaning.specs.Cells.{LeastShown, noWay, none-shown, shown}
-use Rattle.meaning.specs.Job.{Job, Sort, free, labels, once}
+use Rattle.meaning.specs.Job.{Job, Knapsack, free, labels, once}
 use Rattle.meaning.specs.Knapsacks.{BestValue, FullTable, OneRow, cellNumber}
 use Rattle.meaning.specs.Sums.{BitTable, ReachedWithin, Tells, bit, is-not, is-so}
 use Rattle.meaning.specs.Blocks.{FewestRow, MadeOf, WaysRow, tooMany}
@@ -42,7 +42,7 @@ some-out (l ∷ ls) f t =
 
 -- ---- kinds 1 to 3
 
-module _ (k : Sort) (j : Job) (i c v : ℕ) where
+module _ (k : Knapsack) (j : Job) (i c v : ℕ) where
   -- q is a fitting selection and worth v
   abbrev worth : List ℕ → Bool
   worth q = selects k j i q && (fitting j c q && eqb (total (j .values) q) v)
@@ -68,7 +68,7 @@ module _ (k : Sort) (j : Job) (i c v : ℕ) where
       (λ q f. leb-yes (implied (fitting j c q) (leb (total (j .values) q) v)
       (all-out (limits k j i c) worth-no-more no-more q (limits-hold k j i c q right (f .selection) (f .weight))) (yes-leb (f .weight))))
 
-module _ (k : Sort) (j : Job) (cells : List ℕ) where
+module _ (k : Knapsack) (j : Job) (cells : List ℕ) where
   -- `OneRow` as a test
   unfoldable pub isRow : Bool
   unfolding below isBest

@@ -9,20 +9,20 @@ use mathlib.Core.List.{List, [], _∷_, _++_}
 use lib.ListN.{length, take, length-append, List·getD-append}
 use lib.Seq.{getD-at, getD-take}
 use Rattle.meaning.specs.Lists.{at, total}
-use Rattle.meaning.specs.Job.{Job, Sort}
+use Rattle.meaning.specs.Job.{Job, Knapsack}
 use Rattle.meaning.specs.Knapsacks.{MayPick, Fits, BestValue}
 use Rattle.meaning.proofs.Totals.{empty-of, total-none, cut-last, front-long, total-cut, total-with}
 
 -- a value that a fitting selection has, and none passes, is the best
-pub best-by : {k : Sort} {j : Job} {i c b : ℕ} (p : List ℕ) → Fits k j i c p → total (j .values) p ≡ b
+pub best-by : {k : Knapsack} {j : Job} {i c b : ℕ} (p : List ℕ) → Fits k j i c p → total (j .values) p ≡ b
     → ((q : List ℕ) → Fits k j i c q → total (j .values) q ≤ b) → BestValue k j i c b
 best-by p f e above = record { picks = p; best = record { fits = f; greatest = λ q g. le-trans (above q g) (le-of-eq (sym e)) }; value = sym e }
 
 -- no fitting selection is worth more than the best value
-pub none-better : {k : Sort} {j : Job} {i c b : ℕ} → BestValue k j i c b → (q : List ℕ) → Fits k j i c q → total (j .values) q ≤ b
+pub none-better : {k : Knapsack} {j : Job} {i c b : ℕ} → BestValue k j i c b → (q : List ℕ) → Fits k j i c q → total (j .values) q ≤ b
 none-better r q f = le-trans (r .best .greatest q f) (le-of-eq (sym (r .value)))
 
-module _ (k : Sort) (j : Job) (i c : ℕ) where
+module _ (k : Knapsack) (j : Job) (i c : ℕ) where
   abbrev w : ℕ
   w = at (j .weights) i
 
@@ -78,7 +78,7 @@ module _ (k : Sort) (j : Job) (i c : ℕ) where
       omega (arith, above y may′ heavy′, none-better (rows (c - w * y) (omega arith)) p f′))
 
 -- of no labels the best value is 0
-pub best-none : (k : Sort) (j : Job) (c : ℕ) → BestValue k j 0 c 0
+pub best-none : (k : Knapsack) (j : Job) (c : ℕ) → BestValue k j 0 c 0
 best-none k j c =
     best-by []
     (record { selection = record { one-each = refl; allowed = λ m h. absurd (not-suc-le-zero h) }; weight = omega (arith, total-none (j .weights)) })

@@ -14,7 +14,7 @@ use Rattle.meaning.specs.Bytes.{jobBytes}
 use Rattle.meaning.specs.Knapsacks.{FullTable, OneRow, ValueTable}
 use Rattle.meaning.specs.Sums.{BitTable, ReachedWithin, TotalCount, YesOrNo, is-so}
 use Rattle.meaning.specs.Blocks.{FewestRow, WaysFor, WaysRow, WaysShown}
-use Rattle.meaning.specs.Answers.{Said, saidOf}
+use Rattle.meaning.specs.Answers.{AnswerNumbers, answerNumbers}
 use Rattle.meaning.specs.Solved.{Answered, Built, Gives, Outcome, Solved, SolvedAs, SolvedBytes, SolvedLists, SolvedRead, TableHolds, a-sum, no-such-sum}
 use Rattle.meaning.proofs.Reaching.{no-labels}
 use Rattle.meaning.proofs.Small.{counted-out, isCounted, isLaid, isSelection, laid-makes, laid-out, picked, picked-out, reached-by, totalled, totalled-out, unmade, unmade-out}
@@ -23,7 +23,7 @@ use Rattle.meaning.proofs.Opens.{opens}
 use Rattle.meaning.proofs.Cases.{caseJ}
 
 -- a call that leaves `content` in the needed places
-leaves : (k : Kind) (j : Job) (content : Lent) {before after : Lent} {s : Said} → Gives k j s (content .picks) → TableHolds k j content
+leaves : (k : Kind) (j : Job) (content : Lent) {before after : Lent} {s : AnswerNumbers} → Gives k j s (content .picks) → TableHolds k j content
     → length (content .cells) ≡ roomFor k j .cells → length (content .words) ≡ roomFor k j .words
     → Holds (content .cells) (before .cells) (after .cells) → Holds (content .words) (before .words) (after .words)
     → Holds (content .picks) (before .picks) (after .picks) → Answered (roomFor k j) (TableHolds k j) k j before s after
@@ -165,7 +165,7 @@ unmade-row : FewestRow unmade₅ (0 ∷ 4_294_967_295 ∷ 4_294_967_295 ∷ 4_29
 unfolding opens isFewestRow
 unmade-row = fewest-row-out unmade₅ _ tt
 
-unmade-answer : Gives fewest-blocks unmade₅ (saidOf (Says.Refused 7)) []
+unmade-answer : Gives fewest-blocks unmade₅ (answerNumbers (Says.Refused 7)) []
 unfolding call Built unmade
 unmade-answer = no-such-sum (unmade-out unmade₅ 7 tt) refl refl
 
@@ -224,12 +224,12 @@ module _ (j : Job) (i a : ℕ) where
 
 module _ (j : Job) where
   -- one less than 2^64 - 1 is answered
-  one-less-answered : WaysFor j (labels j) (j .budget) 18_446_744_073_709_551_614 → Gives block-ways j (saidOf (Says.Ways 18_446_744_073_709_551_614)) []
+  one-less-answered : WaysFor j (labels j) (j .budget) 18_446_744_073_709_551_614 → Gives block-ways j (answerNumbers (Says.Ways 18_446_744_073_709_551_614)) []
   unfolding call
   one-less-answered h = record { ways = 18_446_744_073_709_551_614; how-many = h; numbers = refl; none-written = refl }
 
   -- 2^64 - 1 is refused
-  full-refused : WaysFor j (labels j) (j .budget) 18_446_744_073_709_551_615 → Gives block-ways j (saidOf (Says.Refused 8)) []
+  full-refused : WaysFor j (labels j) (j .budget) 18_446_744_073_709_551_615 → Gives block-ways j (answerNumbers (Says.Refused 8)) []
   unfolding call
   full-refused h = record { ways = 18_446_744_073_709_551_615; how-many = h; numbers = refl; none-written = refl }
 

@@ -9,14 +9,14 @@ use mathlib.Core.List.{List, [], _∷_, _++_}
 use lib.ListN.{length, List·getD-append}
 use lib.Seq.{getD-at}
 use Rattle.meaning.specs.Lists.{at, total}
-use Rattle.meaning.specs.Job.{Job, Sort}
+use Rattle.meaning.specs.Job.{Job, Knapsack}
 use Rattle.meaning.specs.Orders.{Order, last-least, Earlier, NoWorse, AgreeEarlier, Chosen}
 use Rattle.meaning.specs.Knapsacks.{MayPick, Fits, Best, BestValue, orderOf, BestPicks}
 use Rattle.meaning.proofs.Totals.{total-with, empty-of}
 use Rattle.meaning.proofs.Steps.{fits-more, fits-less, none-better, best-none, best-by}
 use Rattle.meaning.proofs.OneOfEach.{only-choice, best-value-unique}
 
-module _ (k : Sort) (least : orderOf k ≡ last-least) (j : Job) (i c : ℕ) where
+module _ (k : Knapsack) (least : orderOf k ≡ last-least) (j : Job) (i c : ℕ) where
   abbrev w : ℕ
   w = at (j .weights) i
 
@@ -79,7 +79,7 @@ module _ (k : Sort) (least : orderOf k ≡ last-least) (j : Job) (i c : ℕ) whe
           ]
 
 -- of no labels, the picks are none
-pub picks-none : (k : Sort) (j : Job) (c : ℕ) → BestPicks k j 0 c []
+pub picks-none : (k : Knapsack) (j : Job) (c : ℕ) → BestPicks k j 0 c []
 unfolding BestPicks
 picks-none k j c =
     only-choice (orderOf k) 0 (Best k j 0 c) []
@@ -87,6 +87,6 @@ picks-none k j c =
     (λ q b. empty-of q (b .fits .selection .one-each))
 
 -- the chosen picks are worth the best value
-pub picks-worth : (k : Sort) (j : Job) (i c : ℕ) (p : List ℕ) {v : ℕ} → BestPicks k j i c p → BestValue k j i c v → v ≡ total (j .values) p
+pub picks-worth : (k : Knapsack) (j : Job) (i c : ℕ) (p : List ℕ) {v : ℕ} → BestPicks k j i c p → BestValue k j i c v → v ≡ total (j .values) p
 unfolding BestPicks
 picks-worth k j i c p chosen best = best-value-unique best (best-by p (chosen .one-of .fits) refl (chosen .one-of .greatest))

@@ -16,14 +16,14 @@ use Rattle.meaning.specs.declared.Written.{Written}
 use Rattle.meaning.specs.declared.Written.the-variants as Reports
 use Rattle.meaning.specs.Lists.{if, total}
 use Rattle.meaning.specs.Slices.{Holds}
-use Rattle.meaning.specs.Job.{Job, Kind, Sort, block-ways, fewest-blocks, kindOf, packing, labels, sharing, subset-sums}
+use Rattle.meaning.specs.Job.{Job, Kind, Knapsack, block-ways, fewest-blocks, kindOf, packing, labels, sharing, subset-sums}
 use Rattle.meaning.specs.Lent.{Lent, Room, roomFor}
 use Rattle.meaning.specs.Refusals.{kindRefusal}
 use Rattle.meaning.specs.Bytes.{JobRead, readJob, readable, unreadable}
 use Rattle.meaning.specs.Knapsacks.{Best, BestPicks, orderOf}
 use Rattle.meaning.specs.Sums.{TotalCount, YesOrNo}
 use Rattle.meaning.specs.Blocks.{Fewest, Laid, blockOrder}
-use Rattle.meaning.specs.Answers.{Which, is-refusal, is-knapsack, is-sums, is-blocks, is-ways, is-shares, Said, saidOf, Judged, judgedOf, Wrote, wroteOf}
+use Rattle.meaning.specs.Answers.{Which, is-refusal, is-knapsack, is-sums, is-blocks, is-ways, is-shares, AnswerNumbers, answerNumbers, VerdictNumbers, verdictNumbers, WrittenNumbers, writtenNumbers}
 use Rattle.meaning.specs.Solved.{Answered, Built, Gives, WaysGiven, Outcome, Packed, Solved, SolvedAs, SolvedBytes, SolvedLists, SolvedRead, SumOrNone, Summed, TableHolds, TurnedDown, a-sum, no-such-sum, waysAnswer}
 use Rattle.meaning.specs.Certificates.{Checked}
 use Rattle.meaning.specs.Writer.{Writes, WritesBytes, WritesRead, WritesAs}
@@ -34,7 +34,7 @@ use Rattle.meaning.proofs.OneOfEach.{OneTable, Sized, chosen-unique, ta
 -- ---- the numbers and the case settle the answer itself
 
 -- the answer of a case that says these numbers
-unsay : Which → Said → Answer
+unsay : Which → AnswerNumbers → Answer
 unsay is-refusal s = Says.Refused (s .refusal)
 unsay is-knapsack s = Says.Knapsack (s .value) (s .weight)
 unsay is-sums s = Says.Sums (eqb (s .yes) 1) (s .totals)
@@ -42,8 +42,8 @@ unsay is-blocks s = Says.Blocks (s .blocks)
 unsay is-ways s = Says.Ways (s .ways)
 unsay is-shares s = Says.Shares (s .spare)
 
-unsaid : (a : Answer) → unsay (saidOf a .case) (saidOf a) ≡ a
-unfolding unsay saidOf if
+unsaid : (a : Answer) → unsay (answerNumbers a .case) (answerNumbers a) ≡ a
+unfolding unsay answerNumbers if
 unsaid (Says.Refused r) = refl
 unsaid (Says.Knapsack v w) = refl
 unsaid (Says.Sums true n) = refl
@@ -53,33 +53,33 @@ unsaid (Says.Ways w) = refl
 unsaid (Says.Shares x) = refl
 
 -- an answer is settled by what it says
-pub said-unique : {a b : Answer} → saidOf a ≡ saidOf b → a ≡ b
-said-unique {a} {b} e = sym (unsaid a) ∙ ap (λ (s : Said). unsay (s .case) s) e ∙ unsaid b
+pub answer-numbers-unique : {a b : Answer} → answerNumbers a ≡ answerNumbers b → a ≡ b
+answer-numbers-unique {a} {b} e = sym (unsaid a) ∙ ap (λ (s : AnswerNumbers). unsay (s .case) s) e ∙ unsaid b
 
 -- so is a verdict
-pub judged-unique : (a b : Verdict) → judgedOf a ≡ judgedOf b → a ≡ b
-unfolding judgedOf
-judged-unique (Judges.Accepted v) (Judges.Accepted w) e = ap (λ (s : Judged). Judges.Accepted (s .value)) e
-judged-unique (Judges.Accepted v) (Judges.Refused r p) e = let c : true ≡ false = ap (λ (s : Judged). s .accepts) e in cc
-judged-unique (Judges.Refused r p) (Judges.Accepted v) e = let c : false ≡ true = ap (λ (s : Judged). s .accepts) e in cc
-judged-unique (Judges.Refused r p) (Judges.Refused r′ p′) e = ap (λ (s : Judged). Judges.Refused (s .refusal) (s .place)) e
+pub verdict-numbers-unique : (a b : Verdict) → verdictNumbers a ≡ verdictNumbers b → a ≡ b
+unfolding verdictNumbers
+verdict-numbers-unique (Judges.Accepted v) (Judges.Accepted w) e = ap (λ (s : VerdictNumbers). Judges.Accepted (s .value)) e
+verdict-numbers-unique (Judges.Accepted v) (Judges.Refused r p) e = let c : true ≡ false = ap (λ (s : VerdictNumbers). s .accepts) e in cc
+verdict-numbers-unique (Judges.Refused r p) (Judges.Accepted v) e = let c : false ≡ true = ap (λ (s : VerdictNumbers). s .accepts) e in cc
+verdict-numbers-unique (Judges.Refused r p) (Judges.Refused r′ p′) e = ap (λ (s : VerdictNumbers). Judges.Refused (s .refusal) (s .place)) e
 
 -- and a writer's answer
-pub wrote-unique : (a b : Written) → wroteOf a ≡ wroteOf b → a ≡ b
-unfolding wroteOf
-wrote-unique (Reports.Bytes n) (Reports.Bytes m) e = ap (λ (s : Wrote). Reports.Bytes (s .bytes)) e
-wrote-unique (Reports.Bytes n) (Reports.Refused r) e = let c : true ≡ false = ap (λ (s : Wrote). s .done) e in cc
-wrote-unique (Reports.Refused r) (Reports.Bytes n) e = let c : false ≡ true = ap (λ (s : Wrote). s .done) e in cc
-wrote-unique (Reports.Refused r) (Reports.Refused r′) e = ap (λ (s : Wrote). Reports.Refused (s .refusal)) e
+pub written-numbers-unique : (a b : Written) → writtenNumbers a ≡ writtenNumbers b → a ≡ b
+unfolding writtenNumbers
+written-numbers-unique (Reports.Bytes n) (Reports.Bytes m) e = ap (λ (s : WrittenNumbers). Reports.Bytes (s .bytes)) e
+written-numbers-unique (Reports.Bytes n) (Reports.Refused r) e = let c : true ≡ false = ap (λ (s : WrittenNumbers). s .done) e in cc
+written-numbers-unique (Reports.Refused r) (Reports.Bytes n) e = let c : false ≡ true = ap (λ (s : WrittenNumbers). s .done) e in cc
+written-numbers-unique (Reports.Refused r) (Reports.Refused r′) e = ap (λ (s : WrittenNumbers). Reports.Refused (s .refusal)) e
 
 -- ---- what each kind says and writes
 
-packed-unique : {k : Sort} {j : Job} {s s′ : Said} {p p′ : List ℕ} → Packed k j s p → Packed k j s′ p′ → (p ≡ p′) × (s ≡ s′)
+packed-unique : {k : Knapsack} {j : Job} {s s′ : AnswerNumbers} {p p′ : List ℕ} → Packed k j s p → Packed k j s′ p′ → (p ≡ p′) × (s ≡ s′)
 unfolding BestPicks
 packed-unique {k} {j} {s} {s′} {p} {p′} a b =
     let same : p ≡ p′ = chosen-unique (orderOf k) (labels j) (Best k j (labels j) (j .budget)) p p′ (a .picked) (b .picked)
     (a .picked .one-of .fits .selection .one-each) (b .picked .one-of .fits .selection .one-each) in
-    (same, a .numbers ∙ ap (λ (x : List ℕ). saidOf (Says.Knapsack (total (j .values) x) (total (j .weights) x))) same ∙ sym (b .numbers))
+    (same, a .numbers ∙ ap (λ (x : List ℕ). answerNumbers (Says.Knapsack (total (j .values) x) (total (j .weights) x))) same ∙ sym (b .numbers))
 
 same-bit : (x y : Bool) → _≡_ {A = ℕ} (if x 1 0) (if y 1 0) → x ≡ y
 unfolding if
@@ -88,19 +88,19 @@ same-bit true false e = absurd (omega arith)
 same-bit false true e = absurd (omega arith)
 same-bit false false e = refl
 
-summed-unique : {j : Job} {s s′ : Said} {p p′ : List ℕ} → Summed j s p → Summed j s′ p′ → (p ≡ p′) × (s ≡ s′)
+summed-unique : {j : Job} {s s′ : AnswerNumbers} {p p′ : List ℕ} → Summed j s p → Summed j s′ p′ → (p ≡ p′) × (s ≡ s′)
 unfolding YesOrNo TotalCount
 summed-unique a b =
     let e : a .yes ≡ b .yes = same-bit (a .yes) (b .yes) (tells-unique (a .tells) (b .tells)) in
     let f : a .totals ≡ b .totals = counted-unique (a .how-many) (b .how-many) in
-    (a .none-written ∙ sym (b .none-written), a .numbers ∙ ap₂ (λ (y : Bool) (n : ℕ). saidOf (Says.Sums y n)) e f ∙ sym (b .numbers))
+    (a .none-written ∙ sym (b .none-written), a .numbers ∙ ap₂ (λ (y : Bool) (n : ℕ). answerNumbers (Says.Sums y n)) e f ∙ sym (b .numbers))
 
 -- a sum, or none: one of them, where there is one choice at most
-sum-or-none-unique : {Exact Choice : List ℕ → Type 0} {answer : List ℕ → Answer} {s s′ : Said} {p p′ : List ℕ} → ((q r : List ℕ) → Choice q → Choice r → q ≡ r)
+sum-or-none-unique : {Exact Choice : List ℕ → Type 0} {answer : List ℕ → Answer} {s s′ : AnswerNumbers} {p p′ : List ℕ} → ((q r : List ℕ) → Choice q → Choice r → q ≡ r)
     → SumOrNone Exact Choice answer s p → SumOrNone Exact Choice answer s′ p′ → (p ≡ p′) × (s ≡ s′)
 sum-or-none-unique {answer = answer} {p = p} {p′ = p′} one (a-sum m c e) (a-sum m′ c′ e′) =
     let same : p ≡ p′ = one p p′ c c′ in
-    (same, e ∙ ap (λ (x : List ℕ). saidOf (answer x)) same ∙ sym e′)
+    (same, e ∙ ap (λ (x : List ℕ). answerNumbers (answer x)) same ∙ sym e′)
 sum-or-none-unique {p = p} one (a-sum m c e) (no-such-sum n e′ z) = absurd (n p m)
 sum-or-none-unique {p′ = p′} one (no-such-sum n e z) (a-sum m c e′) = absurd (n p′ m)
 sum-or-none-unique one (no-such-sum n e z) (no-such-sum n′ e′ z′) = (z ∙ sym z′, e ∙ sym e′)
@@ -109,14 +109,14 @@ laid-unique : (j : Job) (a : ℕ) (p q : List ℕ) → Laid j a p → Laid j a q
 unfolding Laid
 laid-unique j a p q l l′ = chosen-unique blockOrder (labels j) (Fewest j (labels j) a) p q l l′ (l .one-of .makes .one-each) (l′ .one-of .makes .one-each)
 
-ways-given-unique : {j : Job} {s s′ : Said} {p p′ : List ℕ} → WaysGiven j s p → WaysGiven j s′ p′ → (p ≡ p′) × (s ≡ s′)
+ways-given-unique : {j : Job} {s s′ : AnswerNumbers} {p p′ : List ℕ} → WaysGiven j s p → WaysGiven j s′ p′ → (p ≡ p′) × (s ≡ s′)
 ways-given-unique {j} a b = (
   a .none-written ∙ sym (b .none-written),
-  a .numbers ∙ ap (λ (w : ℕ). saidOf (waysAnswer w)) (ways-unique j (labels j) (j .budget) (a .ways) (b .ways) (a .how-many) (b .how-many)) ∙ sym (b .numbers),
+  a .numbers ∙ ap (λ (w : ℕ). answerNumbers (waysAnswer w)) (ways-unique j (labels j) (j .budget) (a .ways) (b .ways) (a .how-many) (b .how-many)) ∙ sym (b .numbers),
 )
 
 -- each kind says one thing and writes one list
-pub gives-unique : (k : Kind) (j : Job) (s s′ : Said) (p p′ : List ℕ) → Gives k j s p → Gives k j s′ p′ → (p ≡ p′) × (s ≡ s′)
+pub gives-unique : (k : Kind) (j : Job) (s s′ : AnswerNumbers) (p p′ : List ℕ) → Gives k j s p → Gives k j s′ p′ → (p ≡ p′) × (s ≡ s′)
 unfolding Gives Built
 gives-unique (packing k) j s s′ p p′ a b = packed-unique a b
 gives-unique subset-sums j s s′ p p′ a b = summed-unique a b
@@ -131,14 +131,14 @@ pub record One (a a′ : Answer) (t t′ : Lent) : Type 0 where
   pub answer : a ≡ a′
   pub left : t ≡ t′
 
-as-one : {a a′ : Answer} {t t′ : Lent} → (saidOf a ≡ saidOf a′) × (t ≡ t′) → One a a′ t t′
-as-one e = record { answer = said-unique (e .0); left = e .1 }
+as-one : {a a′ : Answer} {t t′ : Lent} → (answerNumbers a ≡ answerNumbers a′) × (t ≡ t′) → One a a′ t t′
+as-one e = record { answer = answer-numbers-unique (e .0); left = e .1 }
 
-sized : {room : Room} {table : Lent → Type 0} {k : Kind} {j : Job} {before t : Lent} {s : Said} → (a : Answered room table k j before s t) → Sized room (a .content)
+sized : {room : Room} {table : Lent → Type 0} {k : Kind} {j : Job} {before t : Lent} {s : AnswerNumbers} → (a : Answered room table k j before s t) → Sized room (a .content)
 sized a = record { cells = a .cells-needed; words = a .words-needed }
 
 -- what stood in the lent slices has no influence: two calls on an accepted job, whatever the slices held before, say the same and write the same
-pub no-influence : {room : Room} {table : Lent → Type 0} (k : Kind) (j : Job) (before before′ t t′ : Lent) (s s′ : Said) → OneTable room table
+pub no-influence : {room : Room} {table : Lent → Type 0} (k : Kind) (j : Job) (before before′ t t′ : Lent) (s s′ : AnswerNumbers) → OneTable room table
     → (a : Answered room table k j before s t) (b : Answered room table k j before′ s′ t′) → (s ≡ s′) × (a .content ≡ b .content)
 unfolding OneTable
 no-influence k j before before′ t t′ s s′ one-table a b =
@@ -150,7 +150,7 @@ holds-unique : (new new′ before after after′ : List ℕ) → new ≡ new′ 
 unfolding Holds
 holds-unique new new′ before after after′ e h h′ = h ∙ ap (λ (l : List ℕ). l ++ drop (length l) before) e ∙ sym h′
 
-answered-unique : {room : Room} {table : Lent → Type 0} (k : Kind) (j : Job) (before t t′ : Lent) (s s′ : Said) → OneTable room table
+answered-unique : {room : Room} {table : Lent → Type 0} (k : Kind) (j : Job) (before t t′ : Lent) (s s′ : AnswerNumbers) → OneTable room table
     → Answered room table k j before s t → Answered room table k j before s′ t′ → (s ≡ s′) × (t ≡ t′)
 answered-unique k j before t t′ s s′ one-table a b =
     let (said, content) = no-influence k j before before t t′ s s′ one-table a b in
@@ -159,10 +159,10 @@ answered-unique k j before t t′ s s′ one-table a b =
     let picks : t .picks ≡ t′ .picks = holds-unique _ _ _ _ _ (ap (λ (l : Lent). l .picks) content) (a .picks-hold) (b .picks-hold) in
     (said, λ i. record { cells = cells i; words = words i; picks = picks i })
 
-turned-down-unique : {r : ℕ} {before t t′ : Lent} {s s′ : Said} → TurnedDown r before s t → TurnedDown r before s′ t′ → (s ≡ s′) × (t ≡ t′)
+turned-down-unique : {r : ℕ} {before t t′ : Lent} {s s′ : AnswerNumbers} → TurnedDown r before s t → TurnedDown r before s′ t′ → (s ≡ s′) × (t ≡ t′)
 turned-down-unique a b = (a .numbers ∙ sym (b .numbers), a .nothing-written ∙ sym (b .nothing-written))
 
-outcome-unique : (r : ℕ) (room : Room) (table : Lent → Type 0) (k : Kind) (j : Job) (before t t′ : Lent) (s s′ : Said) → OneTable room table
+outcome-unique : (r : ℕ) (room : Room) (table : Lent → Type 0) (k : Kind) (j : Job) (before t t′ : Lent) (s s′ : AnswerNumbers) → OneTable room table
     → Outcome r room table k j before s t → Outcome r room table k j before s′ t′ → (s ≡ s′) × (t ≡ t′)
 unfolding Outcome
 outcome-unique zero room table k j before t t′ s s′ one-table a b = answered-unique k j before t t′ s s′ one-table a b
@@ -170,7 +170,7 @@ outcome-unique (suc r) room table k j before t t′ s s′ one-table a b = turne
 
 -- wherever the tables leave one content of the needed places
 module _ (room : Kind → Job → Room) (table : Kind → Job → Lent → Type 0) (one-table : (k : Kind) (j : Job) → OneTable (room k j) (table k j)) where
-  solved-as-unique : (k : Option Kind) (j : Job) (before t t′ : Lent) (s s′ : Said)
+  solved-as-unique : (k : Option Kind) (j : Job) (before t t′ : Lent) (s s′ : AnswerNumbers)
       → SolvedAs room table k j before s t → SolvedAs room table k j before s′ t′ → (s ≡ s′) × (t ≡ t′)
   unfolding SolvedAs
   solved-as-unique none j before t t′ s s′ a b = turned-down-unique a b
@@ -180,7 +180,7 @@ module _ (room : Kind → Job → Room) (table : Kind → Job → Lent → Type 
   pub lists-unique : (j : Job) (before t t′ : Lent) (a a′ : Answer)
       → SolvedLists room table j before a t → SolvedLists room table j before a′ t′ → One a a′ t t′
   unfolding SolvedLists
-  lists-unique j before t t′ a a′ x y = as-one (solved-as-unique (kindOf (j .kind-number)) j before t t′ (saidOf a) (saidOf a′) x y)
+  lists-unique j before t t′ a a′ x y = as-one (solved-as-unique (kindOf (j .kind-number)) j before t t′ (answerNumbers a) (answerNumbers a′) x y)
 
   pub read-unique : (b : JobRead) (before t t′ : Lent) (a a′ : Answer)
       → SolvedRead room table b before a t → SolvedRead room table b before a′ t′ → One a a′ t t′
@@ -200,7 +200,7 @@ no-second-choice-bytes bytes before t t′ a a′ x y = read-unique roomFor Tabl
 
 pub no-second-verdict : (jobB certB : List ℕ) (v w : Verdict) → Checked jobB certB v → Checked jobB certB w → v ≡ w
 unfolding Checked
-no-second-verdict jobB certB v w a b = judged-unique v w (a ∙ sym b)
+no-second-verdict jobB certB v w a b = verdict-numbers-unique v w (a ∙ sym b)
 
 -- ---- the writer
 
@@ -211,7 +211,7 @@ pub record OneWriting (a a′ : Written) (after after′ : List ℕ) : Type 0 wh
 
 writes-as-unique : {r n : ℕ} {certB before after after′ : List ℕ} {a a′ : Written}
     → WritesAs r n certB before a after → WritesAs r n certB before a′ after′ → OneWriting a a′ after after′
-writes-as-unique {a = a} {a′ = a′} x y = record { answer = wrote-unique a a′ (x .numbers ∙ sym (y .numbers)); left = holds-unique _ _ _ _ _ refl (x .leaves) (y .leaves) }
+writes-as-unique {a = a} {a′ = a′} x y = record { answer = written-numbers-unique a a′ (x .numbers ∙ sym (y .numbers)); left = holds-unique _ _ _ _ _ refl (x .leaves) (y .leaves) }
 
 pub no-second-writing : (j : Job) (picks cells before after after′ : List ℕ) (a a′ : Written)
     → Writes j picks cells before a after → Writes j picks cells before a′ after′ → OneWriting a a′ after after′
@@ -242,9 +242,9 @@ pub one-host-answer : (jobB : List ℕ) (before t t′ : Lent) (r r′ first fir
     → SolvedHost jobB before r first second t → SolvedHost jobB before r′ first′ second′ t′ → OneCall r r′ first first′ second second′ t t′
 one-host-answer jobB before t t′ r r′ first first′ second second′ x y =
     let one = no-second-choice-bytes jobB before t t′ (x .answer) (y .answer) (x .solved) (y .solved) in
-    let said : saidOf (x .answer) ≡ saidOf (y .answer) = ap saidOf (one .answer) in
+    let said : answerNumbers (x .answer) ≡ answerNumbers (y .answer) = ap answerNumbers (one .answer) in
     record {
-      refusal = x .refusal ∙ ap (λ (s : Said). s .refusal) said ∙ sym (y .refusal);
+      refusal = x .refusal ∙ ap (λ (s : AnswerNumbers). s .refusal) said ∙ sym (y .refusal);
       first-same = x .first-is ∙ ap firstNumber said ∙ sym (y .first-is);
       second-same = x .second-is ∙ ap secondNumber said ∙ sym (y .second-is);
       left = one .left;
@@ -260,9 +260,9 @@ pub one-host-writing : (jobB picks cells before after after′ : List ℕ) (r r�
     → WritesHost jobB picks cells before r bytes after → WritesHost jobB picks cells before r′ bytes′ after′ → OneWritingCall r r′ bytes bytes′ after after′
 one-host-writing jobB picks cells before after after′ r r′ bytes bytes′ x y =
     let one = no-second-writing-bytes jobB picks cells before after after′ (x .answer) (y .answer) (x .writes) (y .writes) in
-    let wrote : wroteOf (x .answer) ≡ wroteOf (y .answer) = ap wroteOf (one .answer) in
+    let wrote : writtenNumbers (x .answer) ≡ writtenNumbers (y .answer) = ap writtenNumbers (one .answer) in
     record {
-      refusal = x .refusal ∙ ap (λ (s : Wrote). s .refusal) wrote ∙ sym (y .refusal);
-      bytes-same = x .bytes-are ∙ ap (λ (s : Wrote). s .bytes) wrote ∙ sym (y .bytes-are);
+      refusal = x .refusal ∙ ap (λ (s : WrittenNumbers). s .refusal) wrote ∙ sym (y .refusal);
+      bytes-same = x .bytes-are ∙ ap (λ (s : WrittenNumbers). s .bytes) wrote ∙ sym (y .bytes-are);
       left = one .left;
     }

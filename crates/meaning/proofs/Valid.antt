@@ -10,9 +10,10 @@ use lib.Dec.{T, eqb, leb}
 use lib.ListN.{length}
 use mir.Facts.{and-yes, eqb-yes, leb-yes}
 use Rattle.meaning.specs.Lists.{at, every, if, total}
-use Rattle.meaning.specs.Job.{Job, Sort, packing, labels, Kind, free, jobOf}
+use Rattle.meaning.specs.Job.{Job, Knapsack, packing, labels, Kind, free, jobOf}
 use Rattle.meaning.specs.Lent.{cellCount, Lent, Room}
-use Rattle.meaning.specs.Refusals.{Rules, ascendingFrom, boundsFit, eachWithin, hasCopies, jobRefusal, knapsackRules, leastCopies, leastValue, listsFit, mostBudget, mostCopies, mostLabels, mostValue, numbersFit, positive, rulesOf, claimsFit, kindRefusal, roomFits}
+use Rattle.meaning.specs.Bounds.{leastCopies, mostBudget, mostCopies, mostLabels, mostValue}
+use Rattle.meaning.specs.Refusals.{Rules, ascendingFrom, boundsFit, eachWithin, hasCopies, jobRefusal, knapsackRules, leastValue, listsFit, numbersFit, positive, rulesOf, claimsFit, kindRefusal, roomFits}
 use Rattle.meaning.specs.Knapsacks.{BestValue, MayPick}
 use Rattle.meaning.proofs.Steps.{best-by}
 use Rattle.meaning.proofs.Sections.{limit32}
@@ -58,7 +59,7 @@ is-cleared room k j lent e =
 
 -- ---- a valid knapsack
 
-pub record Valid (k : Sort) (j : Job) : Type 0 where
+pub record Valid (k : Knapsack) (j : Job) : Type 0 where
   pub few : labels j ≤ mostLabels
   pub small : j .budget ≤ mostBudget
   pub valued : length (j .values) ≡ labels j
@@ -67,7 +68,7 @@ pub record Valid (k : Sort) (j : Job) : Type 0 where
   pub values : T (eachWithin (leastValue k) mostValue (j .values))
 
 -- a knapsack that passed is valid
-pub is-valid : (k : Sort) (j : Job) (later : ℕ) → Passed (rulesOf (packing k)) j later → Valid k j
+pub is-valid : (k : Knapsack) (j : Job) (later : ℕ) → Passed (rulesOf (packing k)) j later → Valid k j
 unfolding listsFit boundsFit numbersFit rulesOf knapsackRules if
 is-valid k j later p =
     let (l, l′) = and-yes (eqb (length (j .values)) (labels j)) (eqb (length (j .copies)) (if (hasCopies k) (labels j) 0)) (p .lists) in
@@ -91,11 +92,11 @@ every-at test (x ∷ xs) zero h t = and-yes (test x) (every test xs) t .0
 every-at test (x ∷ xs) (suc i) h t = every-at test xs i (le-of-suc-le-suc h) (and-yes (test x) (every test xs) t .1)
 
 -- the weights and values of a valid knapsack, one by one
-pub weight-rule : (k : Sort) (j : Job) → Valid k j → (i : ℕ) → i < labels j → 1 ≤ at (j .weights) i
+pub weight-rule : (k : Knapsack) (j : Job) → Valid k j → (i : ℕ) → i < labels j → 1 ≤ at (j .weights) i
 unfolding positive labels
 weight-rule k j ok i h = leb-yes (every-at (leb 1) (j .weights) i h (ok .weights))
 
-pub value-rule : (k : Sort) (j : Job) → Valid k j → (i : ℕ) → i < labels j → at (j .values) i ≤ mostValue
+pub value-rule : (k : Knapsack) (j : Job) → Valid k j → (i : ℕ) → i < labels j → at (j .values) i ≤ mostValue
 unfolding eachWithin
 value-rule k j ok i h =
     let within = every-at (λ x. leb (leastValue k) x && leb x mostValue) (j .values) i (omega (arith, ok .valued)) (ok .values) in
@@ -117,7 +118,7 @@ unfolding if
 if-passed true x y t = refl
 if-passed false x y t = absurd t
 
-pub not-refused : (room : Room) (k : Sort) (j : Job) (lent : Lent) (later : ℕ) → Passed (rulesOf (packing k)) j later → T (roomFits room lent)
+pub not-refused : (room : Room) (k : Knapsack) (j : Job) (lent : Lent) (later : ℕ) → Passed (rulesOf (packing k)) j later → T (roomFits room lent)
     → kindRefusal room (packing k) j lent ≡ 0
 unfolding kindRefusal jobRefusal claimsFit rulesOf knapsackRules
 not-refused room k j lent later p fits =
@@ -146,7 +147,7 @@ worth-bound low (w ∷ ws) (v ∷ vs) (x ∷ p) e a b =
     let more : mostValue * (x + total ws p) ≤ mostValue * (w * x + total ws p) = mul-le-mul-left mostValue (omega (arith, one-mul x)) in
     omega (arith, mul-add mostValue x (total ws p))
 
-module _ (k : Sort) (j : Job) (ok : Valid k j) where
+module _ (k : Knapsack) (j : Job) (ok : Valid k j) where
   -- a best value fits 32 bits, in each of the three knapsacks
   pub value-bound : (i c v : ℕ) → c ≤ j .budget → BestValue k j i c v → v ≤ mostValue * mostBudget
   unfolding labels

@@ -15,11 +15,11 @@ use Rattle.meaning.specs.declared.Verdict.{Verdict}
 use Rattle.meaning.specs.declared.Verdict.the-variants.{Accepted}
 use Rattle.meaning.specs.Lists.{at}
 use Rattle.meaning.specs.Slices.{Holds}
-use Rattle.meaning.specs.Job.{Job, Kind, Sort, block-ways, fewest-blocks, free, labels, limited, once, packing, sharing, subset-sums}
+use Rattle.meaning.specs.Job.{Job, Kind, Knapsack, block-ways, fewest-blocks, free, labels, limited, once, packing, sharing, subset-sums}
 use Rattle.meaning.specs.Lent.{Lent, cellCount, lentOf, roomFor, roomOf}
 use Rattle.meaning.specs.Bytes.{jobBytes, readJob, readable, sectionBytes}
 use Rattle.meaning.specs.Knapsacks.{BestPicks, Fits}
-use Rattle.meaning.specs.Answers.{Said, saidOf}
+use Rattle.meaning.specs.Answers.{AnswerNumbers, answerNumbers}
 use Rattle.meaning.specs.Solved.{Answered, Solved, SolvedBytes, TableHolds, Unrefused}
 use Rattle.meaning.specs.Host.{SolvedHost, firstNumber}
 use Rattle.meaning.specs.Certificates.{certificateCells}
@@ -68,7 +68,7 @@ abbrev pub Refusal : Answer → Type 0
 Refusal a = (r : ℕ) × (a ≡ Says.Refused r)
 
 abbrev pub First0 : Answer → Type 0
-First0 a = firstNumber (saidOf a) ≡ 0
+First0 a = firstNumber (answerNumbers a) ≡ 0
 
 -- what no version by a door can do on the calls for kind k. It refuses not one of them but late, by 7 or 8
 pub record ShutOut (d : Door) (k : Kind) : Type 0 where
@@ -115,11 +115,11 @@ pub record LentShutOut (l : LentDoor) (k : Kind) : Type 0 where
 -- ---- one law for every door: whoever keeps its promise shows the answer of the trial of kind k, which is no refusal, and whose first number isn't 0
 
 -- what that answer says
-record Proper (s : Said) : Type 0 where
+record Proper (s : AnswerNumbers) : Type 0 where
   no-refusal : refusals (s .case) ≡ 0
   not-0 : 1 ≤ firstNumber s
 
-tried-proper : (k : Kind) → Proper (saidOf (tried k .answer))
+tried-proper : (k : Kind) → Proper (answerNumbers (tried k .answer))
 unfolding opens refusals firstNumber
 tried-proper (packing once) = record { no-refusal = refl; not-0 = lit≤ tt }
 tried-proper (packing limited) = record { no-refusal = refl; not-0 = lit≤ tt }
@@ -130,7 +130,7 @@ tried-proper block-ways = record { no-refusal = refl; not-0 = lit≤ tt }
 tried-proper sharing = record { no-refusal = refl; not-0 = lit≤ tt }
 
 pub not-refused : (k : Kind) → ¬ Refusal (tried k .answer)
-not-refused k (r, e) = not-said r (tried k .answer) (tried-proper k .no-refusal) (sym (ap saidOf e))
+not-refused k (r, e) = not-said r (tried k .answer) (tried-proper k .no-refusal) (sym (ap answerNumbers e))
 
 -- an answer to a job and the slices as they are left, both in some way shown
 pub record SolvedAndShown (j : Job) (lent : Lent) (Shown : Answer → Lent → Type 0) : Type 0 where
@@ -200,7 +200,7 @@ unfolding Holds
 first-held new old now h some = ap (λ (l : List ℕ). at l 0) h ∙ List·getD-append new (drop (length new) old) 0 0 some
 
 -- the places that are needed for the table hold it, and there is one at least
-table-held : (k : Kind) {j : Job} {before after : Lent} {s : Said} (x : Answered (roomFor k j) (TableHolds k j) k j before s after)
+table-held : (k : Kind) {j : Job} {before after : Lent} {s : AnswerNumbers} (x : Answered (roomFor k j) (TableHolds k j) k j before s after)
     → Holds (tableOf k (x .content)) (tableOf k before) (tableOf k after)
 unfolding tableOf Holds
 table-held (packing s) x = x .cells-hold
@@ -209,7 +209,7 @@ table-held fewest-blocks x = x .cells-hold
 table-held block-ways x = x .words-hold
 table-held sharing x = refl
 
-table-needed : (k : Kind) {j : Job} {before after : Lent} {s : Said} (x : Answered (roomFor k j) (TableHolds k j) k j before s after)
+table-needed : (k : Kind) {j : Job} {before after : Lent} {s : AnswerNumbers} (x : Answered (roomFor k j) (TableHolds k j) k j before s after)
     → ¬ (k ≡ sharing) → 1 ≤ length (tableOf k (x .content))
 unfolding tableOf roomFor roomOf cellCount
 table-needed (packing once) x has = omega (arith, x .cells-needed)
@@ -221,7 +221,7 @@ table-needed block-ways x has = omega (arith, x .words-needed)
 table-needed sharing x has = absurd (has refl)
 
 -- a table that is as it was has x in its first place
-as-it-was : (k : Kind) (has : ¬ (k ≡ sharing)) (x : ℕ) {left : Lent} {s : Said} (y : Answered (roomFor k (tried k .job)) (TableHolds k (tried k .job)) k (tried k .job) (filled x k) s left)
+as-it-was : (k : Kind) (has : ¬ (k ≡ sharing)) (x : ℕ) {left : Lent} {s : AnswerNumbers} (y : Answered (roomFor k (tried k .job)) (TableHolds k (tried k .job)) k (tried k .job) (filled x k) s left)
     → tableOf k left ≡ tableOf k (filled x k) → at (tableOf k (y .content)) 0 ≡ x
 as-it-was k has x y kept = sym (first-held _ _ _ (table-held k y) (table-needed k y has)) ∙ ap (λ (l : List ℕ). at l 0) kept ∙ first-filled x k has
 
@@ -231,7 +231,7 @@ not-both k has left left′ a a′ solved solved′ kept kept′ =
     let j = tried k .job in
     let x = unrefused-answered k j (filled 0 k) left a (ok-filled 0 k) solved in
     let y = unrefused-answered k j (filled 1 k) left′ a′ (ok-filled 1 k) solved′ in
-    let same = no-influence k j (filled 0 k) (filled 1 k) left left′ (saidOf a) (saidOf a′) (table-unique k j) x y .1 in
+    let same = no-influence k j (filled 0 k) (filled 1 k) left left′ (answerNumbers a) (answerNumbers a′) (table-unique k j) x y .1 in
     omega (arith, as-it-was k has 0 x kept, as-it-was k has 1 y kept′, ap (λ (c : Lent). at (tableOf k c) 0) same)
 
 -- both laws, for a door that gives the slices back, with a request that holds the trial of each kind
@@ -311,8 +311,8 @@ from-c = record {
   Answers0 = λ x. x .first ≡ 0;
 }
 
-numbered : (a : Answer) → ¬ (saidOf a .refusal ≡ 0) → Refusal a
-unfolding saidOf
+numbered : (a : Answer) → ¬ (answerNumbers a .refusal ≡ 0) → Refusal a
+unfolding answerNumbers
 numbered (Says.Refused r) h = (r, refl)
 numbered (Says.Knapsack v w) h = absurd (h refl)
 numbered (Says.Sums y n) h = absurd (h refl)
@@ -322,7 +322,7 @@ numbered (Says.Shares x) h = absurd (h refl)
 
 host-versions : (k : Kind) → LentShutOut from-c k
 host-versions =
-    lent-shut-out from-c (λ x a. (x .refusal ≡ saidOf a .refusal) × (x .first ≡ firstNumber (saidOf a)))
+    lent-shut-out from-c (λ x a. (x .refusal ≡ answerNumbers a .refusal) × (x .first ≡ firstNumber (answerNumbers a)))
     (λ b before after x j reads kept. (kept .answer, bytes-solved b j before after (kept .answer) reads (kept .solved), (kept .refusal, kept .first-is)))
     (λ x a shown h. numbered a (λ e. h (shown .0 ∙ e))) (λ x a shown is-0. sym (shown .1) ∙ is-0)
     (λ k. jobBytes (tried k .job)) tried-back
@@ -331,14 +331,14 @@ host-versions =
 
 valid-J : ValidJob jobJ caseJ
 unfolding opens jobJ
-valid-J = record { reads = refl; sort = once; of-sort = refl; not-refused = refl }
+valid-J = record { reads = refl; knapsack = once; of-knapsack = refl; not-refused = refl }
 
 best-J : BestList once caseJ (1 ∷ [])
 unfolding opens picked BestPicks BestList
 best-J = picked-out once caseJ (1 ∷ []) tt .one-of
 
 -- a list that fits, and as many cells as are needed, whatever they claim: 11 to 13 don't refuse it
-record ListFits (k : Sort) (j : Job) (certB : List ℕ) : Type 0 where
+record ListFits (k : Knapsack) (j : Job) (certB : List ℕ) : Type 0 where
   picks : List ℕ
   cells : List ℕ
   written : certB ≡ sectionBytes picks ++ sectionBytes cells
@@ -366,13 +366,13 @@ none-worth-most best = let three : 3 ≤ 0 = best .greatest (1 ∷ []) (best-J .
 
 -- one that looks at the list alone
 accepts-what-fits : (Check : List ℕ → List ℕ → Verdict → Type 0)
-    → ((jobB certB : List ℕ) (j : Job) (ok : ValidJob jobB j) → ListFits (ok .sort) j certB → (v : ℕ) × Check jobB certB (Accepted v)) → ¬ Demand3 Check
+    → ((jobB certB : List ℕ) (j : Job) (ok : ValidJob jobB j) → ListFits (ok .knapsack) j certB → (v : ℕ) × Check jobB certB (Accepted v)) → ¬ Demand3 Check
 unfolding valid-J
 accepts-what-fits Check all d =
     let (v, e) = all jobJ keepNone caseJ valid-J none-fits in
     let s : Sound jobJ keepNone v = d .accepted-is-best jobJ keepNone v e in
     let same : s .job ≡ caseJ = cc (valid-J .reads, s .valid-job .reads) in
-    let kind : s .valid-job .sort ≡ once = certified-once (s .job .kind-number) (s .valid-job .sort) (s .valid-job .of-sort) .1 in
+    let kind : s .valid-job .knapsack ≡ once = certified-once (s .job .kind-number) (s .valid-job .knapsack) (s .valid-job .of-knapsack) .1 in
     let best : BestList once caseJ (listIn keepNone) = rw (same, kind) at (s .best) in
     none-worth-most best
 
@@ -385,6 +385,6 @@ pub refuses-all : (Check : List ℕ → List ℕ → Verdict → Type 0) (jobB :
     → ((certB : List ℕ) (v : ℕ) → ¬ Check jobB certB (Accepted v)) → ¬ Demand3 Check
 unfolding BestList
 refuses-all Check jobB j ok none d =
-    let (v, b) = best-of (ok .sort) j (counts-shown j (ok .sort) (ok .of-sort)) (labels j) (j .budget) (le-refl (j .budget)) in
+    let (v, b) = best-of (ok .knapsack) j (counts-shown j (ok .knapsack) (ok .of-knapsack)) (labels j) (j .budget) (le-refl (j .budget)) in
     let a : Accepts Check jobB (b .picks) = d .exactly-when-best jobB j ok (b .picks) .1 (b .best) in
     none (a .certB) (a .value) (a .accepted .verdict)

@@ -18,14 +18,14 @@ use Rattle.meaning.specs.Slices.{Holds}
 use Rattle.meaning.specs.Job.{Job}
 use Rattle.meaning.specs.Lent.{Lent}
 use Rattle.meaning.specs.Bytes.{readJob, readable, unreadable}
-use Rattle.meaning.specs.Answers.{judgedOf, saidOf, wroteOf}
+use Rattle.meaning.specs.Answers.{verdictNumbers, answerNumbers, writtenNumbers}
 use Rattle.meaning.specs.Solved.{SolvedBytes, SolvedRead, TurnedDown}
 use Rattle.meaning.specs.Certificates.{Checked, verdictOf}
 use Rattle.meaning.specs.Writer.{Writes, WritesAs, WritesBytes, WritesRead, bytesNeeded, certificate, newBytes, slicesFit, writerRefusal, writtenAs}
 use Rattle.meaning.specs.Host.{WritesHost, refusalNumber, valueOrPlace}
 use Rattle.meaning.specs.Demands.{ValidJob}
 use Rattle.meaning.specs.Trials.{certJ, jobJ}
-use Rattle.meaning.proofs.Unique.{said-unique, wrote-unique}
+use Rattle.meaning.proofs.Unique.{answer-numbers-unique, written-numbers-unique}
 use Rattle.meaning.proofs.Laws.{holds-first}
 use Rattle.meaning.proofs.Certified.{meets-demand-3, verdict-is}
 use Rattle.meaning.proofs.Entries.{zero-is-accepted}
@@ -39,7 +39,7 @@ module _ (bytes : List ℕ) (place : ℕ) (unread : readJob bytes ≡ unreadable
   module _ (before after : Lent) where
     refused-1 : (a : Answer) → SolvedBytes bytes before a after → (a ≡ Says.Refused 1) × (after ≡ before)
     unfolding SolvedBytes SolvedRead
-    refused-1 a h = let t : TurnedDown 1 before (saidOf a) after = rw unread at h in (said-unique (t .numbers), t .nothing-written)
+    refused-1 a h = let t : TurnedDown 1 before (answerNumbers a) after = rw unread at h in (answer-numbers-unique (t .numbers), t .nothing-written)
 
     no-other-number : (n : ℕ) → SolvedBytes bytes before (Says.Refused n) after → n ≡ 1
     no-other-number n h = let e : Says.Refused n ≡ Says.Refused 1 = refused-1 (Says.Refused n) h .0 in cc
@@ -54,7 +54,7 @@ module _ (bytes : List ℕ) (place : ℕ) (unread : readJob bytes ≡ unreadable
 
     unread-is-1 : a ≡ Reports.Refused 1
     unfolding writtenAs
-    unread-is-1 = wrote-unique a (Reports.Refused 1) (writes-unread .numbers)
+    unread-is-1 = written-numbers-unique a (Reports.Refused 1) (writes-unread .numbers)
 
     unread-writes-nothing : after ≡ before
     unfolding newBytes Holds
@@ -69,7 +69,7 @@ module _ (j : Job) (picks cells before after : List ℕ) (a : Written) (ok : wri
 
   counts-all : a ≡ Bytes (bytesNeeded j)
   unfolding writtenAs
-  counts-all = wrote-unique a (Bytes (bytesNeeded j)) (writes-all .numbers)
+  counts-all = written-numbers-unique a (Bytes (bytesNeeded j)) (writes-all .numbers)
 
   copies-out : take (length (certificate j picks cells)) after ≡ certificate j picks cells
   unfolding newBytes
@@ -87,7 +87,7 @@ nines = replicate 13 9
 written-12 : (a : Written) (after : List ℕ) → Writes noLabels [] (5 ∷ []) nines a after
     → (a ≡ Bytes 12) × (after ≡ 0 ∷ 0 ∷ 0 ∷ 0 ∷ 1 ∷ 0 ∷ 0 ∷ 0 ∷ 5 ∷ 0 ∷ 0 ∷ 0 ∷ 9 ∷ [])
 unfolding nines Writes opens writerRefusal slicesFit bytesNeeded certificate writtenAs newBytes Holds
-written-12 a after w = (wrote-unique a (Bytes 12) (w .numbers), w .leaves)
+written-12 a after w = (written-numbers-unique a (Bytes 12) (w .numbers), w .leaves)
 
 writes-something : (a : Written) → ¬ Writes noLabels [] (5 ∷ []) nines a nines
 unfolding nines
@@ -125,7 +125,7 @@ module _ (entry : List ℕ → List ℕ → ℕ) (keeps : (jobB certB : List ℕ
       (λ jobB certB j ok. let x = zero-is-accepted jobB certB (sym (keeps jobB certB) ∙ all jobB certB j ok) in (x .value, x .accepted)) meets-demand-3
 
   entry-accepts : (jobB : List ℕ) (j : Job) → ValidJob jobB j → ¬ ((certB : List ℕ) → ¬ (entry jobB certB ≡ 0))
-  unfolding refusalNumber judgedOf
+  unfolding refusalNumber verdictNumbers
   entry-accepts jobB j ok none =
       refuses-all Checked jobB j ok (λ certB v checked. none certB (keeps jobB certB ∙ ap refusalNumber (verdict-is jobB certB (Accepted v) checked))) meets-demand-3
 
@@ -141,8 +141,8 @@ entry-names-the-place = refl
 
 entry-counts : (jobB : List ℕ) (j : Job) (picks cells before after : List ℕ) (r bytes : ℕ) → readJob jobB ≡ readable j → writerRefusal j picks cells before ≡ 0
     → WritesHost jobB picks cells before r bytes after → (r ≡ 0) × (bytes ≡ bytesNeeded j)
-unfolding WritesBytes WritesRead wroteOf
+unfolding WritesBytes WritesRead writtenNumbers
 entry-counts jobB j picks cells before after r bytes reads ok h =
     let w : Writes j picks cells before (h .answer) after = rw reads at (h .writes) in
     let wrote : h .answer ≡ Bytes (bytesNeeded j) = counts-all j picks cells before after (h .answer) ok w in
-    (h .refusal ∙ ap (λ (a : Written). wroteOf a .refusal) wrote, h .bytes-are ∙ ap (λ (a : Written). wroteOf a .bytes) wrote)
+    (h .refusal ∙ ap (λ (a : Written). writtenNumbers a .refusal) wrote, h .bytes-are ∙ ap (λ (a : Written). writtenNumbers a .bytes) wrote)

@@ -19,7 +19,7 @@ pub data Which : Type 0 where
   is-refusal is-knapsack is-sums is-blocks is-ways is-shares : Which
 
 -- what it says
-pub record Said : Type 0 where
+pub record AnswerNumbers : Type 0 where
   pub case : Which
   pub refusal : ℕ
   pub value : ℕ
@@ -31,37 +31,37 @@ pub record Said : Type 0 where
   pub spare : ℕ
 
 -- what each case says
-unfoldable pub saidOf : Answer → Said
-saidOf (Says.Refused r) = record { case = is-refusal; refusal = r; value = 0; weight = 0; yes = 0; totals = 0; blocks = 0; ways = 0; spare = 0 }
-saidOf (Says.Knapsack v w) = record { case = is-knapsack; refusal = 0; value = v; weight = w; yes = 0; totals = 0; blocks = 0; ways = 0; spare = 0 }
-saidOf (Says.Sums y n) = record { case = is-sums; refusal = 0; value = 0; weight = 0; yes = if y 1 0; totals = n; blocks = 0; ways = 0; spare = 0 }
-saidOf (Says.Blocks b) = record { case = is-blocks; refusal = 0; value = 0; weight = 0; yes = 0; totals = 0; blocks = b; ways = 0; spare = 0 }
-saidOf (Says.Ways w) = record { case = is-ways; refusal = 0; value = 0; weight = 0; yes = 0; totals = 0; blocks = 0; ways = w; spare = 0 }
-saidOf (Says.Shares s) = record { case = is-shares; refusal = 0; value = 0; weight = 0; yes = 0; totals = 0; blocks = 0; ways = 0; spare = s }
+unfoldable pub answerNumbers : Answer → AnswerNumbers
+answerNumbers (Says.Refused r) = record { case = is-refusal; refusal = r; value = 0; weight = 0; yes = 0; totals = 0; blocks = 0; ways = 0; spare = 0 }
+answerNumbers (Says.Knapsack v w) = record { case = is-knapsack; refusal = 0; value = v; weight = w; yes = 0; totals = 0; blocks = 0; ways = 0; spare = 0 }
+answerNumbers (Says.Sums y n) = record { case = is-sums; refusal = 0; value = 0; weight = 0; yes = if y 1 0; totals = n; blocks = 0; ways = 0; spare = 0 }
+answerNumbers (Says.Blocks b) = record { case = is-blocks; refusal = 0; value = 0; weight = 0; yes = 0; totals = 0; blocks = b; ways = 0; spare = 0 }
+answerNumbers (Says.Ways w) = record { case = is-ways; refusal = 0; value = 0; weight = 0; yes = 0; totals = 0; blocks = 0; ways = w; spare = 0 }
+answerNumbers (Says.Shares s) = record { case = is-shares; refusal = 0; value = 0; weight = 0; yes = 0; totals = 0; blocks = 0; ways = 0; spare = s }
 
 -- ---- the checker's verdict
 
 -- what it says: whether it accepts, 0 or the refusal number, the value, and the place
-pub record Judged : Type 0 where
+pub record VerdictNumbers : Type 0 where
   pub accepts : Bool
   pub refusal : ℕ
   pub value : ℕ
   pub place : ℕ
 
 -- what each case says
-unfoldable pub judgedOf : Verdict → Judged
-judgedOf (Judges.Accepted v) = record { accepts = true; refusal = 0; value = v; place = 0 }
-judgedOf (Judges.Refused r p) = record { accepts = false; refusal = r; value = 0; place = p }
+unfoldable pub verdictNumbers : Verdict → VerdictNumbers
+verdictNumbers (Judges.Accepted v) = record { accepts = true; refusal = 0; value = v; place = 0 }
+verdictNumbers (Judges.Refused r p) = record { accepts = false; refusal = r; value = 0; place = p }
 
 -- ---- the writer's answer
 
 -- what it says: whether it wrote, 0 or the refusal number, and the bytes written
-pub record Wrote : Type 0 where
+pub record WrittenNumbers : Type 0 where
   pub done : Bool
   pub refusal : ℕ
   pub bytes : ℕ
 
 -- what each case says
-unfoldable pub wroteOf : Written → Wrote
-wroteOf (Reports.Bytes n) = record { done = true; refusal = 0; bytes = n }
-wroteOf (Reports.Refused r) = record { done = false; refusal = r; bytes = 0 }
+unfoldable pub writtenNumbers : Written → WrittenNumbers
+writtenNumbers (Reports.Bytes n) = record { done = true; refusal = 0; bytes = n }
+writtenNumbers (Reports.Refused r) = record { done = false; refusal = r; bytes = 0 }

@@ -11,12 +11,12 @@ use Rattle.meaning.specs.declared.Verdict.{Verdict}
 use Rattle.meaning.specs.declared.Verdict.the-variants.{Accepted, Refused}
 use Rattle.meaning.specs.declared.Needed.the-variants.{Exactly}
 use Rattle.meaning.specs.Lists.{at, total, if}
-use Rattle.meaning.specs.Job.{Job, labels, once, packing, Sort}
+use Rattle.meaning.specs.Job.{Job, labels, once, packing, Knapsack}
 use Rattle.meaning.specs.Lent.{cellCount}
 use Rattle.meaning.specs.Refusals.{jobRefusal, rulesOf}
 use Rattle.meaning.specs.Bytes.{readSection, withSection, atEnd, JobRead, unreadable, readable, readJob}
 use Rattle.meaning.specs.Knapsacks.{cellNumber}
-use Rattle.meaning.specs.Answers.{judgedOf}
+use Rattle.meaning.specs.Answers.{verdictNumbers}
 
 -- ---- searching
 
@@ -104,18 +104,18 @@ verdictOnCertificate j b =
     atEnd b p₂ certificateBroken (verdictOnCells j picks cells)
 
 -- the knapsack that kind number k has certificates for: kind 1's alone
-unfoldable pub certifiedSort : ℕ → Option Sort
-certifiedSort zero = none
-certifiedSort (suc k) = getElem? (once ∷ []) k
+unfoldable pub certifiedKnapsack : ℕ → Option Knapsack
+certifiedKnapsack zero = none
+certifiedKnapsack (suc k) = getElem? (once ∷ []) k
 
 -- refusal 2 where there is none; 3 to 5, or else what comes later
-unfoldable pub certifiedAs : Option Sort → Job → ℕ → ℕ
+unfoldable pub certifiedAs : Option Knapsack → Job → ℕ → ℕ
 certifiedAs none j later = 2
 certifiedAs (some k) j later = jobRefusal (rulesOf (packing k)) j later
 
 -- refusals 2 to 5 of a job, or else what comes later
 unfoldable pub certifiedRefusal : Job → ℕ → ℕ
-certifiedRefusal j later = certifiedAs (certifiedSort (j .kind-number)) j later
+certifiedRefusal j later = certifiedAs (certifiedKnapsack (j .kind-number)) j later
 
 -- refused with the number, or where it is 0 what comes next
 unfoldable pub unlessRefused : ℕ → Verdict → Verdict
@@ -133,4 +133,4 @@ verdictOf jobB certB = verdictOnJob (readJob jobB) certB
 
 -- the checker's promise: its verdict v says what `verdictOf` says
 unfoldable pub Checked : List ℕ → List ℕ → Verdict → Type 0
-Checked jobB certB v = judgedOf v ≡ judgedOf (verdictOf jobB certB)
+Checked jobB certB v = verdictNumbers v ≡ verdictNumbers (verdictOf jobB certB)

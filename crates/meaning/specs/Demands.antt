@@ -11,17 +11,17 @@ use lib.Dec.{T, ltb}
 use lib.ListN.{take}
 use Rattle.meaning.specs.declared.Verdict.{Verdict}
 use Rattle.meaning.specs.declared.Answer.{Answer}
-use Rattle.meaning.specs.declared.Answer.the-variants.{Knapsack}
+use Rattle.meaning.specs.declared.Answer.the-variants as Says
 use Rattle.meaning.specs.declared.Written.the-variants.{Bytes}
 use Rattle.meaning.specs.declared.Verdict.the-variants.{Accepted}
 use Rattle.meaning.specs.declared.Needed.the-variants.{Any}
 use Rattle.meaning.specs.Lists.{total, every}
-use Rattle.meaning.specs.Job.{Job, labels, Sort}
+use Rattle.meaning.specs.Job.{Job, labels, Knapsack}
 use Rattle.meaning.specs.Lent.{Lent}
 use Rattle.meaning.specs.Bytes.{readSection, withSection, readable, readJob}
 use Rattle.meaning.specs.Knapsacks.{Best}
 use Rattle.meaning.specs.Solved.{Solved, SolvedBytes}
-use Rattle.meaning.specs.Certificates.{certifiedRefusal, certifiedSort}
+use Rattle.meaning.specs.Certificates.{certifiedRefusal, certifiedKnapsack}
 use Rattle.meaning.specs.Writer.{Writes, WritesBytes}
 
 -- each number is a byte
@@ -35,19 +35,19 @@ listIn certB = withSection certB (readSection Any certB 0) (λ place. []) (λ pi
 -- the bytes hold the job j, it is of a kind that has certificates, and none of refusals 1 to 5 applies
 pub record ValidJob (jobB : List ℕ) (j : Job) : Type 0 where
   pub reads : readJob jobB ≡ readable j
-  pub sort : Sort
-  pub of-sort : certifiedSort (j .kind-number) ≡ some sort
+  pub knapsack : Knapsack
+  pub of-knapsack : certifiedKnapsack (j .kind-number) ≡ some knapsack
   pub not-refused : certifiedRefusal j 0 ≡ 0
 
 -- the list is one the rules allow, fits and is best
-unfoldable pub BestList : Sort → Job → List ℕ → Type 0
+unfoldable pub BestList : Knapsack → Job → List ℕ → Type 0
 BestList k j p = Best k j (labels j) (j .budget) p
 
 -- accepted with v: the job is valid, and the certificate's list is allowed, fits, is worth v, and nothing within budget is worth more
 pub record Sound (jobB certB : List ℕ) (v : ℕ) : Type 0 where
   pub job : Job
   pub valid-job : ValidJob jobB job
-  pub best : BestList (valid-job .sort) job (listIn certB)
+  pub best : BestList (valid-job .knapsack) job (listIn certB)
   pub value : total (job .values) (listIn certB) ≡ v
 
 -- the certificate is accepted with v: that is a verdict by the promise, and no other is
@@ -67,14 +67,14 @@ pub record Accepts (Check : List ℕ → List ℕ → Verdict → Type 0) (jobB 
 -- accepted exactly when the list is allowed, fits and is best.'
 pub record Demand3 (Check : List ℕ → List ℕ → Verdict → Type 0) : Type 0 where
   pub accepted-is-best : (jobB certB : List ℕ) (v : ℕ) → Check jobB certB (Accepted v) → Sound jobB certB v
-  pub exactly-when-best : (jobB : List ℕ) (j : Job) (valid-job : ValidJob jobB j) (p : List ℕ) → Accepts Check jobB p ↔ BestList (valid-job .sort) j p
+  pub exactly-when-best : (jobB : List ℕ) (j : Job) (valid-job : ValidJob jobB j) (p : List ℕ) → Accepts Check jobB p ↔ BestList (valid-job .knapsack) j p
 
 -- 'Ours always is.' Whoever solved the job, and whoever wrote a certificate of what was left, unless refused: the answer's value is accepted
 pub record OursAccepted (Check : List ℕ → List ℕ → Verdict → Type 0) : Type 0 where
   pub by-lists : (jobB : List ℕ) (j : Job) → readJob jobB ≡ readable j
       → (before after : Lent) (a : Answer) → Solved j before a after
       → (out out′ : List ℕ) (n : ℕ) → Writes j (after .picks) (after .cells) out (Bytes n) out′
-      → (value weight : ℕ) × (a ≡ Knapsack value weight) × AcceptedWith Check jobB (take n out′) value
+      → (value weight : ℕ) × (a ≡ Says.Knapsack value weight) × AcceptedWith Check jobB (take n out′) value
   pub by-bytes : (jobB : List ℕ) (before after : Lent) (a : Answer) → SolvedBytes jobB before a after
       → (out out′ : List ℕ) (n : ℕ) → WritesBytes jobB (after .picks) (after .cells) out (Bytes n) out′
-      → (value weight : ℕ) × (a ≡ Knapsack value weight) × AcceptedWith Check jobB (take n out′) value
+      → (value weight : ℕ) × (a ≡ Says.Knapsack value weight) × AcceptedWith Check jobB (take n out′) value

@@ -7,7 +7,7 @@ use Rattle.meaning.specs.declared.Answer.{Answer}
 use Rattle.meaning.specs.declared.Verdict.{Verdict}
 use Rattle.meaning.specs.declared.Written.{Written}
 use Rattle.meaning.specs.Lent.{Lent}
-use Rattle.meaning.specs.Answers.{Said, judgedOf, saidOf, wroteOf}
+use Rattle.meaning.specs.Answers.{AnswerNumbers, verdictNumbers, answerNumbers, writtenNumbers}
 use Rattle.meaning.specs.Solved.{SolvedBytes}
 use Rattle.meaning.specs.Writer.{WritesBytes}
 
@@ -15,29 +15,29 @@ use Rattle.meaning.specs.Writer.{WritesBytes}
 
 -- the first gives 0 for accepted, or the refusal number
 unfoldable pub refusalNumber : Verdict → ℕ
-refusalNumber v = judgedOf v .refusal
+refusalNumber v = verdictNumbers v .refusal
 
 -- the second gives the value or the place, of which one is 0
 unfoldable pub valueOrPlace : Verdict → ℕ
-valueOrPlace v = judgedOf v .value + judgedOf v .place
+valueOrPlace v = verdictNumbers v .value + verdictNumbers v .place
 
 -- ---- the planner's entry
 
 -- the value, yes, the blocks, the ways or the spare: an answer has one of them, and the others are 0
-unfoldable pub firstNumber : Said → ℕ
+unfoldable pub firstNumber : AnswerNumbers → ℕ
 firstNumber s = s .value + s .yes + s .blocks + s .ways + s .spare
 
 -- the weight or the totals: an answer has at most one of them
-unfoldable pub secondNumber : Said → ℕ
+unfoldable pub secondNumber : AnswerNumbers → ℕ
 secondNumber s = s .weight + s .totals
 
 -- job bytes, called with the slices as `before`: the refusal number or 0, the two numbers, and the slices as `after`
 pub record SolvedHost (jobB : List ℕ) (before : Lent) (r first second : ℕ) (after : Lent) : Type 0 where
   pub answer : Answer
   pub solved : SolvedBytes jobB before answer after
-  pub refusal : r ≡ saidOf answer .refusal
-  pub first-is : first ≡ firstNumber (saidOf answer)
-  pub second-is : second ≡ secondNumber (saidOf answer)
+  pub refusal : r ≡ answerNumbers answer .refusal
+  pub first-is : first ≡ firstNumber (answerNumbers answer)
+  pub second-is : second ≡ secondNumber (answerNumbers answer)
 
 -- ---- the writer's entry
 
@@ -45,5 +45,5 @@ pub record SolvedHost (jobB : List ℕ) (before : Lent) (r first second : ℕ) (
 pub record WritesHost (jobB picks cells before : List ℕ) (r bytes : ℕ) (after : List ℕ) : Type 0 where
   pub answer : Written
   pub writes : WritesBytes jobB picks cells before answer after
-  pub refusal : r ≡ wroteOf answer .refusal
-  pub bytes-are : bytes ≡ wroteOf answer .bytes
+  pub refusal : r ≡ writtenNumbers answer .refusal
+  pub bytes-are : bytes ≡ writtenNumbers answer .bytes

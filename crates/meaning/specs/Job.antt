@@ -33,12 +33,12 @@ unfoldable pub labels : Job → ℕ
 labels j = length (j .weights)
 
 -- the three knapsacks: each label at most once; label i at most copies[i] times; any number of each
-pub data Sort : Type 0 where
-  once limited free : Sort
+pub data Knapsack : Type 0 where
+  once limited free : Knapsack
 
 -- 1 to 3 are knapsacks, 4 sums, 5 and 6 blocks (the fewest, the ways), 7 shares
 pub data Kind : Type 0 where
-  packing : Sort → Kind
+  packing : Knapsack → Kind
   subset-sums fewest-blocks block-ways sharing : Kind
 
 -- kinds 1 to 7

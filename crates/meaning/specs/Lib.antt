@@ -1,5 +1,6 @@
 -- The definitions that a reader must believe, one file for each subject of document 01. The contracts of the doors (planner, certificate, host) cite these and
 -- nothing else of this project; the crates below them, and the program, have definitions of their own beside these, for what their functions leave.
+pub mod Bounds
 pub mod Lists
 pub mod Counting
 pub mod Cells
@@ -15,7 +16,7 @@ pub mod Blocks
 pub mod Shares
 pub mod Answers
 pub mod Solved
-pub mod Doors
+pub mod SolvedIn
 pub mod Certificates
 pub mod Writer
 pub mod Host

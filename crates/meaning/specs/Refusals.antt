@@ -8,43 +8,10 @@ use mathlib.Core.Bool.{Bool, true, false, _&&_, _||_, not}
 use mathlib.Core.List.{List, [], _∷_}
 use lib.Dec.{leb, ltb, eqb}
 use lib.ListN.{length}
+use Rattle.meaning.specs.Bounds.{mostLabels, mostSizes, mostClaims, mostBudget, mostShared, mostValue, mostCopies, leastCopies}
 use Rattle.meaning.specs.Lists.{sum, every, if}
-use Rattle.meaning.specs.Job.{Job, labels, Sort, once, limited, free, Kind, packing, subset-sums, fewest-blocks, block-ways, sharing}
+use Rattle.meaning.specs.Job.{Job, labels, Knapsack, once, limited, free, Kind, packing, subset-sums, fewest-blocks, block-ways, sharing}
 use Rattle.meaning.specs.Lent.{Lent, Room}
-
--- ---- the bounds, each in one place
-
--- n in kinds 1 to 4
-unfoldable pub mostLabels : ℕ
-mostLabels = 1_024
-
--- n in kinds 5 and 6
-unfoldable pub mostSizes : ℕ
-mostSizes = 64
-
--- n in kind 7
-unfoldable pub mostClaims : ℕ
-mostClaims = 1_024
-
--- C in kinds 1 to 6
-unfoldable pub mostBudget : ℕ
-mostBudget = 65_535
-
--- C in kind 7: any 32-bit number
-unfoldable pub mostShared : ℕ
-mostShared = 4_294_967_295
-
--- values
-unfoldable pub mostValue : ℕ
-mostValue = 65_535
-
--- copies, at most
-unfoldable pub mostCopies : ℕ
-mostCopies = 65_535
-
--- copies, at least
-unfoldable pub leastCopies : ℕ
-leastCopies = 0
 
 -- ---- rules on the numbers of a list
 
@@ -78,19 +45,19 @@ pub record Rules : Type 0 where
   pub needs-sum : Bool
 
 -- of kinds 1 to 3 only kind 2 uses copies
-unfoldable pub hasCopies : Sort → Bool
+unfoldable pub hasCopies : Knapsack → Bool
 hasCopies once = false
 hasCopies limited = true
 hasCopies free = false
 
 -- values from 0; in kind 3, from 1
-unfoldable pub leastValue : Sort → ℕ
+unfoldable pub leastValue : Knapsack → ℕ
 leastValue once = 0
 leastValue limited = 0
 leastValue free = 1
 
 -- kinds 1 to 3
-unfoldable pub knapsackRules : Sort → Rules
+unfoldable pub knapsackRules : Knapsack → Rules
 knapsackRules k = record {
   uses-values = true;
   uses-copies = hasCopies k;

@@ -11,7 +11,7 @@ use Rattle.meaning.specs.declared.Answer.{Answer}
 use Rattle.meaning.specs.declared.Answer.the-variants as Says
 use Rattle.meaning.specs.Lists.{sum, total, if}
 use Rattle.meaning.specs.Slices.{Holds}
-use Rattle.meaning.specs.Job.{Job, labels, Sort, Kind, packing, subset-sums, fewest-blocks, block-ways, sharing, kindOf}
+use Rattle.meaning.specs.Job.{Job, labels, Knapsack, Kind, packing, subset-sums, fewest-blocks, block-ways, sharing, kindOf}
 use Rattle.meaning.specs.Lent.{Lent, Room, roomFor}
 use Rattle.meaning.specs.Refusals.{kindRefusal}
 use Rattle.meaning.specs.Bytes.{JobRead, unreadable, readable, readJob}
@@ -19,31 +19,31 @@ use Rattle.meaning.specs.Knapsacks.{BestPicks, ValueTable}
 use Rattle.meaning.specs.Sums.{YesOrNo, TotalCount, BitTable}
 use Rattle.meaning.specs.Blocks.{Makes, Laid, FewestRow, WaysFor, WaysRow, tooMany}
 use Rattle.meaning.specs.Shares.{spareOf, sharesOf}
-use Rattle.meaning.specs.Answers.{Said, saidOf}
+use Rattle.meaning.specs.Answers.{AnswerNumbers, answerNumbers}
 
 -- ---- what is said, as s, of a job j that none of 1 to 6 and 9 refuses, with the picks p that are written ([] where none are)
 
 -- kinds 1 to 3: the chosen best picks, with their value and weight
-pub record Packed (k : Sort) (j : Job) (s : Said) (p : List ℕ) : Type 0 where
+pub record Packed (k : Knapsack) (j : Job) (s : AnswerNumbers) (p : List ℕ) : Type 0 where
   pub picked : BestPicks k j (labels j) (j .budget) p
-  pub numbers : s ≡ saidOf (Says.Knapsack (total (j .values) p) (total (j .weights) p))
+  pub numbers : s ≡ answerNumbers (Says.Knapsack (total (j .values) p) (total (j .weights) p))
 
 -- kind 4: yes or no, and the number of totals; no picks
-pub record Summed (j : Job) (s : Said) (p : List ℕ) : Type 0 where
+pub record Summed (j : Job) (s : AnswerNumbers) (p : List ℕ) : Type 0 where
   pub yes : Bool
   pub totals : ℕ
   pub tells : YesOrNo j (if yes 1 0)
   pub how-many : TotalCount j totals
-  pub numbers : s ≡ saidOf (Says.Sums yes totals)
+  pub numbers : s ≡ answerNumbers (Says.Sums yes totals)
   pub none-written : p ≡ []
 
 -- where a list is asked for that sums to exactly C: the chosen one of them, or refusal 7 where there is no such sum
-pub data SumOrNone (Exact Choice : List ℕ → Type 0) (answer : List ℕ → Answer) (s : Said) (p : List ℕ) : Type 0 where
-  a-sum : Exact p → Choice p → s ≡ saidOf (answer p) → SumOrNone Exact Choice answer s p
-  no-such-sum : ((q : List ℕ) → ¬ Exact q) → s ≡ saidOf (Says.Refused 7) → p ≡ [] → SumOrNone Exact Choice answer s p
+pub data SumOrNone (Exact Choice : List ℕ → Type 0) (answer : List ℕ → Answer) (s : AnswerNumbers) (p : List ℕ) : Type 0 where
+  a-sum : Exact p → Choice p → s ≡ answerNumbers (answer p) → SumOrNone Exact Choice answer s p
+  no-such-sum : ((q : List ℕ) → ¬ Exact q) → s ≡ answerNumbers (Says.Refused 7) → p ≡ [] → SumOrNone Exact Choice answer s p
 
 -- kind 5: the chosen list with the fewest blocks, and how many they are
-unfoldable pub Built : Job → Said → List ℕ → Type 0
+unfoldable pub Built : Job → AnswerNumbers → List ℕ → Type 0
 Built j s p = SumOrNone (Makes j (labels j) (j .budget)) (Laid j (j .budget)) (λ q. Says.Blocks (sum q)) s p
 
 -- kind 6's answer, where there are w ways: refusal 8 where they are 2^64 - 1 or more
@@ -51,19 +51,19 @@ unfoldable pub waysAnswer : ℕ → Answer
 waysAnswer w = if (ltb w tooMany) (Says.Ways w) (Says.Refused 8)
 
 -- kind 6: the ways for C; no picks
-pub record WaysGiven (j : Job) (s : Said) (p : List ℕ) : Type 0 where
+pub record WaysGiven (j : Job) (s : AnswerNumbers) (p : List ℕ) : Type 0 where
   pub ways : ℕ
   pub how-many : WaysFor j (labels j) (j .budget) ways
-  pub numbers : s ≡ saidOf (waysAnswer ways)
+  pub numbers : s ≡ answerNumbers (waysAnswer ways)
   pub none-written : p ≡ []
 
 -- kind 7: the shares, and the spare units
-pub record Shared (j : Job) (s : Said) (p : List ℕ) : Type 0 where
+pub record Shared (j : Job) (s : AnswerNumbers) (p : List ℕ) : Type 0 where
   pub given : p ≡ sharesOf j
-  pub numbers : s ≡ saidOf (Says.Shares (spareOf j))
+  pub numbers : s ≡ answerNumbers (Says.Shares (spareOf j))
 
 -- what a job of each kind is answered by
-unfoldable pub Gives : Kind → Job → Said → List ℕ → Type 0
+unfoldable pub Gives : Kind → Job → AnswerNumbers → List ℕ → Type 0
 Gives (packing k) j s p = Packed k j s p
 Gives subset-sums j s p = Summed j s p
 Gives fewest-blocks j s p = Built j s p
@@ -82,7 +82,7 @@ TableHolds sharing j content = Unit
 
 -- a job that none of 1 to 6 and 9 refuses, of a kind that needs this room and leaves this table: `content` is what
 -- the needed places hold, and all else is as it was
-pub record Answered (room : Room) (table : Lent → Type 0) (k : Kind) (j : Job) (before : Lent) (s : Said) (after : Lent) : Type 0 where
+pub record Answered (room : Room) (table : Lent → Type 0) (k : Kind) (j : Job) (before : Lent) (s : AnswerNumbers) (after : Lent) : Type 0 where
   pub content : Lent
   pub gives : Gives k j s (content .picks)
   pub table-right : table content
@@ -93,29 +93,29 @@ pub record Answered (room : Room) (table : Lent → Type 0) (k : Kind) (j : Job)
   pub picks-hold : Holds (content .picks) (before .picks) (after .picks)
 
 -- a job that one of them refuses: the number alone, and nothing written
-pub record TurnedDown (r : ℕ) (before : Lent) (s : Said) (after : Lent) : Type 0 where
-  pub numbers : s ≡ saidOf (Says.Refused r)
+pub record TurnedDown (r : ℕ) (before : Lent) (s : AnswerNumbers) (after : Lent) : Type 0 where
+  pub numbers : s ≡ answerNumbers (Says.Refused r)
   pub nothing-written : after ≡ before
 
 -- what comes of a job, by its refusal number, 0 for none
-unfoldable pub Outcome : ℕ → Room → (Lent → Type 0) → Kind → Job → Lent → Said → Lent → Type 0
+unfoldable pub Outcome : ℕ → Room → (Lent → Type 0) → Kind → Job → Lent → AnswerNumbers → Lent → Type 0
 Outcome zero room table k j before s after = Answered room table k j before s after
 Outcome (suc r) room table k j before s after = TurnedDown (suc r) before s after
 
 -- a call on any job, where a kind needs its room and leaves its table
 module _ (room : Kind → Job → Room) (table : Kind → Job → Lent → Type 0) where
   -- a job whose kind number is that of a kind, or of none
-  unfoldable pub SolvedAs : Option Kind → Job → Lent → Said → Lent → Type 0
+  unfoldable pub SolvedAs : Option Kind → Job → Lent → AnswerNumbers → Lent → Type 0
   SolvedAs none j before s after = TurnedDown 2 before s after
   SolvedAs (some k) j before s after = Outcome (kindRefusal (room k j) k j before) (room k j) (table k j) k j before s after
 
   -- a job of lists
   unfoldable pub SolvedLists : Job → Lent → Answer → Lent → Type 0
-  SolvedLists j before a after = SolvedAs (kindOf (j .kind-number)) j before (saidOf a) after
+  SolvedLists j before a after = SolvedAs (kindOf (j .kind-number)) j before (answerNumbers a) after
 
   -- job bytes, by what they are read as; the place of a break isn't told
   unfoldable pub SolvedRead : JobRead → Lent → Answer → Lent → Type 0
-  SolvedRead (unreadable place) before a after = TurnedDown 1 before (saidOf a) after
+  SolvedRead (unreadable place) before a after = TurnedDown 1 before (answerNumbers a) after
   SolvedRead (readable j) before a after = SolvedLists j before a after
 
 -- a job of kind k that none of 2 to 6 and 9 refuses, with these slices lent

@@ -11,7 +11,7 @@ use mathlib.Core.Bool.{true, false}
 use Rattle.meaning.specs.Job.{Job, jobOf, Kind}
 use Rattle.meaning.specs.Lent.{Lent, lentOf, roomFor}
 use Rattle.meaning.specs.Bytes.{jobBytes, sectionBytes}
-use Rattle.meaning.specs.Answers.{saidOf}
+use Rattle.meaning.specs.Answers.{answerNumbers}
 use Rattle.meaning.specs.Solved.{Gives, Unrefused}
 use Rattle.meaning.specs.Certificates.{Checked}
 
@@ -27,7 +27,7 @@ justEnough k j = lentOf (replicate (roomFor k j .cells) 0) (replicate (roomFor k
 -- the job is of kind k, isn't refused where there is room, and is answered by a and the picks p
 pub record Means (k : Kind) (j : Job) (a : Answer) (p : List ℕ) : Type 0 where
   pub unrefused : Unrefused k j (justEnough k j)
-  pub answer : Gives k j (saidOf a) p
+  pub answer : Gives k j (answerNumbers a) p
 
 -- the trial goes as it says
 unfoldable pub Goes : Trial → Type 0

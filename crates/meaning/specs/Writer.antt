@@ -12,7 +12,7 @@ use Rattle.meaning.specs.Lists.{if}
 use Rattle.meaning.specs.Slices.{Holds}
 use Rattle.meaning.specs.Job.{Job, labels}
 use Rattle.meaning.specs.Bytes.{JobRead, unreadable, readable, readJob, sectionBytes}
-use Rattle.meaning.specs.Answers.{wroteOf}
+use Rattle.meaning.specs.Answers.{writtenNumbers}
 use Rattle.meaning.specs.Certificates.{certificateCells, certifiedRefusal}
 
 -- the certificate of these picks and cells: the needed places of each, copied and not judged
@@ -44,7 +44,7 @@ newBytes (suc r) certB = []
 
 -- the answer a and what is left in the byte slice, by the refusal number; past the new bytes stands what stood there
 pub record WritesAs (r n : ℕ) (certB before : List ℕ) (a : Written) (after : List ℕ) : Type 0 where
-  pub numbers : wroteOf a ≡ wroteOf (writtenAs r n)
+  pub numbers : writtenNumbers a ≡ writtenNumbers (writtenAs r n)
   pub leaves : Holds (newBytes r certB) before after
 
 -- the writer's promise on a job of lists: the answer a, and `after` in the byte slice

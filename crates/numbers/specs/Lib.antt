@@ -1,3 +1,3 @@
 -- The definitions that the contracts of this crate cite beside those of `meaning`.
-pub mod Handed
+pub mod TwoSlices
 pub mod Placed

@@ -6,7 +6,7 @@ ghost use Prim.Native.Nat.{_+_, _≤_, _<_};
 ghost use lib.ListN.{length};
 ghost use Rattle.meaning.specs.Lists.{at};
 ghost use Rattle.meaning.specs.Bytes.{numberAt, numbersIn, isNeeded, readSection, bytesOf, sectionBytes};
-ghost use Rattle.numbers.specs.Handed.{handed};
+ghost use Rattle.numbers.specs.TwoSlices.{listFrom};
 ghost use Rattle.numbers.specs.Placed.{HoldsAt, SectionWritten};
 
 // A byte as a wider number.
@@ -37,15 +37,15 @@ pub fn number_in(bytes: &[u8], i: usize) -> u32
 
 // The length of a list that is handed over as numbers and bytes.
 pub fn list_length(numbers: &[u32], bytes: &[u8]) -> usize
-    ensures { λ r. ⌜ r ≡ length (handed (now (numbers .entry)) (now (bytes .entry))) ⌝ }
+    ensures { λ r. ⌜ r ≡ length (listFrom (now (numbers .entry)) (now (bytes .entry))) ⌝ }
 {
     numbers.len() + bytes.len() / 4
 }
 
 // The number at place i of a list that is handed over as numbers and bytes.
 pub fn item(numbers: &[u32], bytes: &[u8], i: usize) -> u32
-    requires { ⌜ i < length (handed (now numbers) (now bytes)) ⌝ }
-    ensures { λ r. ⌜ r ≡ at (handed (now (numbers .entry)) (now (bytes .entry))) i ⌝ }
+    requires { ⌜ i < length (listFrom (now numbers) (now bytes)) ⌝ }
+    ensures { λ r. ⌜ r ≡ at (listFrom (now (numbers .entry)) (now (bytes .entry))) i ⌝ }
 {
     let n = numbers.len();
     if i < n {

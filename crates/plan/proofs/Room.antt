@@ -16,11 +16,11 @@ use Rattle.meaning.specs.Lent.{Lent, roomFor, roomOf}
 use Rattle.meaning.specs.Refusals.{kindRefusal}
 use Rattle.meaning.specs.Bytes.{readJob, readable}
 use Rattle.meaning.specs.Blocks.{tooMany}
-use Rattle.meaning.specs.Answers.{saidOf}
+use Rattle.meaning.specs.Answers.{answerNumbers}
 use Rattle.meaning.specs.Solved.{Unrefused, Gives, Outcome, Solved, SolvedAs, SolvedBytes, SolvedLists, TableHolds, TurnedDown, waysAnswer}
-use Rattle.meaning.proofs.Unique.{said-unique}
+use Rattle.meaning.proofs.Unique.{answer-numbers-unique}
 use Rattle.meaning.proofs.Laws.{bytes-solved}
-use Rattle.meaning.proofs.Doors.{kept}
+use Rattle.meaning.proofs.SolvedIn.{kept}
 use Rattle.plan.specs.Picks.{picksWritten}
 
 -- never more than the labels
@@ -34,8 +34,8 @@ at-most (Says.Ways w) n = omega arith
 at-most (Says.Shares s) n = omega arith
 
 -- an answer that says what one without picks says has none
-as-without : (a b : Answer) (n m : ℕ) → saidOf a ≡ saidOf b → picksWritten b n ≡ 0 → picksWritten a n ≤ m
-as-without a b n m same none-of-b = omega (arith, ap (λ (x : Answer). picksWritten x n) (said-unique {a = a} {b = b} same))
+as-without : (a b : Answer) (n m : ℕ) → answerNumbers a ≡ answerNumbers b → picksWritten b n ≡ 0 → picksWritten a n ≤ m
+as-without a b n m same none-of-b = omega (arith, ap (λ (x : Answer). picksWritten x n) (answer-numbers-unique {a = a} {b = b} same))
 
 -- kind 6 has none, whether it is answered or refused
 ways-without : (few : Bool) (w n : ℕ) → picksWritten (if few (Says.Ways w) (Says.Refused 8)) n ≡ 0
@@ -44,14 +44,14 @@ ways-without true w n = refl
 ways-without false w n = refl
 
 module _ (j : Job) (before after : Lent) (a : Answer) where
-  by-turning-down : (r : ℕ) → TurnedDown r before (saidOf a) after → picksWritten a (labels j) ≤ length (before .picks)
+  by-turning-down : (r : ℕ) → TurnedDown r before (answerNumbers a) after → picksWritten a (labels j) ≤ length (before .picks)
   unfolding picksWritten
   by-turning-down r t = as-without a (Says.Refused r) (labels j) (length (before .picks)) (t .numbers) refl
 
   one-each : (k : Kind) → roomFor k j .picks ≡ labels j → Unrefused k j before → picksWritten a (labels j) ≤ length (before .picks)
   one-each k each ok = omega (arith, kept k j before ok .picks-room, at-most a (labels j))
 
-  by-answer : (k : Kind) (p : List ℕ) → Unrefused k j before → Gives k j (saidOf a) p → picksWritten a (labels j) ≤ length (before .picks)
+  by-answer : (k : Kind) (p : List ℕ) → Unrefused k j before → Gives k j (answerNumbers a) p → picksWritten a (labels j) ≤ length (before .picks)
   unfolding Gives picksWritten roomFor roomOf waysAnswer
   by-answer (packing once) p ok g = one-each (packing once) refl ok
   by-answer (packing limited) p ok g = one-each (packing limited) refl ok
@@ -63,12 +63,12 @@ module _ (j : Job) (before after : Lent) (a : Answer) where
   by-answer sharing p ok g = one-each sharing refl ok
 
   by-refusal : (k : Kind) (r : ℕ) → kindOf (j .kind-number) ≡ some k → kindRefusal (roomFor k j) k j before ≡ r
-      → Outcome r (roomFor k j) (TableHolds k j) k j before (saidOf a) after → picksWritten a (labels j) ≤ length (before .picks)
+      → Outcome r (roomFor k j) (TableHolds k j) k j before (answerNumbers a) after → picksWritten a (labels j) ≤ length (before .picks)
   unfolding Outcome
   by-refusal k zero of-kind no-refusal o = by-answer k (o .content .picks) (record { of-kind = of-kind; no-refusal = no-refusal }) (o .gives)
   by-refusal k (suc r) of-kind no-refusal o = by-turning-down (suc r) o
 
-  by-kind : (o : Option Kind) → kindOf (j .kind-number) ≡ o → SolvedAs roomFor TableHolds o j before (saidOf a) after
+  by-kind : (o : Option Kind) → kindOf (j .kind-number) ≡ o → SolvedAs roomFor TableHolds o j before (answerNumbers a) after
       → picksWritten a (labels j) ≤ length (before .picks)
   unfolding SolvedAs
   by-kind none of-kind t = by-turning-down 2 t

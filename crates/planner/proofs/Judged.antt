@@ -21,7 +21,7 @@ use Rattle.meaning.proofs.Laws.{solved-kind, turned-down}
 use Rattle.meaning.proofs.Valid.{has-passed}
 use Rattle.meaning.proofs.Totals.{empty-of}
 use Rattle.rules.specs.declared.Room.{Room}
-use Rattle.blocks.specs.Doors as blocks
+use Rattle.blocks.specs.BlocksDoor as blocks
 use Rattle.requests.proofs.Judging.{earlier-given, none-earlier}
 use Rattle.rules.specs.Places.{NeededBy, roomFrom}
 

@@ -14,7 +14,8 @@ use borrow.Author.Tests.{le-leb, lt-leb, lt-ltb, eq-eqb, ne-eqb}
 use Rattle.meaning.specs.Lists.{at, if, sum, every}
 use Rattle.meaning.specs.Job.{Job, labels}
 use Rattle.meaning.specs.Refusals as meaning
-use Rattle.meaning.specs.Refusals.{ascendingFrom, boundsFit, eachWithin, jobRefusal, listsFit, numbersFit, mostValue, mostCopies, leastCopies}
+use Rattle.meaning.specs.Bounds.{mostValue, mostCopies, leastCopies}
+use Rattle.meaning.specs.Refusals.{ascendingFrom, boundsFit, eachWithin, jobRefusal, listsFit, numbersFit}
 use Rattle.meaning.proofs.Loops.{and-assoc, and-true, every-joined, every-step}
 use Rattle.rules.specs.declared.Rules.{Rules}
 use Rattle.rules.specs.Ruling.{rulesFrom, ruleFrom}

@@ -15,7 +15,7 @@ use Rattle.meaning.specs.Lists.{at, if}
 use Rattle.meaning.specs.Job.{jobOf}
 use Rattle.meaning.specs.Bytes.{JobRead, atEnd, between, isNeeded, numberAt, numbersIn, readJob, readSection, readable, unreadable, withSection}
 use Rattle.meaning.proofs.Numbers.{between-long, between-number, numbers-at, goes-on, numbers-long, section-found, stops}
-use Rattle.numbers.specs.Handed.{handed}
+use Rattle.numbers.specs.TwoSlices.{listFrom}
 use Rattle.requests.specs.declared.Request.{Request}
 use Rattle.requests.specs.declared.Request.the-variants.{Parts, Broken}
 use Rattle.requests.specs.Reading.{PartsRead, ReadAs, Within, brokenOf}
@@ -121,7 +121,7 @@ module _ (b : List ℕ) where
 
             -- all is read
             pub parts-read : length b ≤ p₅ → PartsRead b (numberAt b kind) (numberAt b budget) weights p₃ values p₄ copies p₅
-            unfolding atEnd if jobOf handed
+            unfolding atEnd if jobOf listFrom
             parts-read h = record {
               read = so-far-5 ∙ simp (le-ltb p₅ (length b) h, one-number b 0 kind n₁ p₁ e₁, one-number b p₁ budget n₂ p₂ e₂);
               weights-within = within Any b p₂ weights n₃ p₃ e₃;

@@ -3,10 +3,10 @@
 use Prim.Native.Nat.{ℕ}
 use mathlib.Core.Path.{_≡_, sym, _∙_}
 use mathlib.Core.Bool.{Bool, false}
-use mathlib.Core.List.{List, []}
+use mathlib.Core.List.{List, [], _∷_}
 use Rattle.meaning.specs.Bytes.{JobRead, between, readJob, readable, unreadable}
 use Rattle.meaning.specs.Refusals.{jobRefusal}
-use Rattle.numbers.specs.Handed.{jobHanded}
+use Rattle.numbers.specs.TwoSlices.{jobFrom}
 use Rattle.rules.specs.declared.Rules.{Rules}
 use Rattle.rules.specs.Ruling.{rulesFrom}
 use Rattle.requests.specs.declared.Request.{Request}
@@ -15,8 +15,8 @@ use Rattle.requests.specs.Reading.{ReadAs}
 
 -- `job_refusal`
 pub job-refusal-unique : (rules : Rules) (budget : ℕ) (weights wbytes values vbytes copies cbytes : List ℕ) (r r′ : ℕ)
-    → ((kind : ℕ) (needs-sum : Bool) → r ≡ jobRefusal (rulesFrom rules needs-sum) (jobHanded kind budget weights wbytes values vbytes copies cbytes) 0)
-    → ((kind : ℕ) (needs-sum : Bool) → r′ ≡ jobRefusal (rulesFrom rules needs-sum) (jobHanded kind budget weights wbytes values vbytes copies cbytes) 0) → r ≡ r′
+    → ((kind : ℕ) (needs-sum : Bool) → r ≡ jobRefusal (rulesFrom rules needs-sum) (jobFrom kind (budget ∷ []) weights wbytes values vbytes copies cbytes) 0)
+    → ((kind : ℕ) (needs-sum : Bool) → r′ ≡ jobRefusal (rulesFrom rules needs-sum) (jobFrom kind (budget ∷ []) weights wbytes values vbytes copies cbytes) 0) → r ≡ r′
 job-refusal-unique rules budget weights wbytes values vbytes copies cbytes r r′ a b = a 0 false ∙ sym (b 0 false)
 
 -- ---- `read_job` leaves a choice: a list may stand in any part that holds its numbers. What it was read as has none
@@ -24,7 +24,7 @@ job-refusal-unique rules budget weights wbytes values vbytes copies cbytes r r�
 -- the job in these parts of the bytes, or where reading broke
 unfoldable pub toldBy : List ℕ → Request → JobRead
 toldBy b (Parts kind budget weights weights-end values values-end copies copies-end) =
-    readable (jobHanded kind budget [] (between b weights weights-end) [] (between b values values-end) [] (between b copies copies-end))
+    readable (jobFrom kind (budget ∷ []) [] (between b weights weights-end) [] (between b values values-end) [] (between b copies copies-end))
 toldBy b (Broken place) = unreadable place
 
 told : (b : List ℕ) (r : Request) → ReadAs b r → readJob b ≡ toldBy b r

@@ -2,12 +2,12 @@
 -- Assumes nothing.
 use mathlib.Core.Path.{_≡_}
 use Prim.Native.Nat.{ℕ, _≤_}
-use mathlib.Core.List.{List, []}
+use mathlib.Core.List.{List, [], _∷_}
 use lib.ListN.{length}
 use Rattle.meaning.specs.declared.Section.{Section}
 use Rattle.meaning.specs.declared.Section.the-variants as Finds
 use Rattle.meaning.specs.Bytes.{between, readJob, readable, unreadable}
-use Rattle.numbers.specs.Handed.{jobHanded}
+use Rattle.numbers.specs.TwoSlices.{jobFrom}
 use Rattle.requests.specs.declared.Request.{Request}
 use Rattle.requests.specs.declared.Request.the-variants.{Parts, Broken}
 
@@ -18,7 +18,7 @@ pub record Within (b : List ℕ) (start end : ℕ) : Type 0 where
 
 -- the bytes are those of the job with this kind and budget whose lists stand in these parts
 pub record PartsRead (b : List ℕ) (kind budget weights weights-end values values-end copies copies-end : ℕ) : Type 0 where
-  pub read : readJob b ≡ readable (jobHanded kind budget [] (between b weights weights-end) [] (between b values values-end) [] (between b copies copies-end))
+  pub read : readJob b ≡ readable (jobFrom kind (budget ∷ []) [] (between b weights weights-end) [] (between b values values-end) [] (between b copies copies-end))
   pub weights-within : Within b weights weights-end
   pub values-within : Within b values values-end
   pub copies-within : Within b copies copies-end

@@ -5,6 +5,7 @@ use meaning::Needed;
 use meaning::Section;
 use rules::Rules;
 use rules::WeightRule;
+ghost use mathlib.Core.List.{[], _∷_};
 ghost use mathlib.Core.Path.{_≡_};
 ghost use Prim.Native.Nat.{ℕ};
 ghost use mathlib.Core.Bool.{Bool, _&&_};
@@ -12,7 +13,7 @@ ghost use lib.Dec.{ltb, leb, eqb};
 ghost use Rattle.meaning.specs.Lists.{sum, if};
 ghost use Rattle.meaning.specs.Bytes.{numbersIn};
 ghost use Rattle.meaning.specs.Refusals.{ascendingFrom, numbersFit, jobRefusal};
-ghost use Rattle.numbers.specs.Handed.{handed, jobHanded};
+ghost use Rattle.numbers.specs.TwoSlices.{listFrom, jobFrom};
 ghost use Rattle.rules.specs.Ruling.{rulesFrom, ruleFrom};
 ghost use Rattle.requests.specs.Reading.{ReadAs, brokenOf};
 ghost use Rattle.requests.specs.Judging.{EachWithin};
@@ -117,7 +118,7 @@ fn bytes_within(bytes: &[u8], low: u32, high: u32) -> bool
 
 // Whether each number of a list is from low to high.
 fn each_within(numbers: &[u32], bytes: &[u8], low: u32, high: u32) -> bool
-    ensures { λ r. ⌜ EachWithin low high (handed (now (numbers .entry)) (now (bytes .entry))) r ⌝ }
+    ensures { λ r. ⌜ EachWithin low high (listFrom (now (numbers .entry)) (now (bytes .entry))) r ⌝ }
 {
     let listed = numbers_within(numbers, low, high);
     let packed = bytes_within(bytes, low, high);
@@ -126,7 +127,7 @@ fn each_within(numbers: &[u32], bytes: &[u8], low: u32, high: u32) -> bool
 
 // Whether the numbers of a list are 1 or more and strictly ascending.
 fn ascending(numbers: &[u32], bytes: &[u8]) -> bool
-    ensures { λ r. ⌜ r ≡ ascendingFrom 1 (handed (now (numbers .entry)) (now (bytes .entry))) ⌝ }
+    ensures { λ r. ⌜ r ≡ ascendingFrom 1 (listFrom (now (numbers .entry)) (now (bytes .entry))) ⌝ }
 {
     let n = numbers::list_length(numbers, bytes);
     let mut least: u64 = 1;
@@ -144,14 +145,14 @@ fn ascending(numbers: &[u32], bytes: &[u8]) -> bool
 
 // Whether S, the sum of a list, is positive: whether its numbers are not all 0.
 pub fn has_sum(numbers: &[u32], bytes: &[u8]) -> bool
-    ensures { λ r. ⌜ r ≡ ltb 0 (sum (handed (now (numbers .entry)) (now (bytes .entry)))) ⌝ }
+    ensures { λ r. ⌜ r ≡ ltb 0 (sum (listFrom (now (numbers .entry)) (now (bytes .entry)))) ⌝ }
 {
     !each_within(numbers, bytes, 0, 0)
 }
 
 // Whether weights keep a rule.
 fn keeps(rule: WeightRule, weights: &[u32], wbytes: &[u8]) -> bool
-    ensures { λ r. ⌜ r ≡ ruleFrom rule (handed (now (weights .entry)) (now (wbytes .entry))) ⌝ }
+    ensures { λ r. ⌜ r ≡ ruleFrom rule (listFrom (now (weights .entry)) (now (wbytes .entry))) ⌝ }
 {
     match rule {
         WeightRule::Positive => each_within(weights, wbytes, 1, u32::MAX),
@@ -193,7 +194,7 @@ fn numbers_fit(
     copies: &[u32],
     cbytes: &[u8],
 ) -> bool
-    ensures { λ r. ⌜ ((kind budget : ℕ) (needs-sum : Bool) → r ≡ numbersFit (rulesFrom rules needs-sum) (jobHanded kind budget (now (weights .entry)) (now (wbytes .entry)) (now (values .entry)) (now (vbytes .entry)) (now (copies .entry)) (now (cbytes .entry)))) ⌝ }
+    ensures { λ r. ⌜ ((kind budget : ℕ) (needs-sum : Bool) → r ≡ numbersFit (rulesFrom rules needs-sum) (jobFrom kind (budget ∷ []) (now (weights .entry)) (now (wbytes .entry)) (now (values .entry)) (now (vbytes .entry)) (now (copies .entry)) (now (cbytes .entry)))) ⌝ }
 {
     let rule = rules.weights;
     if !keeps(rule, weights, wbytes) {
@@ -218,7 +219,7 @@ pub fn job_refusal(
     copies: &[u32],
     cbytes: &[u8],
 ) -> u32
-    ensures { λ r. ⌜ ((kind : ℕ) (needs-sum : Bool) → r ≡ jobRefusal (rulesFrom rules needs-sum) (jobHanded kind budget (now (weights .entry)) (now (wbytes .entry)) (now (values .entry)) (now (vbytes .entry)) (now (copies .entry)) (now (cbytes .entry))) 0) ⌝ }
+    ensures { λ r. ⌜ ((kind : ℕ) (needs-sum : Bool) → r ≡ jobRefusal (rulesFrom rules needs-sum) (jobFrom kind (budget ∷ []) (now (weights .entry)) (now (wbytes .entry)) (now (values .entry)) (now (vbytes .entry)) (now (copies .entry)) (now (cbytes .entry))) 0) ⌝ }
 {
     let n = numbers::list_length(weights, wbytes);
     let valued = numbers::list_length(values, vbytes);

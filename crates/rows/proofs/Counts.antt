@@ -6,11 +6,11 @@ use Prim.Native.Nat.{ℕ, zero, suc, _+_, _-_, _*_, _/_, _%_, _≤_, _<_, min}
 use native.Mathlib.Nat.{le-antisymm, mul-add, mul-zero, mul-one, mul-comm, mul-le-mul-left, mul-le-mul-right, mul-assoc, div-add-mod, mod-lt, sub-add-cancel, le-div-iff-mul-le, one-mul}
 use native.Mathlib.Omega.{arith}
 use Rattle.meaning.specs.Lists.{at}
-use Rattle.meaning.specs.Job.{Job, Sort}
-use Rattle.meaning.specs.Refusals.{mostValue}
+use Rattle.meaning.specs.Job.{Job, Knapsack}
+use Rattle.meaning.specs.Bounds.{mostValue}
 use Rattle.meaning.specs.Knapsacks.{MayPick, BestValue}
 use Rattle.meaning.proofs.Steps.{best-step}
-use Rattle.rows.specs.Rows.{Worth, Topped, ToppedRow, AnyCount, Least, Raised, Low}
+use Rattle.rows.specs.Rows.{Worth, Greatest, GreatestRow, AnyCount, Least, Raised, Capped}
 use Rattle.rows.proofs.Stores.{by}
 
 -- x times w, with s of the x apart
@@ -20,9 +20,9 @@ apart w x s h = ap (λ (n : ℕ). w * n) (sym (sub-add-cancel h)) ∙ mul-add w 
 -- ---- other counts, other rows
 
 -- where the same counts may be picked, as far as they fit
-pub topped-may : (May Can : ℕ → Type 0) (f : ℕ → ℕ) (w v c b : ℕ) → ((x : ℕ) → May x → Can x) → ((x : ℕ) → w * x ≤ c → Can x → May x)
-    → Topped May f w v c b → Topped Can f w v c b
-topped-may May Can f w v c b to from d = record {
+pub greatest-may : (May Can : ℕ → Type 0) (f : ℕ → ℕ) (w v c b : ℕ) → ((x : ℕ) → May x → Can x) → ((x : ℕ) → w * x ≤ c → Can x → May x)
+    → Greatest May f w v c b → Greatest Can f w v c b
+greatest-may May Can f w v c b to from d = record {
   count = d .count;
   may = to (d .count) (d .may);
   made = d .made;
@@ -30,14 +30,14 @@ topped-may May Can f w v c b to from d = record {
 }
 
 -- a count that is over what the whole budget holds makes no difference
-pub topped-limit : (f : ℕ → ℕ) (w v c b limit budget : ℕ) → 1 ≤ w → c ≤ budget → Topped (λ x. x ≤ min limit (budget / w)) f w v c b → Topped (λ x. x ≤ limit) f w v c b
-topped-limit f w v c b limit budget pos h =
-    topped-may (λ x. x ≤ min limit (budget / w)) (λ x. x ≤ limit) f w v c b (λ x m. omega arith)
+pub greatest-limit : (f : ℕ → ℕ) (w v c b limit budget : ℕ) → 1 ≤ w → c ≤ budget → Greatest (λ x. x ≤ min limit (budget / w)) f w v c b → Greatest (λ x. x ≤ limit) f w v c b
+greatest-limit f w v c b limit budget pos h =
+    greatest-may (λ x. x ≤ min limit (budget / w)) (λ x. x ≤ limit) f w v c b (λ x m. omega arith)
     (λ x l m. let fits : x ≤ budget / w = le-div-iff-mul-le pos .1 (omega (arith, mul-comm x w)) in omega arith)
 
 -- over a row with the same cells
-pub topped-same : (May : ℕ → Type 0) (f g : ℕ → ℕ) (w v c b : ℕ) → ((d : ℕ) → d ≤ c → f d ≡ g d) → Topped May f w v c b → Topped May g w v c b
-topped-same May f g w v c b e d = record {
+pub greatest-same : (May : ℕ → Type 0) (f g : ℕ → ℕ) (w v c b : ℕ) → ((d : ℕ) → d ≤ c → f d ≡ g d) → Greatest May f w v c b → Greatest May g w v c b
+greatest-same May f g w v c b e d = record {
   count = d .count;
   may = d .may;
   made = record { left = d .made .left; spent = d .made .spent; worth = d .made .worth ∙ rw (e (d .made .left) (omega (arith, d .made .spent))) };
@@ -46,8 +46,8 @@ topped-same May f g w v c b e d = record {
 
 -- ---- none of the label, and more of it
 
-pub topped-none : (f : ℕ → ℕ) (w v c : ℕ) → Topped (λ x. x ≤ 0) f w v c (f c)
-topped-none f w v c = record {
+pub greatest-none : (f : ℕ → ℕ) (w v c : ℕ) → Greatest (λ x. x ≤ 0) f w v c (f c)
+greatest-none f w v c = record {
   count = 0;
   may = omega arith;
   made = record { left = c; spent = omega (arith, mul-zero w); worth = omega (arith, mul-zero v) };
@@ -62,7 +62,7 @@ topped-none f w v c = record {
 module _ (First Second Both : ℕ → Type 0) (s : ℕ)
     (either : (x : ℕ) → Both x → First x ⊎ ((s ≤ x) × Second (x - s))) (as-first : (x : ℕ) → First x → Both x) (with-more : (x : ℕ) → Second x → Both (x + s))
     (f base less h : ℕ → ℕ) (w v width : ℕ) (up : Raised base less h (w * s) (v * s) width) (c : ℕ) (inside : c < width)
-    (bases : Topped First f w v c (base c)) (lesses : w * s ≤ c → Topped Second f w v (c - w * s) (less (c - w * s))) where
+    (bases : Greatest First f w v c (base c)) (lesses : w * s ≤ c → Greatest Second f w v (c - w * s) (less (c - w * s))) where
   -- no count is worth more than one of the two
   under : (x y : ℕ) → Both x → Worth f w v c x y → (y ≤ base c) ⊎ ((w * s ≤ c) × (y ≤ less (c - w * s) + v * s))
   under x y k r =
@@ -74,7 +74,7 @@ module _ (First Second Both : ℕ → Type 0) (s : ℕ)
             inr (light, omega (arith, r .worth, apart v x s large))
       ]
 
-  keep : h c ≡ base c → (w * s ≤ c → less (c - w * s) + v * s ≤ base c) → Topped Both f w v c (h c)
+  keep : h c ≡ base c → (w * s ≤ c → less (c - w * s) + v * s ≤ base c) → Greatest Both f w v c (h c)
   keep e no-more = record {
     count = bases .count;
     may = as-first (bases .count) (bases .may);
@@ -82,7 +82,7 @@ module _ (First Second Both : ℕ → Type 0) (s : ℕ)
     above = λ x y k r. elim (under x y k r) [ inl a ↦ omega arith | inr (light, a) ↦ omega (arith, no-more light) ];
   }
 
-  add : w * s ≤ c → h c ≡ less (c - w * s) + v * s → base c ≤ h c → Topped Both f w v c (h c)
+  add : w * s ≤ c → h c ≡ less (c - w * s) + v * s → base c ≤ h c → Greatest Both f w v c (h c)
   add light e over =
       let d = lesses light in
       record {
@@ -96,8 +96,8 @@ module _ (First Second Both : ℕ → Type 0) (s : ℕ)
         above = λ x y k r. elim (under x y k r) [ inl a ↦ omega arith | inr (l, a) ↦ omega arith ];
       }
 
-  topped-raised : Topped Both f w v c (h c)
-  topped-raised =
+  greatest-raised : Greatest Both f w v c (h c)
+  greatest-raised =
       by c (w * s)
       (λ short. keep (up .short c inside short) (λ light. absurd (omega arith)))
       (λ light.
@@ -107,33 +107,33 @@ module _ (First Second Both : ℕ → Type 0) (s : ℕ)
       (λ less-of. keep (omega arith) (λ l. less-of)))
 
 -- g holds up to m of the label over f. With s of them more at once, which are no more than m + 1, every count up to m + s is within reach
-pub topped-part : (f g h : ℕ → ℕ) (w v m s width : ℕ) → s ≤ suc m → ToppedRow (λ x. x ≤ m) f w v width g → Raised g g h (w * s) (v * s) width
-    → ToppedRow (λ x. x ≤ m + s) f w v width h
-unfolding ToppedRow
-topped-part f g h w v m s width small tops up c inside =
-    topped-raised (λ x. x ≤ m) (λ x. x ≤ m) (λ x. x ≤ m + s) s
+pub greatest-part : (f g h : ℕ → ℕ) (w v m s width : ℕ) → s ≤ suc m → GreatestRow (λ x. x ≤ m) f w v width g → Raised g g h (w * s) (v * s) width
+    → GreatestRow (λ x. x ≤ m + s) f w v width h
+unfolding GreatestRow
+greatest-part f g h w v m s width small tops up c inside =
+    greatest-raised (λ x. x ≤ m) (λ x. x ≤ m) (λ x. x ≤ m + s) s
     (λ x k. by m x (λ l. inr (omega arith, omega arith)) (λ l. inl l)) (λ x k. omega arith) (λ x k. omega arith)
     f g g h w v width up c inside (tops c inside) (λ light. tops (c - w * s) (omega arith))
 
 -- g holds, over f, the label added again and again to g itself: any count is within reach
 module _ (f g : ℕ → ℕ) (w v width : ℕ) (pos : 1 ≤ w) (up : Raised f g g w v width) where
-  any-below : (n c : ℕ) → c < n → c < width → Topped AnyCount f w v c (g c)
+  any-below : (n c : ℕ) → c < n → c < width → Greatest AnyCount f w v c (g c)
   any-below zero c h l = absurd (omega arith)
   any-below (suc n) c h l =
-      topped-raised (λ x. x ≤ 0) AnyCount AnyCount 1
+      greatest-raised (λ x. x ≤ 0) AnyCount AnyCount 1
       (λ x k. by 0 x (λ some. inr (some, tt)) (λ none. inl none)) (λ x k. tt) (λ x k. tt)
-      f f g g w v width (rw (mul-one w, mul-one v) up) c l (topped-none f w v c)
+      f f g g w v width (rw (mul-one w, mul-one v) up) c l (greatest-none f w v c)
       (rw (mul-one w) (λ light. any-below n (c - w) (omega arith) (omega arith)))
 
-  pub topped-any : ToppedRow AnyCount f w v width g
-  unfolding ToppedRow
-  topped-any c h = any-below (suc c) c (omega arith) h
+  pub greatest-any : GreatestRow AnyCount f w v width g
+  unfolding GreatestRow
+  greatest-any c h = any-below (suc c) c (omega arith) h
 
 -- counts up to m - 1, and then any number of m at once: any count is within reach
-module _ (f g h : ℕ → ℕ) (w v m width : ℕ) (pos : 1 ≤ m) (fewer : ToppedRow (λ x. x ≤ m - 1) f w v width g) (bundles : ToppedRow AnyCount g (w * m) (v * m) width h) where
-  pub topped-bundles : ToppedRow AnyCount f w v width h
-  unfolding ToppedRow
-  topped-bundles c inside =
+module _ (f g h : ℕ → ℕ) (w v m width : ℕ) (pos : 1 ≤ m) (fewer : GreatestRow (λ x. x ≤ m - 1) f w v width g) (bundles : GreatestRow AnyCount g (w * m) (v * m) width h) where
+  pub greatest-bundles : GreatestRow AnyCount f w v width h
+  unfolding GreatestRow
+  greatest-bundles c inside =
       let d = bundles c inside in
       let e = fewer (d .made .left) (omega (arith, d .made .spent)) in
       record {
@@ -158,9 +158,9 @@ module _ (f g h : ℕ → ℕ) (w v m width : ℕ) (pos : 1 ≤ m) (fewer : Topp
 -- ---- what a row comes to
 
 -- over a low row, whatever may be picked
-pub topped-low : (May : ℕ → Type 0) (f g : ℕ → ℕ) (w v width : ℕ) → 1 ≤ w → v ≤ mostValue → Low f width → ToppedRow May f w v width g → Low g width
-unfolding Low ToppedRow mostValue
-topped-low May f g w v width pos cheap low tops c h =
+pub greatest-capped : (May : ℕ → Type 0) (f g : ℕ → ℕ) (w v width : ℕ) → 1 ≤ w → v ≤ mostValue → Capped f width → GreatestRow May f w v width g → Capped g width
+unfolding Capped GreatestRow mostValue
+greatest-capped May f g w v width pos cheap low tops c h =
     let d = tops c h .made in
     let x = tops c h .count in
     let heavy : 1 * x ≤ w * x = mul-le-mul-right x pos in
@@ -168,10 +168,10 @@ topped-low May f g w v width pos cheap low tops c h =
     omega (arith, d .spent, d .worth, low (d .left) (omega (arith, d .spent)), one-mul x)
 
 -- the row of the first i labels with label i is the row of the first i + 1
-pub topped-best : (k : Sort) (j : Job) (i width : ℕ) (f g : ℕ → ℕ) → ((c : ℕ) → c < width → BestValue k j i c (f c))
-    → ToppedRow (MayPick k (at (j .copies) i)) f (at (j .weights) i) (at (j .values) i) width g → (c : ℕ) → c < width → BestValue k j (suc i) c (g c)
-unfolding ToppedRow
-topped-best k j i width f g rows tops c h =
+pub greatest-best : (k : Knapsack) (j : Job) (i width : ℕ) (f g : ℕ → ℕ) → ((c : ℕ) → c < width → BestValue k j i c (f c))
+    → GreatestRow (MayPick k (at (j .copies) i)) f (at (j .weights) i) (at (j .values) i) width g → (c : ℕ) → c < width → BestValue k j (suc i) c (g c)
+unfolding GreatestRow
+greatest-best k j i width f g rows tops c h =
     let d = tops c h in
     let w = at (j .weights) i in
     let v = at (j .values) i in
@@ -193,9 +193,9 @@ part-fits w v part most width pos cheap few light =
     record { light = omega (arith, mul-le-mul-left w few); cheap = omega (arith, one-mul part) }
 
 -- a low row stays low where something low is added
-pub raised-low : (f g : ℕ → ℕ) (w v width : ℕ) → v ≤ mostValue * w → Low f width → Raised f f g w v width → Low g width
-unfolding Low mostValue
-raised-low f g w v width cheap low up c h =
+pub raised-capped : (f g : ℕ → ℕ) (w v width : ℕ) → v ≤ mostValue * w → Capped f width → Raised f f g w v width → Capped g width
+unfolding Capped mostValue
+raised-capped f g w v width cheap low up c h =
     by c w
     (λ short. omega (arith, up .short c h short, low c h))
     (λ light. omega (arith, up .long c h light, low c h, low (c - w) (omega arith)))
@@ -203,8 +203,8 @@ raised-low f g w v width cheap low up c h =
 -- ---- no second choice is left
 
 -- one number is the greatest
-pub topped-unique : {May : ℕ → Type 0} {f : ℕ → ℕ} {w v c b b′ : ℕ} → Topped May f w v c b → Topped May f w v c b′ → b ≡ b′
-topped-unique {b = b} {b′ = b′} d e = le-antisymm (e .above (d .count) b (d .may) (d .made)) (d .above (e .count) b′ (e .may) (e .made))
+pub greatest-unique : {May : ℕ → Type 0} {f : ℕ → ℕ} {w v c b b′ : ℕ} → Greatest May f w v c b → Greatest May f w v c b′ → b ≡ b′
+greatest-unique {b = b} {b′ = b′} d e = le-antisymm (e .above (d .count) b (d .may) (d .made)) (d .above (e .count) b′ (e .may) (e .made))
 
 -- and one count the least
 pub least-unique : {f : ℕ → ℕ} {w v c b x x′ : ℕ} → Least f w v c b x → Least f w v c b x′ → x ≡ x′

@@ -11,6 +11,6 @@ pub mod LeastCounts
 pub mod LeadsOn
 -- a slice made label by label, and the way through the labels
 pub mod Rounds
-pub mod Ways
+pub mod Traces
 -- no second choice is left by any function of this crate
 pub mod Unique

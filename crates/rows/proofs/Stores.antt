@@ -9,8 +9,8 @@ use mathlib.Core.List.{List, _∷_}
 use lib.ListN.{length, set, drop}
 use lib.Seq.{getD-set-same, getD-set-other, drop-cons, drop-set-lt, lt-length-set}
 use Rattle.meaning.specs.Lists.{at}
-use Rattle.meaning.specs.Refusals.{mostValue}
-use Rattle.rows.specs.Rows.{Swept, Stored, FirstAlone, Low}
+use Rattle.meaning.specs.Bounds.{mostValue}
+use Rattle.rows.specs.Rows.{Swept, Stored, FirstAlone, Capped}
 
 -- by cases, a below b or not; the numbers come first, so that what each case is handed is known
 pub by : {C : Type 0} (a b : ℕ) → (a < b → C) → (b ≤ a → C) → C
@@ -107,14 +107,14 @@ module _ (rule : ℕ → ℕ → ℕ) (s : List ℕ) (w : ℕ) where
   }
 
 -- a cell that is low stays so with a label more
-pub low-more : (x y c w v : ℕ) → x ≤ mostValue * c → w ≤ c → y ≤ mostValue * (c - w) → v ≤ mostValue * w → max x (y + v) ≤ mostValue * c
+pub capped-more : (x y c w v : ℕ) → x ≤ mostValue * c → w ≤ c → y ≤ mostValue * (c - w) → v ≤ mostValue * w → max x (y + v) ≤ mostValue * c
 unfolding mostValue
-low-more x y c w v hx h hy hv = omega arith
+capped-more x y c w v hx h hy hv = omega arith
 
 -- a low row with one cell stored that is low
-pub low-set : (t : List ℕ) (c x width : ℕ) → c < length t → Low (at t) width → x ≤ mostValue * c → Low (at (set t c x)) width
-unfolding Low mostValue
-low-set t c x width inside low h k l =
+pub capped-set : (t : List ℕ) (c x width : ℕ) → c < length t → Capped (at t) width → x ≤ mostValue * c → Capped (at (set t c x)) width
+unfolding Capped mostValue
+capped-set t c x width inside low h k l =
     by k c (λ b. omega (arith, at-other t c x k (omega arith), low k l))
     (λ b. by c k
     (λ b′. omega (arith, at-other t c x k (omega arith), low k l))

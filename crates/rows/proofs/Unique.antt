@@ -8,9 +8,9 @@ use mathlib.Core.List.{List}
 use lib.ListN.{length}
 use lib.Seq.{ext-getD}
 use Rattle.meaning.specs.Lists.{at}
-use Rattle.rows.specs.Rows.{ToppedRow, Stored, FirstAlone, NextRow}
+use Rattle.rows.specs.Rows.{GreatestRow, Stored, FirstAlone, NextRow}
 use Rattle.rows.proofs.Stores.{by}
-use Rattle.rows.proofs.Counts.{topped-unique}
+use Rattle.rows.proofs.Counts.{greatest-unique}
 
 module _ (n : ℕ) (t t′ : List ℕ) (long : length t ≡ n) (long′ : length t′ ≡ n) where
   -- slices of one length are settled by their places
@@ -44,16 +44,16 @@ module _ (n : ℕ) (t t′ : List ℕ) (long : length t ≡ n) (long′ : length
 
   -- `next_row`
   pub next-row-unique : (s : List ℕ) (from width w v limit : ℕ) → NextRow s t from width w v limit → NextRow s t′ from width w v limit → t ≡ t′
-  unfolding ToppedRow
+  unfolding GreatestRow
   next-row-unique s from width w v limit d e =
       let to = from + width in
       same-part s to (to + width)
       (λ k h l.
       let here : to + (k - to) ≡ k = omega arith in
-      rw here at (topped-unique (d .made (k - to) (omega arith)) (e .made (k - to) (omega arith))))
+      rw here at (greatest-unique (d .made (k - to) (omega arith)) (e .made (k - to) (omega arith))))
       (d .before) (d .past) (e .before) (e .past)
 
-  -- `raise_up`: every cell of the row is topped
-  pub topped-row-unique : (May : ℕ → Type 0) (f : ℕ → ℕ) (w v : ℕ) → ToppedRow May f w v n (at t) → ToppedRow May f w v n (at t′) → t ≡ t′
-  unfolding ToppedRow
-  topped-row-unique May f w v d e = same-places (λ k h. topped-unique (d k h) (e k h))
+  -- `add_any_number`: every cell of the row is topped
+  pub greatest-row-unique : (May : ℕ → Type 0) (f : ℕ → ℕ) (w v : ℕ) → GreatestRow May f w v n (at t) → GreatestRow May f w v n (at t′) → t ≡ t′
+  unfolding GreatestRow
+  greatest-row-unique May f w v d e = same-places (λ k h. greatest-unique (d k h) (e k h))

@@ -1,4 +1,4 @@
 -- The definitions that the contracts of this crate cite beside those of `meaning`.
 pub mod Rows
 pub mod Rounds
-pub mod Ways
+pub mod Traces

@@ -6,7 +6,7 @@ use mathlib.Core.Bool.{Bool, _&&_}
 use mathlib.Core.List.{List}
 use lib.Dec.{leb, eqb}
 use Rattle.meaning.specs.Lists.{at}
-use Rattle.meaning.specs.Refusals.{mostValue}
+use Rattle.meaning.specs.Bounds.{mostValue}
 
 -- at budget c, x of the label over the row for what they leave are worth b
 pub record Worth (f : ℕ → ℕ) (w v c x b : ℕ) : Type 0 where
@@ -20,7 +20,7 @@ pub record SomeCount (f : ℕ → ℕ) (w v c b : ℕ) : Type 0 where
   pub made : Worth f w v c count b
 
 -- b is the greatest worth over the counts that may be picked
-pub record Topped (May : ℕ → Type 0) (f : ℕ → ℕ) (w v c b : ℕ) : Type 0 where
+pub record Greatest (May : ℕ → Type 0) (f : ℕ → ℕ) (w v c b : ℕ) : Type 0 where
   pub count : ℕ
   pub may : May count
   pub made : Worth f w v c count b
@@ -31,8 +31,8 @@ abbrev pub AnyCount : ℕ → Type 0
 AnyCount x = Unit
 
 -- g is such a row: each of its cells is topped over f, for budgets below `width`
-unfoldable pub ToppedRow : (ℕ → Type 0) → (ℕ → ℕ) → ℕ → ℕ → ℕ → (ℕ → ℕ) → Type 0
-ToppedRow May f w v width g = (c : ℕ) → c < width → Topped May f w v c (g c)
+unfoldable pub GreatestRow : (ℕ → Type 0) → (ℕ → ℕ) → ℕ → ℕ → ℕ → (ℕ → ℕ) → Type 0
+GreatestRow May f w v width g = (c : ℕ) → c < width → Greatest May f w v c (g c)
 
 -- x is the least count that is worth b
 pub record Least (f : ℕ → ℕ) (w v c b x : ℕ) : Type 0 where
@@ -68,25 +68,25 @@ pub record FirstAlone (one none count : ℕ) (l : List ℕ) : Type 0 where
   pub others : (m : ℕ) → 0 < m → m < count → at l m ≡ none
 
 -- no cell is more than the greatest value for each unit of its budget, so that a label more still fits 32 bits
-unfoldable pub Low : (ℕ → ℕ) → ℕ → Type 0
-Low f width = (c : ℕ) → c < width → f c ≤ mostValue * c
+unfoldable pub Capped : (ℕ → ℕ) → ℕ → Type 0
+Capped f width = (c : ℕ) → c < width → f c ≤ mostValue * c
 
 -- over whatever row s holds up to one of the label (or none, where none may be picked), t holds up to `most`
 unfoldable pub Repeated : List ℕ → List ℕ → ℕ → ℕ → ℕ → ℕ → Type 0
 Repeated s t w v width most =
-    (f : ℕ → ℕ) → ToppedRow (λ x. x ≤ min 1 most) f w v width (at s) → ToppedRow (λ x. x ≤ most) f w v width (at t)
+    (f : ℕ → ℕ) → GreatestRow (λ x. x ≤ min 1 most) f w v width (at s) → GreatestRow (λ x. x ≤ most) f w v width (at t)
 
 -- t holds, over s, fewer than m of the label: the next pass may take m at once, which no sum keeps from fitting 32 bits
 pub record Bundled (s t : List ℕ) (w v width m : ℕ) : Type 0 where
   pub some-of : 1 ≤ m
   pub few : m < 32
   pub fits : w * m < 4_294_967_296
-  pub fewer : ToppedRow (λ x. x ≤ m - 1) (at s) w v width (at t)
-  pub low : Low (at t) width
+  pub fewer : GreatestRow (λ x. x ≤ m - 1) (at s) w v width (at t)
+  pub low : Capped (at t) width
 
 -- t is s with the row after the one at `from` made of it and up to `limit` of the label; all other cells are kept
 pub record NextRow (s t : List ℕ) (from width w v limit : ℕ) : Type 0 where
-  pub made : ToppedRow (λ x. x ≤ limit) (λ c. at s (from + c)) w v width (λ c. at t (from + width + c))
+  pub made : GreatestRow (λ x. x ≤ limit) (λ c. at s (from + c)) w v width (λ c. at t (from + width + c))
   pub before : (k : ℕ) → k < from + width → at t k ≡ at s k
   pub past : (k : ℕ) → from + width + width ≤ k → at t k ≡ at s k
 

@@ -4,8 +4,8 @@ ghost use mathlib.Core.Path.{_≡_};
 ghost use Prim.Native.Nat.{ℕ, _+_, _-_, _*_, _/_, _≤_, _<_, max, min};
 ghost use lib.ListN.{length};
 ghost use Rattle.meaning.specs.Lists.{at};
-ghost use Rattle.meaning.specs.Refusals.{mostBudget, mostValue};
-ghost use Rattle.rows.specs.Rows.{ToppedRow, AnyCount, SomeCount, Least, Raised, Swept, raisedBy, Stored, FirstAlone, Low, Repeated, Bundled, NextRow, leadsOn};
+ghost use Rattle.meaning.specs.Bounds.{mostBudget, mostValue};
+ghost use Rattle.rows.specs.Rows.{GreatestRow, AnyCount, SomeCount, Least, Raised, Swept, raisedBy, Stored, FirstAlone, Capped, Repeated, Bundled, NextRow, leadsOn};
 
 // The lesser of two numbers.
 fn lesser(a: u32, b: u32) -> u32
@@ -79,7 +79,7 @@ fn raise(cells: &mut [u32], from: usize, to: usize, width: usize, w: usize, v: u
 // ---- a row in place
 
 // One more of a label of weight w and value v in a row, in place: from the greatest budget down, so that it is added once.
-fn raise_down(row: &mut [u32], w: u32, v: u32)
+fn add_one(row: &mut [u32], w: u32, v: u32)
     requires { ⌜ ((c : ℕ) → c + w < length (now row) → at (now row) c + v < 4_294_967_296) ⌝ }
     ensures { λ _. ⌜ Raised (at (now (row .entry))) (at (now (row .entry))) (at (now (row .exit))) w v (length (now (row .entry))) ⌝ }
 {
@@ -98,13 +98,13 @@ fn raise_down(row: &mut [u32], w: u32, v: u32)
 // run in vectors.
 fn add_parts(row: &mut [u32], w: u32, v: u32, most: u32)
     requires { ⌜ (1 ≤ w) × ((v ≤ mostValue) × ((length (now row) ≤ mostBudget + 1) × (w * most < length (now row)))) ⌝ }
-    requires { ⌜ Low (at (now row)) (length (now row)) ⌝ }
+    requires { ⌜ Capped (at (now row)) (length (now row)) ⌝ }
     ensures { λ _. ⌜ Repeated (now (row .entry)) (now (row .exit)) w v (length (now (row .entry))) most ⌝ }
 {
     let mut m = lesser(1, most);
     while m < most {
         let part = lesser(m + 1, most - m);
-        raise_down(row, w * part % 65_536, v * part);
+        add_one(row, w * part % 65_536, v * part);
         m += part;
     }
 }
@@ -112,8 +112,8 @@ fn add_parts(row: &mut [u32], w: u32, v: u32, most: u32)
 // A stretch of a row from small budgets up: a label of weight w and value v is added as often as it may be.
 fn raise_stretch(row: &mut [u32], from: usize, to: usize, w: usize, v: u32)
     requires { ⌜ (1 ≤ w) × ((w ≤ from) × ((from ≤ to) × (to ≤ length (now row)))) ⌝ }
-    requires { ⌜ (v ≤ mostValue * w) × ((length (now row) ≤ mostBudget + 1) × Low (at (now row)) (length (now row))) ⌝ }
-    ensures { λ _. ⌜ Swept (raisedBy v) (now (row .entry)) (now (row .exit)) w from to × Low (at (now (row .exit))) (length (now (row .entry))) ⌝ }
+    requires { ⌜ (v ≤ mostValue * w) × ((length (now row) ≤ mostBudget + 1) × Capped (at (now row)) (length (now row))) ⌝ }
+    ensures { λ _. ⌜ Swept (raisedBy v) (now (row .entry)) (now (row .exit)) w from to × Capped (at (now (row .exit))) (length (now (row .entry))) ⌝ }
 {
     let mut c = from;
     while c < to {
@@ -138,7 +138,7 @@ pub fn stretch_end(width: usize, c: usize, w: usize) -> usize
 // A row in place from the least budget up, so that a label of weight w and value v is added again and again.
 fn climb(row: &mut [u32], w: u32, v: u32)
     requires { ⌜ (1 ≤ w) × ((v ≤ mostValue * w) × (length (now row) ≤ mostBudget + 1)) ⌝ }
-    requires { ⌜ Low (at (now row)) (length (now row)) ⌝ }
+    requires { ⌜ Capped (at (now row)) (length (now row)) ⌝ }
     ensures { λ _. ⌜ Raised (at (now (row .entry))) (at (now (row .exit))) (at (now (row .exit))) w v (length (now (row .entry))) ⌝ }
 {
     let w = w as usize;
@@ -154,22 +154,22 @@ fn climb(row: &mut [u32], w: u32, v: u32)
 // heavy enough for stretches that run in vectors, or is the label alone.
 fn bundle(row: &mut [u32], w: u32, v: u32) -> u32
     requires { ⌜ (1 ≤ w) × ((v ≤ mostValue) × (length (now row) ≤ mostBudget + 1)) ⌝ }
-    requires { ⌜ Low (at (now row)) (length (now row)) ⌝ }
+    requires { ⌜ Capped (at (now row)) (length (now row)) ⌝ }
     ensures { λ r. ⌜ Bundled (now (row .entry)) (now (row .exit)) w v (length (now (row .entry))) r ⌝ }
 {
     let mut m: u32 = 1;
     while w * m < 16 {
-        raise_down(row, w * m % 16, v * m);
+        add_one(row, w * m % 16, v * m);
         m *= 2;
     }
     m
 }
 
 // Any number of a label of weight w and value v in a row, in place.
-pub fn raise_up(row: &mut [u32], w: u32, v: u32)
+pub fn add_any_number(row: &mut [u32], w: u32, v: u32)
     requires { ⌜ (1 ≤ w) × ((v ≤ mostValue) × (length (now row) ≤ mostBudget + 1)) ⌝ }
-    requires { ⌜ Low (at (now row)) (length (now row)) ⌝ }
-    ensures { λ _. ⌜ ToppedRow AnyCount (at (now (row .entry))) w v (length (now (row .entry))) (at (now (row .exit))) ⌝ }
+    requires { ⌜ Capped (at (now row)) (length (now row)) ⌝ }
+    ensures { λ _. ⌜ GreatestRow AnyCount (at (now (row .entry))) w v (length (now (row .entry))) (at (now (row .exit))) ⌝ }
 {
     let m = bundle(row, w, v);
     climb(row, w * m, v * m);
@@ -207,7 +207,7 @@ fn most_held(limit: u32, width: usize, w: u32) -> u32
 pub fn next_row(cells: &mut [u32], from: usize, width: usize, w: u32, v: u32, limit: u32)
     requires { ⌜ (0 < width) × ((width ≤ mostBudget + 1) × (from + width + width ≤ length (now cells))) ⌝ }
     requires { ⌜ (1 ≤ w) × (v ≤ mostValue) ⌝ }
-    requires { ⌜ Low (λ c. at (now cells) (from + c)) width ⌝ }
+    requires { ⌜ Capped (λ c. at (now cells) (from + c)) width ⌝ }
     ensures { λ _. ⌜ NextRow (now (cells .entry)) (now (cells .exit)) from width w v limit ⌝ }
 {
     let to = from + width;
@@ -240,7 +240,7 @@ pub fn least_count(cells: &[u32], from: usize, c: usize, w: u32, v: u32, goal: u
 // Whether one of a label of weight w and value v leads on from budget c.
 pub fn leads(row: &[u32], w: u32, v: u32, c: usize) -> bool
     requires { ⌜ (1 ≤ w) × ((v ≤ mostValue) × ((c < length (now row)) × (length (now row) ≤ mostBudget + 1))) ⌝ }
-    requires { ⌜ Low (at (now row)) (length (now row)) ⌝ }
+    requires { ⌜ Capped (at (now row)) (length (now row)) ⌝ }
     ensures { λ r. ⌜ r ≡ leadsOn (at (now (row .entry))) w v c ⌝ }
 {
     let w = w as usize;

@@ -7,21 +7,21 @@ use lib.Dec.{leb}
 use borrow.Author.Tests.{le-leb, lt-leb}
 use native.Mathlib.Omega.{arith}
 use native.Mathlib.Nat.{mul-le-mul}
-use Rattle.meaning.specs.Job.{Sort, once, limited, free, packing, subset-sums, fewest-blocks, block-ways, sharing}
+use Rattle.meaning.specs.Job.{Knapsack, once, limited, free, packing, subset-sums, fewest-blocks, block-ways, sharing}
 use Rattle.meaning.specs.Lent.{cellCount, roomFor, roomOf}
-use Rattle.meaning.specs.Refusals.{mostLabels, mostBudget}
+use Rattle.meaning.specs.Bounds.{mostLabels, mostBudget}
 use Rattle.meaning.proofs.Laws.{numberOf}
 use Rattle.rules.specs.Places.{NeededBy, roomFrom}
 
 -- ---- kinds 1 to 3
 
-pub one-row : (k : Sort) (n budget : ℕ) → numberOf (packing k) ≡ 3 → NeededBy (packing k) n budget (record { cells = budget + 1; words = 0; picks = n })
+pub one-row : (k : Knapsack) (n budget : ℕ) → numberOf (packing k) ≡ 3 → NeededBy (packing k) n budget (record { cells = budget + 1; words = 0; picks = n })
 unfolding NeededBy roomFrom roomFor roomOf numberOf
 one-row once n budget three j e f = absurd (omega arith)
 one-row limited n budget three j e f = absurd (omega arith)
 one-row free n budget three j e f = rw (e, f)
 
-pub all-rows : (k : Sort) (n budget : ℕ) → ¬ (numberOf (packing k) ≡ 3) → NeededBy (packing k) n budget (record { cells = (n + 1) * (budget + 1); words = 0; picks = n })
+pub all-rows : (k : Knapsack) (n budget : ℕ) → ¬ (numberOf (packing k) ≡ 3) → NeededBy (packing k) n budget (record { cells = (n + 1) * (budget + 1); words = 0; picks = n })
 unfolding NeededBy roomFrom roomFor roomOf numberOf cellCount
 all-rows once n budget other j e f = rw (e, f)
 all-rows limited n budget other j e f = rw (e, f)

@@ -9,10 +9,11 @@ use mathlib.Core.Bool.{Bool, true, false}
 use mathlib.Core.List.{List, [], _∷_}
 use lib.ListN.{length-replicate, replicate}
 use Rattle.meaning.specs.Lists.{every, if}
-use Rattle.meaning.specs.Job.{Sort, Kind, packing, subset-sums, fewest-blocks, block-ways, sharing, kindOf, jobOf, labels}
+use Rattle.meaning.specs.Job.{Knapsack, Kind, packing, subset-sums, fewest-blocks, block-ways, sharing, kindOf, jobOf, labels}
 use Rattle.meaning.specs.Lent as lent
 use Rattle.meaning.specs.Refusals as meaning
-use Rattle.meaning.specs.Refusals.{rulesOf, mostValue, mostCopies, leastCopies, positive, ascendingFrom, anything}
+use Rattle.meaning.specs.Bounds.{mostValue, mostCopies, leastCopies}
+use Rattle.meaning.specs.Refusals.{rulesOf, positive, ascendingFrom, anything}
 use Rattle.rules.specs.declared.WeightRule.{WeightRule}
 use Rattle.rules.specs.declared.WeightRule.the-variants.{Positive, Ascending, Anything}
 use Rattle.rules.specs.declared.Rules.{Rules}
@@ -20,7 +21,7 @@ use Rattle.rules.specs.declared.Bounds.{Bounds}
 use Rattle.rules.specs.declared.Room.{Room}
 use Rattle.rules.specs.Ruling.{rulesFrom, ruleFrom}
 use Rattle.rules.specs.Places.{NeededBy, roomFrom}
-use Rattle.rules.proofs.Ruling.{sort-of}
+use Rattle.rules.proofs.Ruling.{knapsack-of}
 
 -- ---- the rules of `meaning` settle the code's
 
@@ -56,11 +57,11 @@ rules-unique needs-sum m r r′ a b = sym (rules-back r needs-sum) ∙ ap rulesB
 
 -- `knapsack_rules`: a number from 1 to 3 is that of a knapsack, so its promise isn't empty
 pub knapsack-rules-unique : (kind : ℕ) (r r′ : Rules) → (1 ≤ kind) × (kind ≤ 3)
-    → ((k : Sort) → kindOf kind ≡ some (packing k) → rulesFrom r false ≡ rulesOf (packing k))
-    → ((k : Sort) → kindOf kind ≡ some (packing k) → rulesFrom r′ false ≡ rulesOf (packing k)) → r ≡ r′
+    → ((k : Knapsack) → kindOf kind ≡ some (packing k) → rulesFrom r false ≡ rulesOf (packing k))
+    → ((k : Knapsack) → kindOf kind ≡ some (packing k) → rulesFrom r′ false ≡ rulesOf (packing k)) → r ≡ r′
 knapsack-rules-unique kind r r′ h a b =
-    let s = sort-of kind (h .0) (h .1) in
-    rules-unique false (rulesOf (packing (s .sort))) r r′ (a (s .sort) (s .of-kind)) (b (s .sort) (s .of-kind))
+    let s = knapsack-of kind (h .0) (h .1) in
+    rules-unique false (rulesOf (packing (s .knapsack))) r r′ (a (s .knapsack) (s .of-kind)) (b (s .knapsack) (s .of-kind))
 
 -- `sums_rules`
 pub sums-rules-unique : (r r′ : Rules) → rulesFrom r false ≡ rulesOf subset-sums → rulesFrom r′ false ≡ rulesOf subset-sums → r ≡ r′
@@ -109,11 +110,11 @@ needed-unique k n budget r r′ a b =
 
 -- `knapsack_room`
 pub knapsack-room-unique : (kind n budget : ℕ) (r r′ : Room) → (1 ≤ kind) × (kind ≤ 3)
-    → ((k : Sort) → kindOf kind ≡ some (packing k) → NeededBy (packing k) n budget r)
-    → ((k : Sort) → kindOf kind ≡ some (packing k) → NeededBy (packing k) n budget r′) → r ≡ r′
+    → ((k : Knapsack) → kindOf kind ≡ some (packing k) → NeededBy (packing k) n budget r)
+    → ((k : Knapsack) → kindOf kind ≡ some (packing k) → NeededBy (packing k) n budget r′) → r ≡ r′
 knapsack-room-unique kind n budget r r′ h a b =
-    let s = sort-of kind (h .0) (h .1) in
-    needed-unique (packing (s .sort)) n budget r r′ (a (s .sort) (s .of-kind)) (b (s .sort) (s .of-kind))
+    let s = knapsack-of kind (h .0) (h .1) in
+    needed-unique (packing (s .knapsack)) n budget r r′ (a (s .knapsack) (s .of-kind)) (b (s .knapsack) (s .of-kind))
 
 -- `sums_room`
 pub sums-room-unique : (budget : ℕ) (r r′ : Room) → ((n : ℕ) → NeededBy subset-sums n budget r) → ((n : ℕ) → NeededBy subset-sums n budget r′) → r ≡ r′

@@ -5,8 +5,9 @@ ghost use mathlib.Core.Option.{some};
 ghost use Prim.Native.Nat.{ℕ, _≤_};
 ghost use mathlib.Core.Bool.{Bool, true, false, _&&_};
 ghost use lib.Dec.{leb};
-ghost use Rattle.meaning.specs.Job.{Sort, packing, subset-sums, fewest-blocks, block-ways, sharing, kindOf};
-ghost use Rattle.meaning.specs.Refusals.{rulesOf, weightRules, mostLabels, mostBudget, mostValue, mostCopies, leastCopies};
+ghost use Rattle.meaning.specs.Job.{Knapsack, packing, subset-sums, fewest-blocks, block-ways, sharing, kindOf};
+ghost use Rattle.meaning.specs.Bounds.{mostLabels, mostBudget, mostValue, mostCopies, leastCopies};
+ghost use Rattle.meaning.specs.Refusals.{rulesOf, weightRules};
 ghost use Rattle.rules.specs.Ruling.{rulesFrom, ruleFrom};
 ghost use Rattle.rules.specs.Places.{NeededBy};
 
@@ -51,7 +52,7 @@ pub struct Rules {
 // The rules of kinds 1 to 3.
 pub fn knapsack_rules(kind: u32) -> Rules
     requires { ⌜ (1 ≤ kind) × (kind ≤ 3) ⌝ }
-    ensures { λ r. ⌜ ((k : Sort) → kindOf kind ≡ some (packing k) → rulesFrom r false ≡ rulesOf (packing k)) ⌝ }
+    ensures { λ r. ⌜ ((k : Knapsack) → kindOf kind ≡ some (packing k) → rulesFrom r false ≡ rulesOf (packing k)) ⌝ }
 {
     let floor = if kind == 3 { 1 } else { 0 };
     Rules {
@@ -138,7 +139,7 @@ pub struct Room {
 pub fn knapsack_room(kind: u32, n: usize, budget: u32) -> Room
     requires { ⌜ (1 ≤ kind) × (kind ≤ 3) ⌝ }
     requires { ⌜ (n ≤ mostLabels) × (budget ≤ mostBudget) ⌝ }
-    ensures { λ r. ⌜ ((k : Sort) → kindOf kind ≡ some (packing k) → NeededBy (packing k) n budget r) ⌝ }
+    ensures { λ r. ⌜ ((k : Knapsack) → kindOf kind ≡ some (packing k) → NeededBy (packing k) n budget r) ⌝ }
 {
     let width = budget as usize + 1;
     if kind == 3 {

@@ -1,19 +1,19 @@
 // Kind 7: the budget shared by claims. Each share starts as its whole part, and the spare units go to the labels at a border or before it.
-// The claims come as numbers or as a part of the job bytes (`handed`), so they have two slices.
+// The claims come as numbers or as a part of the job bytes (`listFrom`), so they have two slices.
 use meaning::Answer;
 ghost use mathlib.Core.Path.{_≡_};
-ghost use mathlib.Core.List.{[]};
+ghost use mathlib.Core.List.{[], _∷_};
 ghost use Prim.Native.Nat.{_+_, _*_, _/_, _%_, _≤_, _<_, max, min};
 ghost use lib.ListN.{length};
 ghost use lib.Dec.{ltb};
 ghost use Rattle.meaning.specs.Lists.{sum, if};
 ghost use Rattle.meaning.specs.Job.{sharing};
 ghost use Rattle.meaning.specs.Lent.{lentOf};
-ghost use Rattle.meaning.specs.Refusals.{mostClaims};
+ghost use Rattle.meaning.specs.Bounds.{mostClaims};
 ghost use Rattle.meaning.specs.Shares.{startOf, remainderOf, spareOf, sharesOf};
 ghost use Rattle.meaning.specs.Solved.{Unrefused};
-ghost use Rattle.meaning.specs.Doors.{SolvedInPicks};
-ghost use Rattle.numbers.specs.Handed.{handed, weightsHanded};
+ghost use Rattle.meaning.specs.SolvedIn.{SolvedInPicks};
+ghost use Rattle.numbers.specs.TwoSlices.{listFrom, weightsFrom};
 ghost use Rattle.shares.specs.Borders.{Started, Spans, Narrowed, aheadOf, countOf, getsOf, RunOut};
 
 // ---- the starts
@@ -27,8 +27,8 @@ fn wide_product(a: u32, b: u32) -> u64
 
 // S, the sum of the claims.
 fn claims_sum(weights: &[u32], wbytes: &[u8]) -> u64
-    requires { ⌜ length (handed (now weights) (now wbytes)) ≤ mostClaims ⌝ }
-    ensures { λ r. ⌜ r ≡ sum (handed (now (weights .entry)) (now (wbytes .entry))) ⌝ }
+    requires { ⌜ length (listFrom (now weights) (now wbytes)) ≤ mostClaims ⌝ }
+    ensures { λ r. ⌜ r ≡ sum (listFrom (now (weights .entry)) (now (wbytes .entry))) ⌝ }
 {
     let n = numbers::list_length(weights, wbytes);
     let mut sum: u64 = 0;
@@ -85,9 +85,9 @@ fn write_starts(
     claimed: u64,
     shares: &mut [u32],
 ) -> Leavings
-    requires { ⌜ (claimed ≡ sum (handed (now weights) (now wbytes))) × (0 < claimed) ⌝ }
-    requires { ⌜ length (now shares) ≡ length (handed (now weights) (now wbytes)) ⌝ }
-    ensures { λ r. ⌜ Started (weightsHanded 7 budget (now (weights .entry)) (now (wbytes .entry))) claimed (now (shares .exit)) × ((r .spare ≡ spareOf (weightsHanded 7 budget (now (weights .entry)) (now (wbytes .entry)))) × Spans (weightsHanded 7 budget (now (weights .entry)) (now (wbytes .entry))) claimed (length (now (shares .exit))) (r .least) (r .greatest)) ⌝ }
+    requires { ⌜ (claimed ≡ sum (listFrom (now weights) (now wbytes))) × (0 < claimed) ⌝ }
+    requires { ⌜ length (now shares) ≡ length (listFrom (now weights) (now wbytes)) ⌝ }
+    ensures { λ r. ⌜ Started (weightsFrom 7 (budget ∷ []) (now (weights .entry)) (now (wbytes .entry))) claimed (now (shares .exit)) × ((r .spare ≡ spareOf (weightsFrom 7 (budget ∷ []) (now (weights .entry)) (now (wbytes .entry)))) × Spans (weightsFrom 7 (budget ∷ []) (now (weights .entry)) (now (wbytes .entry))) claimed (length (now (shares .exit))) (r .least) (r .greatest)) ⌝ }
 {
     let mut spare = budget;
     let mut least = claimed;
@@ -120,9 +120,9 @@ fn remainder_at(
     i: usize,
     start: u32,
 ) -> u64
-    requires { ⌜ (claimed ≡ sum (handed (now weights) (now wbytes))) × (i < length (handed (now weights) (now wbytes))) ⌝ }
-    requires { ⌜ start ≡ startOf (weightsHanded 7 budget (now weights) (now wbytes)) i ⌝ }
-    ensures { λ r. ⌜ r ≡ remainderOf (weightsHanded 7 budget (now (weights .entry)) (now (wbytes .entry))) i ⌝ }
+    requires { ⌜ (claimed ≡ sum (listFrom (now weights) (now wbytes))) × (i < length (listFrom (now weights) (now wbytes))) ⌝ }
+    requires { ⌜ start ≡ startOf (weightsFrom 7 (budget ∷ []) (now weights) (now wbytes)) i ⌝ }
+    ensures { λ r. ⌜ r ≡ remainderOf (weightsFrom 7 (budget ∷ []) (now (weights .entry)) (now (wbytes .entry))) i ⌝ }
 {
     let claim = numbers::item(weights, wbytes, i);
     remainder(wide_product(budget, claim), start, claimed)
@@ -146,8 +146,8 @@ fn count_ahead(
     starts: &[u32],
     border: u64,
 ) -> usize
-    requires { ⌜ Started (weightsHanded 7 budget (now weights) (now wbytes)) claimed (now starts) ⌝ }
-    ensures { λ r. ⌜ r ≡ countOf (weightsHanded 7 budget (now (weights .entry)) (now (wbytes .entry))) border ⌝ }
+    requires { ⌜ Started (weightsFrom 7 (budget ∷ []) (now weights) (now wbytes)) claimed (now starts) ⌝ }
+    ensures { λ r. ⌜ r ≡ countOf (weightsFrom 7 (budget ∷ []) (now (weights .entry)) (now (wbytes .entry))) border ⌝ }
 {
     let mut count: usize = 0;
     let mut i = 0;
@@ -197,8 +197,8 @@ fn reach_between(
     low: u64,
     high: u64,
 ) -> Reach
-    requires { ⌜ Started (weightsHanded 7 budget (now weights) (now wbytes)) claimed (now starts) × (low < high) ⌝ }
-    ensures { λ r. ⌜ Narrowed (weightsHanded 7 budget (now (weights .entry)) (now (wbytes .entry))) (length (now (starts .entry))) low high (r .least) (r .greatest) ⌝ }
+    requires { ⌜ Started (weightsFrom 7 (budget ∷ []) (now weights) (now wbytes)) claimed (now starts) × (low < high) ⌝ }
+    ensures { λ r. ⌜ Narrowed (weightsFrom 7 (budget ∷ []) (now (weights .entry)) (now (wbytes .entry))) (length (now (starts .entry))) low high (r .least) (r .greatest) ⌝ }
 {
     let mut least = high;
     let mut greatest = low;
@@ -228,9 +228,9 @@ fn find_border(
     starts: &[u32],
     leavings: Leavings,
 ) -> Border
-    requires { ⌜ Started (weightsHanded 7 budget (now weights) (now wbytes)) claimed (now starts) ⌝ }
-    requires { ⌜ (leavings .spare ≡ spareOf (weightsHanded 7 budget (now weights) (now wbytes))) × ((0 < leavings .spare) × Spans (weightsHanded 7 budget (now weights) (now wbytes)) claimed (length (now starts)) (leavings .least) (leavings .greatest)) ⌝ }
-    ensures { λ r. ⌜ RunOut (weightsHanded 7 budget (now (weights .entry)) (now (wbytes .entry))) (r .remainder) (r .left) ⌝ }
+    requires { ⌜ Started (weightsFrom 7 (budget ∷ []) (now weights) (now wbytes)) claimed (now starts) ⌝ }
+    requires { ⌜ (leavings .spare ≡ spareOf (weightsFrom 7 (budget ∷ []) (now weights) (now wbytes))) × ((0 < leavings .spare) × Spans (weightsFrom 7 (budget ∷ []) (now weights) (now wbytes)) claimed (length (now starts)) (leavings .least) (leavings .greatest)) ⌝ }
+    ensures { λ r. ⌜ RunOut (weightsFrom 7 (budget ∷ []) (now (weights .entry)) (now (wbytes .entry))) (r .remainder) (r .left) ⌝ }
 {
     let units = leavings.spare as usize;
     let mut low = leavings.least;
@@ -286,9 +286,9 @@ fn give(
     border: u64,
     left: usize,
 )
-    requires { ⌜ Started (weightsHanded 7 budget (now weights) (now wbytes)) claimed (now shares) ⌝ }
-    requires { ⌜ RunOut (weightsHanded 7 budget (now weights) (now wbytes)) border left ⌝ }
-    ensures { λ _. ⌜ now (shares .exit) ≡ sharesOf (weightsHanded 7 budget (now (weights .entry)) (now (wbytes .entry))) ⌝ }
+    requires { ⌜ Started (weightsFrom 7 (budget ∷ []) (now weights) (now wbytes)) claimed (now shares) ⌝ }
+    requires { ⌜ RunOut (weightsFrom 7 (budget ∷ []) (now weights) (now wbytes)) border left ⌝ }
+    ensures { λ _. ⌜ now (shares .exit) ≡ sharesOf (weightsFrom 7 (budget ∷ []) (now (weights .entry)) (now (wbytes .entry))) ⌝ }
 {
     let mut seen: usize = 0;
     let mut i = 0;
@@ -306,9 +306,9 @@ fn give(
 
 // The shares, one for each label. Gives the spare.
 fn share(budget: u32, weights: &[u32], wbytes: &[u8], shares: &mut [u32]) -> u32
-    requires { ⌜ (length (handed (now weights) (now wbytes)) ≤ mostClaims) × (0 < sum (handed (now weights) (now wbytes))) ⌝ }
-    requires { ⌜ length (now shares) ≡ length (handed (now weights) (now wbytes)) ⌝ }
-    ensures { λ r. ⌜ (now (shares .exit) ≡ sharesOf (weightsHanded 7 budget (now (weights .entry)) (now (wbytes .entry)))) × (r ≡ spareOf (weightsHanded 7 budget (now (weights .entry)) (now (wbytes .entry)))) ⌝ }
+    requires { ⌜ (length (listFrom (now weights) (now wbytes)) ≤ mostClaims) × (0 < sum (listFrom (now weights) (now wbytes))) ⌝ }
+    requires { ⌜ length (now shares) ≡ length (listFrom (now weights) (now wbytes)) ⌝ }
+    ensures { λ r. ⌜ (now (shares .exit) ≡ sharesOf (weightsFrom 7 (budget ∷ []) (now (weights .entry)) (now (wbytes .entry)))) × (r ≡ spareOf (weightsFrom 7 (budget ∷ []) (now (weights .entry)) (now (wbytes .entry)))) ⌝ }
 {
     let claimed = claims_sum(weights, wbytes);
     let leavings = write_starts(budget, weights, wbytes, claimed, shares);
@@ -331,8 +331,8 @@ fn share(budget: u32, weights: &[u32], wbytes: &[u8], shares: &mut [u32]) -> u32
 
 // Kind 7: the shares and the spare of a job that no refusal meets.
 pub fn solve(budget: u32, weights: &[u32], wbytes: &[u8], picks: &mut [u32]) -> Answer
-    requires { ⌜ Unrefused sharing (weightsHanded 7 budget (now weights) (now wbytes)) (lentOf [] [] (now picks)) ⌝ }
-    ensures { λ r. ⌜ SolvedInPicks (weightsHanded 7 budget (now (weights .entry)) (now (wbytes .entry))) (now (picks .entry)) r (now (picks .exit)) ⌝ }
+    requires { ⌜ Unrefused sharing (weightsFrom 7 (budget ∷ []) (now weights) (now wbytes)) (lentOf [] [] (now picks)) ⌝ }
+    ensures { λ r. ⌜ SolvedInPicks (weightsFrom 7 (budget ∷ []) (now (weights .entry)) (now (wbytes .entry))) (now (picks .entry)) r (now (picks .exit)) ⌝ }
 {
     let n = numbers::list_length(weights, wbytes);
     let spare = share(budget, weights, wbytes, &mut picks[..n]);

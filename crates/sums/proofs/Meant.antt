@@ -14,12 +14,13 @@ use Rattle.meaning.specs.declared.Answer.the-variants as Says
 use Rattle.meaning.specs.Lists.{at, if, upTo, tally}
 use Rattle.meaning.specs.Job.{Job, labels, subset-sums}
 use Rattle.meaning.specs.Lent.{lentOf, roomFor, roomOf}
-use Rattle.meaning.specs.Refusals.{mostBudget, rulesOf, weightRules}
+use Rattle.meaning.specs.Bounds.{mostBudget}
+use Rattle.meaning.specs.Refusals.{rulesOf, weightRules}
 use Rattle.meaning.specs.Sums.{Reached, ReachedWithin, Tells, is-so, is-not, bit, BitTable, YesOrNo, TotalCount}
 use Rattle.meaning.specs.Solved.{Unrefused, Gives, TableHolds}
-use Rattle.meaning.specs.Doors.{SolvedInWords}
+use Rattle.meaning.specs.SolvedIn.{SolvedInWords}
 use Rattle.meaning.proofs.Counting.{counted-iff}
-use Rattle.meaning.proofs.Doors.{kept, holds-front, solved-in-words}
+use Rattle.meaning.proofs.SolvedIn.{kept, holds-front, solved-in-words}
 use Rattle.meaning.proofs.Ranks.{upTo-distinct}
 use Rattle.meaning.proofs.Reaching.{reached-with, reached-without, reached-either, total-0, no-labels}
 use Rattle.meaning.proofs.Tally.{tally-counts}

@@ -9,7 +9,7 @@ use Rattle.meaning.specs.declared.Answer.{Answer}
 use Rattle.meaning.specs.Lists.{at}
 use Rattle.meaning.specs.Job.{Job}
 use Rattle.meaning.specs.Sums.{bit, BitTable}
-use Rattle.meaning.specs.Answers.{saidOf}
+use Rattle.meaning.specs.Answers.{answerNumbers}
 use Rattle.meaning.specs.Solved.{Summed}
 use Rattle.rows.specs.Rows.{FirstAlone}
 use Rattle.rows.specs.Rounds.{LabelByLabel}
@@ -36,5 +36,5 @@ pub record Trimmed (s t : List ℕ) (budget len : ℕ) : Type 0 where
 
 -- the answer of kind 4, with the words that it is read off
 pub record Tabled (j : Job) (a : Answer) (words : List ℕ) : Type 0 where
-  pub gives : Summed j (saidOf a) []
+  pub gives : Summed j (answerNumbers a) []
   pub table : BitTable j words

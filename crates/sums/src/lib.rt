@@ -1,17 +1,17 @@
 // Kind 4: the totals that some labels weigh exactly, as bits of words. Bit t is set exactly if t is such a total.
-// The weights come as numbers or as a part of the job bytes (`handed`), so they have two slices.
+// The weights come as numbers or as a part of the job bytes (`listFrom`), so they have two slices.
 use meaning::Answer;
 ghost use mathlib.Core.Path.{_≡_};
-ghost use mathlib.Core.List.{[]};
+ghost use mathlib.Core.List.{[], _∷_};
 ghost use Prim.Native.Nat.{_+_, _*_, _/_, _≤_, _<_};
 ghost use lib.ListN.{length};
 ghost use Rattle.meaning.specs.Lists.{upTo, tally};
 ghost use Rattle.meaning.specs.Job.{subset-sums};
 ghost use Rattle.meaning.specs.Lent.{lentOf};
-ghost use Rattle.meaning.specs.Refusals.{mostBudget};
+ghost use Rattle.meaning.specs.Bounds.{mostBudget};
 ghost use Rattle.meaning.specs.Solved.{Unrefused};
-ghost use Rattle.meaning.specs.Doors.{SolvedInWords};
-ghost use Rattle.numbers.specs.Handed.{handed, weightsHanded};
+ghost use Rattle.meaning.specs.SolvedIn.{SolvedInWords};
+ghost use Rattle.numbers.specs.TwoSlices.{listFrom, weightsFrom};
 ghost use Rattle.sums.specs.Words.{isSet, Added, Marked, Trimmed, Tabled};
 
 // ---- the words, label by label
@@ -82,7 +82,7 @@ fn add_label(words: &mut [u64], w: u32)
 // The words of all labels.
 fn fill(weights: &[u32], wbytes: &[u8], words: &mut [u64])
     requires { ⌜ 0 < length (now words) ⌝ }
-    ensures { λ _. ⌜ Marked (handed (now (weights .entry)) (now (wbytes .entry))) (length (now (words .entry))) (length (handed (now (weights .entry)) (now (wbytes .entry)))) (now (words .exit)) ⌝ }
+    ensures { λ _. ⌜ Marked (listFrom (now (weights .entry)) (now (wbytes .entry))) (length (now (words .entry))) (length (listFrom (now (weights .entry)) (now (wbytes .entry)))) (now (words .exit)) ⌝ }
 {
     rows::first_alone(words);
     let n = numbers::list_length(weights, wbytes);
@@ -132,7 +132,7 @@ fn count_totals(words: &[u64]) -> u32
 // The words and the answer, on just the words that are needed.
 fn table(budget: u32, weights: &[u32], wbytes: &[u8], words: &mut [u64]) -> Answer
     requires { ⌜ (budget ≤ mostBudget) × (length (now words) ≡ budget / 64 + 1) ⌝ }
-    ensures { λ r. ⌜ Tabled (weightsHanded 4 budget (now (weights .entry)) (now (wbytes .entry))) r (now (words .exit)) ⌝ }
+    ensures { λ r. ⌜ Tabled (weightsFrom 4 (budget ∷ []) (now (weights .entry)) (now (wbytes .entry))) r (now (words .exit)) ⌝ }
 {
     let last = budget as usize;
     fill(weights, wbytes, words);
@@ -144,8 +144,8 @@ fn table(budget: u32, weights: &[u32], wbytes: &[u8], words: &mut [u64]) -> Answ
 
 // Kind 4: the words, yes or no, and the number of totals of a job that no refusal meets.
 pub fn solve(budget: u32, weights: &[u32], wbytes: &[u8], words: &mut [u64]) -> Answer
-    requires { ⌜ Unrefused subset-sums (weightsHanded 4 budget (now weights) (now wbytes)) (lentOf [] (now words) []) ⌝ }
-    ensures { λ r. ⌜ SolvedInWords (weightsHanded 4 budget (now (weights .entry)) (now (wbytes .entry))) (now (words .entry)) r (now (words .exit)) ⌝ }
+    requires { ⌜ Unrefused subset-sums (weightsFrom 4 (budget ∷ []) (now weights) (now wbytes)) (lentOf [] (now words) []) ⌝ }
+    ensures { λ r. ⌜ SolvedInWords (weightsFrom 4 (budget ∷ []) (now (weights .entry)) (now (wbytes .entry))) (now (words .entry)) r (now (words .exit)) ⌝ }
 {
     let needed = (budget / 64 + 1) as usize;
     table(budget, weights, wbytes, &mut words[..needed])

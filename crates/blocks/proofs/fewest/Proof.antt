@@ -12,11 +12,11 @@ use Rattle.meaning.specs.Cells.{noWay}
 use Rattle.meaning.specs.Job.{Job, jobOf, fewest-blocks, labels}
 use Rattle.meaning.specs.Lent.{lentOf, roomFor, roomOf}
 use Rattle.meaning.specs.Refusals.{rulesOf}
-use Rattle.meaning.proofs.Doors.{kept}
-use Rattle.numbers.specs.Handed.{handed}
+use Rattle.meaning.proofs.SolvedIn.{kept}
+use Rattle.numbers.specs.TwoSlices.{listFrom}
 use Rattle.rows.proofs.Parts.{front-part, front-room, front-last}
-use Rattle.blocks.specs.Sizes.{Bounded, FewestGrown, WayDown}
-use Rattle.blocks.proofs.Doors.{bounded, no-blocks, blocks-laid}
+use Rattle.blocks.specs.Sizes.{Bounded, FewestGrown, TraceDown}
+use Rattle.blocks.proofs.BlocksDoor.{bounded, no-blocks, blocks-laid}
 use borrow.Author.Needs.{needs}
 use Rattle.blocks.proofs.fewest.Statement.{statement}
 use Rattle.blocks.proofs.fewest.Tie as tie
@@ -24,7 +24,7 @@ use Rattle.blocks.proofs.fewest.Tie as tie
 -- what the job keeps
 module _ (s : tie.Start) where
   abbrev sizes : List ℕ
-  sizes = handed (s .args .weights .now) (s .args .wbytes .now)
+  sizes = listFrom (s .args .weights .now) (s .args .wbytes .now)
 
   abbrev job : Job
   job = jobOf 5 (s .args .budget ∷ []) sizes [] []
@@ -113,20 +113,20 @@ returns c =
     let s = start f in
     no-blocks (job s) (s .args .cells .now) (s .args .picks .now) (row f) (s .pre) (ok s .bounds) (row-long f) (row-grown f) _ (last f) (c .if1 .taken)
 
-slice-reshare-prefix-way-down : tie.Need-slice-reshare-prefix-way-down
-slice-reshare-prefix-way-down c = room (c .before .before .before .before)
+slice-reshare-prefix-trace-down : tie.Need-slice-reshare-prefix-trace-down
+slice-reshare-prefix-trace-down c = room (c .before .before .before .before)
 
-slice-aggregate-way-down : tie.Need-slice-aggregate-way-down
-slice-aggregate-way-down c = let f = c .before .before .before .before .before in sym (row-long f) ∙ ap length (sym (row-front f))
+slice-aggregate-trace-down : tie.Need-slice-aggregate-trace-down
+slice-aggregate-trace-down c = let f = c .before .before .before .before .before in sym (row-long f) ∙ ap length (sym (row-front f))
 
-slice-relend-prefix-way-down : tie.Need-slice-relend-prefix-way-down
-slice-relend-prefix-way-down c = let f = c .before .before .before .before .before in omega (arith, counted f, ok (start f) .picks-room)
+slice-relend-prefix-trace-down : tie.Need-slice-relend-prefix-trace-down
+slice-relend-prefix-trace-down c = let f = c .before .before .before .before .before in omega (arith, counted f, ok (start f) .picks-room)
 
-slice-aggregate-way-down-2 : tie.Need-slice-aggregate-way-down-2
-slice-aggregate-way-down-2 c = let f = c .before .before .before .before .before .before in counted f ∙ sym (picks-long f)
+slice-aggregate-trace-down-2 : tie.Need-slice-aggregate-trace-down-2
+slice-aggregate-trace-down-2 c = let f = c .before .before .before .before .before .before in counted f ∙ sym (picks-long f)
 
-way-down-requires : tie.Need-way-down-requires
-way-down-requires c κs = let f = c .before .before .before .before .before .before in rw (row-front f, row-long f) (ok (start f) .bounds, sym (picks-long f))
+trace-down-requires : tie.Need-trace-down-requires
+trace-down-requires c κs = let f = c .before .before .before .before .before .before in rw (row-front f, row-long f) (ok (start f) .bounds, sym (picks-long f))
 
 same-length-2 : tie.Need-same-length-2
 same-length-2 c = search needs
@@ -140,8 +140,8 @@ returns-2 c =
     let w = c .before .before in
     let f = w .before .before .before .before .before .before .before in
     let s = start f in
-    let way : WayDown (at (row f)) (sizes s) (s .args .budget) (w .way-down .last .1 .1 .1 .0) = rw (row-front f, row-long f, add-sub-cancel) at (w .way-down .ensures) in
-    blocks-laid (job s) (s .args .cells .now) (s .args .picks .now) (row f) (s .pre) (ok s .bounds) (row-long f) (row-grown f) _ _ (w .way-down .last .1 .1 .1 .0) (last f) (w .before .before .before .if1 .left) (counted f) way
+    let way : TraceDown (at (row f)) (sizes s) (s .args .budget) (w .trace-down .last .1 .1 .1 .0) = rw (row-front f, row-long f, add-sub-cancel) at (w .trace-down .ensures) in
+    blocks-laid (job s) (s .args .cells .now) (s .args .picks .now) (row f) (s .pre) (ok s .bounds) (row-long f) (row-grown f) _ _ (w .trace-down .last .1 .1 .1 .0) (last f) (w .before .before .before .if1 .left) (counted f) way
 
 pub fewest-spec : {M : Type 1} → statement M
 fewest-spec =
@@ -157,11 +157,11 @@ fewest-spec =
     slice-read-blocks
     same-length
     returns
-    slice-reshare-prefix-way-down
-    slice-aggregate-way-down
-    slice-relend-prefix-way-down
-    slice-aggregate-way-down-2
-    way-down-requires
+    slice-reshare-prefix-trace-down
+    slice-aggregate-trace-down
+    slice-relend-prefix-trace-down
+    slice-aggregate-trace-down-2
+    trace-down-requires
     same-length-2
     same-length-3
     returns-2)

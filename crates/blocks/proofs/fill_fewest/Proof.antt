@@ -8,7 +8,7 @@ use mathlib.Core.List.{List}
 use lib.ListN.{length, length-set}
 use Rattle.meaning.specs.Lists.{at}
 use Rattle.meaning.specs.Cells.{noWay}
-use Rattle.numbers.specs.Handed.{handed}
+use Rattle.numbers.specs.TwoSlices.{listFrom}
 use Rattle.rows.proofs.Stores.{alone, stored-each}
 use Rattle.rows.specs.Rounds.{none-yet, one-more}
 use Rattle.blocks.specs.Sizes.{fewerOf, Grown}
@@ -18,7 +18,7 @@ use Rattle.blocks.proofs.fill_fewest.Tie as tie
 
 abbrev Inv-loop : tie.InvT-loop
 Inv-loop weights wbytes row₀ width n i₀ row i =
-    (i ≤ n) × (length row ≡ length row₀) × Grown fewerOf 0 noWay (handed weights wbytes) (length row₀) i row
+    (i ≤ n) × (length row ≡ length row₀) × Grown fewerOf 0 noWay (listFrom weights wbytes) (length row₀) i row
 
 abbrev μ-loop : tie.MeasureT-loop
 μ-loop weights wbytes row₀ width n i₀ row i = n - i
@@ -29,7 +29,7 @@ entry c = c .before .before .before .before .before .before .before .before .bef
 
 -- the sizes that the function is handed
 abbrev sizes : tie.Start Inv-loop μ-loop → List ℕ
-sizes s = handed (s .args .weights .now) (s .args .wbytes .now)
+sizes s = listFrom (s .args .weights .now) (s .args .wbytes .now)
 
 long : (c : tie.At-loop Inv-loop μ-loop) → length (c .loop .row) ≡ length (entry c .args .row .now)
 long c = c .loop .inv .1 ∙ simp length-set (c .before .before .before .before .set-all .kept .0)

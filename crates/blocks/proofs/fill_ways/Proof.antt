@@ -7,7 +7,7 @@ use native.Mathlib.Omega.{arith}
 use mathlib.Core.List.{List}
 use lib.ListN.{length}
 use Rattle.meaning.specs.Lists.{at}
-use Rattle.numbers.specs.Handed.{handed}
+use Rattle.numbers.specs.TwoSlices.{listFrom}
 use Rattle.rows.specs.Rounds.{none-yet, one-more}
 use Rattle.blocks.specs.Sizes.{waysOf, Grown}
 use borrow.Author.Needs.{needs}
@@ -16,7 +16,7 @@ use Rattle.blocks.proofs.fill_ways.Tie as tie
 
 abbrev Inv-loop : tie.InvT-loop
 Inv-loop weights wbytes words₀ n i₀ words i =
-    (i ≤ n) × (length words ≡ length words₀) × Grown waysOf 1 0 (handed weights wbytes) (length words₀) i words
+    (i ≤ n) × (length words ≡ length words₀) × Grown waysOf 1 0 (listFrom weights wbytes) (length words₀) i words
 
 abbrev μ-loop : tie.MeasureT-loop
 μ-loop weights wbytes words₀ n i₀ words i = n - i
@@ -27,7 +27,7 @@ entry c = c .before .before .before .before .before .before .before .before .bef
 
 -- the sizes that the function is handed
 abbrev sizes : tie.Start Inv-loop μ-loop → List ℕ
-sizes s = handed (s .args .weights .now) (s .args .wbytes .now)
+sizes s = listFrom (s .args .weights .now) (s .args .wbytes .now)
 
 long : (c : tie.At-loop Inv-loop μ-loop) → length (c .loop .words) ≡ length (entry c .args .words .now)
 long c = c .loop .inv .1 ∙ c .before .before .before .before .first-alone .kept .0

@@ -3,16 +3,16 @@
 use mathlib.Core.Path.{_≡_}
 use Prim.Native.Nat.{ℕ}
 use mathlib.Core.List.{List}
-use Rattle.meaning.specs.Doors.{SolvedInCells, SolvedInWords}
-use Rattle.numbers.specs.Handed.{handed}
-use Rattle.blocks.proofs.Doors.{asks-blocks, asks-ways}
+use Rattle.meaning.specs.SolvedIn.{SolvedInCells, SolvedInWords}
+use Rattle.numbers.specs.TwoSlices.{listFrom}
+use Rattle.blocks.proofs.BlocksDoor.{asks-blocks, asks-ways}
 use borrow.Author.Needs.{needs}
 use Rattle.blocks.proofs.solve.Statement.{statement}
 use Rattle.blocks.proofs.solve.Tie as tie
 
 -- the sizes that the function is handed
 abbrev sizes : tie.Start → List ℕ
-sizes s = handed (s .args .weights .now) (s .args .wbytes .now)
+sizes s = listFrom (s .args .weights .now) (s .args .wbytes .now)
 
 fewest-requires : tie.Need-fewest-requires
 fewest-requires c κs =

@@ -11,11 +11,11 @@ use Rattle.meaning.specs.Job.{Job, jobOf, block-ways}
 use Rattle.meaning.specs.Lent.{lentOf, roomFor, roomOf}
 use Rattle.meaning.specs.Refusals.{rulesOf}
 use Rattle.meaning.specs.Blocks.{tooMany}
-use Rattle.meaning.proofs.Doors.{kept}
-use Rattle.numbers.specs.Handed.{handed}
+use Rattle.meaning.proofs.SolvedIn.{kept}
+use Rattle.numbers.specs.TwoSlices.{listFrom}
 use Rattle.rows.proofs.Parts.{front-room, front-last}
 use Rattle.blocks.specs.Sizes.{Bounded, WaysGrown}
-use Rattle.blocks.proofs.Doors.{bounded, too-many, ways-counted}
+use Rattle.blocks.proofs.BlocksDoor.{bounded, too-many, ways-counted}
 use borrow.Author.Needs.{needs}
 use Rattle.blocks.proofs.ways.Statement.{statement}
 use Rattle.blocks.proofs.ways.Tie as tie
@@ -23,7 +23,7 @@ use Rattle.blocks.proofs.ways.Tie as tie
 -- what the job keeps
 module _ (s : tie.Start) where
   abbrev sizes : List ℕ
-  sizes = handed (s .args .weights .now) (s .args .wbytes .now)
+  sizes = listFrom (s .args .weights .now) (s .args .wbytes .now)
 
   abbrev job : Job
   job = jobOf 6 (s .args .budget ∷ []) sizes [] []

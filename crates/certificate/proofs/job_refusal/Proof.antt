@@ -1,18 +1,19 @@
 -- `certificate::job_refusal` meets its contract: 2 for another kind, and kind 1 by its rules.
 -- Assumes nothing.
+use mathlib.Core.List.{[], _∷_}
 use mathlib.Core.Path.{sym, ap, _∙_}
 use mathlib.Core.Bool.{false}
 use borrow.Author.Needs.{needs}
 use Rattle.meaning.specs.Job.{Job, once, jobOf, kindOf, allKinds}
 use Rattle.meaning.specs.Refusals as meaning
 use Rattle.meaning.specs.Refusals.{jobRefusal}
-use Rattle.numbers.specs.Handed.{jobHanded}
+use Rattle.numbers.specs.TwoSlices.{jobFrom}
 use Rattle.certificate.proofs.Refusing.{other-kind, by-rules}
 use Rattle.certificate.proofs.job_refusal.Statement.{statement}
 use Rattle.certificate.proofs.job_refusal.Tie as tie
 
 abbrev job : tie.Start → Job
-job s = jobHanded (s .args .kind) (s .args .budget) (s .args .ws .now) (s .args .wb .now) (s .args .vs .now) (s .args .vb .now) (s .args .cs .now) (s .args .cb .now)
+job s = jobFrom (s .args .kind) (s .args .budget ∷ []) (s .args .weights .now) (s .args .wbytes .now) (s .args .values .now) (s .args .vbytes .now) (s .args .copies .now) (s .args .cbytes .now)
 
 returns : tie.Need-returns
 unfolding jobOf

@@ -9,14 +9,14 @@ use lib.ListN.{length}
 use Rattle.meaning.specs.declared.Section.the-variants.{Part}
 use Rattle.meaning.specs.declared.Needed.the-variants.{Exactly}
 use Rattle.meaning.specs.Job.{jobOf, labels, once, kindOf, allKinds}
-use Rattle.meaning.specs.Refusals.{mostLabels}
+use Rattle.meaning.specs.Bounds.{mostLabels}
 use Rattle.meaning.specs.Bytes.{between, readSection}
 use Rattle.meaning.specs.Certificates.{certificateCells}
 use Rattle.meaning.proofs.Numbers.{numbers-long}
 use Rattle.meaning.proofs.Valid.{cells-32}
-use Rattle.numbers.specs.Handed.{handed}
-use Rattle.claims.specs.Asked.{onceJob}
-use Rattle.claims.proofs.Once.{valid-once}
+use Rattle.numbers.specs.TwoSlices.{listFrom}
+use Rattle.verdicts.specs.Asked.{onceJob}
+use Rattle.verdicts.proofs.Once.{valid-once}
 use Rattle.certificate.proofs.Refusing.{cells-needed}
 use Rattle.certificate.proofs.Reading.{Held, held, picks-broken, cells-broken, left-over, all-read}
 use Rattle.certificate.proofs.judge.Statement.{statement}
@@ -24,7 +24,7 @@ use Rattle.certificate.proofs.judge.Tie as tie
 
 -- n is the number of labels
 labels-are : (budget : ℕ) (weights values : List ℕ) → labels (onceJob budget weights values) ≡ length weights / 4
-unfolding jobOf handed labels
+unfolding jobOf listFrom labels
 labels-are budget weights values = numbers-long weights
 
 -- the room has the cells of a certificate

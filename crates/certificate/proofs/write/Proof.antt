@@ -3,29 +3,29 @@
 use mathlib.Core.Path.{subst}
 use Rattle.meaning.specs.Job.{Job}
 use Rattle.meaning.specs.Writer.{Writes}
-use Rattle.numbers.proofs.Handed.{job-of-lists}
+use Rattle.numbers.proofs.TwoSlices.{job-of-lists}
 use borrow.Author.Needs.{needs}
 use Rattle.certificate.proofs.write.Statement.{statement}
 use Rattle.certificate.proofs.write.Tie as tie
 
-slice-aggregate-write-handed : tie.Need-slice-aggregate-write-handed
-slice-aggregate-write-handed c = search needs
+slice-aggregate-write-job : tie.Need-slice-aggregate-write-job
+slice-aggregate-write-job c = search needs
 
-slice-aggregate-write-handed-2 : tie.Need-slice-aggregate-write-handed-2
-slice-aggregate-write-handed-2 c = search needs
+slice-aggregate-write-job-2 : tie.Need-slice-aggregate-write-job-2
+slice-aggregate-write-job-2 c = search needs
 
-slice-aggregate-write-handed-3 : tie.Need-slice-aggregate-write-handed-3
-slice-aggregate-write-handed-3 c = search needs
+slice-aggregate-write-job-3 : tie.Need-slice-aggregate-write-job-3
+slice-aggregate-write-job-3 c = search needs
 
-write-handed-requires : tie.Need-write-handed-requires
-write-handed-requires c κs = search needs
+write-job-requires : tie.Need-write-job-requires
+write-job-requires c κs = search needs
 
 same-length : tie.Need-same-length
 same-length c = search needs
 
 returns : tie.Need-returns
 returns c =
-    let d = c .before .before .write-handed in
+    let d = c .before .before .write-job in
     let a = c .before .before .before .before .before .before .before .before .before .before .before .before .before .args in
     subst (λ (j : Job). Writes j (a .picks .now) (a .cells .now) (a .out .now) (d .result) (d .last .1 .1 .1 .1 .1 .1 .1 .1 .1 .1 .0)) (job-of-lists (a .kind) (a .budget) (a .weights .now) (a .values .now) (a .copies .now)) (d .ensures)
 
@@ -33,9 +33,9 @@ pub write-spec : {M : Type 1} → statement M
 write-spec =
     tie.close
     (tie.spec
-    slice-aggregate-write-handed
-    slice-aggregate-write-handed-2
-    slice-aggregate-write-handed-3
-    write-handed-requires
+    slice-aggregate-write-job
+    slice-aggregate-write-job-2
+    slice-aggregate-write-job-3
+    write-job-requires
     same-length
     returns)

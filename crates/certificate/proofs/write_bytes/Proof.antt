@@ -25,44 +25,44 @@ returns c =
     let told = c .enum-told .given in
     no-job _ _ _ _ (told .0 .0) (unread _ (told .0 .0) (told .1) (c .before .before .read-job .ensures))
 
-slice-aggregate-write-handed : tie.Need-slice-aggregate-write-handed
-slice-aggregate-write-handed c = search needs
+slice-aggregate-write-job : tie.Need-slice-aggregate-write-job
+slice-aggregate-write-job c = search needs
 
-sub-write-handed : tie.Need-sub-write-handed
-sub-write-handed c = parts (c .before .before) .weights-within .ordered
+sub-write-job : tie.Need-sub-write-job
+sub-write-job c = parts (c .before .before) .weights-within .ordered
 
-part-write-handed-start : tie.Need-part-write-handed-start
-part-write-handed-start c = parts (c .before .before) .weights-within .ordered
+part-write-job-start : tie.Need-part-write-job-start
+part-write-job-start c = parts (c .before .before) .weights-within .ordered
 
-part-write-handed-end : tie.Need-part-write-handed-end
-part-write-handed-end c = parts (c .before .before) .weights-within .inside
+part-write-job-end : tie.Need-part-write-job-end
+part-write-job-end c = parts (c .before .before) .weights-within .inside
 
-slice-aggregate-write-handed-2 : tie.Need-slice-aggregate-write-handed-2
-slice-aggregate-write-handed-2 c = search needs
+slice-aggregate-write-job-2 : tie.Need-slice-aggregate-write-job-2
+slice-aggregate-write-job-2 c = search needs
 
-sub-write-handed-2 : tie.Need-sub-write-handed-2
-sub-write-handed-2 c = parts (c .before .before .before .before) .values-within .ordered
+sub-write-job-2 : tie.Need-sub-write-job-2
+sub-write-job-2 c = parts (c .before .before .before .before) .values-within .ordered
 
-part-write-handed-start-2 : tie.Need-part-write-handed-start-2
-part-write-handed-start-2 c = parts (c .before .before .before .before) .values-within .ordered
+part-write-job-start-2 : tie.Need-part-write-job-start-2
+part-write-job-start-2 c = parts (c .before .before .before .before) .values-within .ordered
 
-part-write-handed-end-2 : tie.Need-part-write-handed-end-2
-part-write-handed-end-2 c = parts (c .before .before .before .before) .values-within .inside
+part-write-job-end-2 : tie.Need-part-write-job-end-2
+part-write-job-end-2 c = parts (c .before .before .before .before) .values-within .inside
 
-slice-aggregate-write-handed-3 : tie.Need-slice-aggregate-write-handed-3
-slice-aggregate-write-handed-3 c = search needs
+slice-aggregate-write-job-3 : tie.Need-slice-aggregate-write-job-3
+slice-aggregate-write-job-3 c = search needs
 
-sub-write-handed-3 : tie.Need-sub-write-handed-3
-sub-write-handed-3 c = parts (c .before .before .before .before .before .before) .copies-within .ordered
+sub-write-job-3 : tie.Need-sub-write-job-3
+sub-write-job-3 c = parts (c .before .before .before .before .before .before) .copies-within .ordered
 
-part-write-handed-start-3 : tie.Need-part-write-handed-start-3
-part-write-handed-start-3 c = parts (c .before .before .before .before .before .before) .copies-within .ordered
+part-write-job-start-3 : tie.Need-part-write-job-start-3
+part-write-job-start-3 c = parts (c .before .before .before .before .before .before) .copies-within .ordered
 
-part-write-handed-end-3 : tie.Need-part-write-handed-end-3
-part-write-handed-end-3 c = parts (c .before .before .before .before .before .before) .copies-within .inside
+part-write-job-end-3 : tie.Need-part-write-job-end-3
+part-write-job-end-3 c = parts (c .before .before .before .before .before .before) .copies-within .inside
 
-write-handed-requires : tie.Need-write-handed-requires
-write-handed-requires c κs = search needs
+write-job-requires : tie.Need-write-job-requires
+write-job-requires c κs = search needs
 
 same-length : tie.Need-same-length
 same-length c = search needs
@@ -71,7 +71,7 @@ returns-2 : tie.Need-returns-2
 unfolding between
 returns-2 c =
     let d = c .before .before in
-    job-in-bytes _ _ _ _ _ _ _ (parts (d .before .before .before .before .before .before .before .before .before) .read) (d .write-handed .ensures)
+    job-in-bytes _ _ _ _ _ _ _ (parts (d .before .before .before .before .before .before .before .before .before) .read) (d .write-job .ensures)
 
 pub write-bytes-spec : {M : Type 1} → statement M
 write-bytes-spec =
@@ -81,18 +81,18 @@ write-bytes-spec =
     enum-known-request
     enum-told
     returns
-    slice-aggregate-write-handed
-    sub-write-handed
-    part-write-handed-start
-    part-write-handed-end
-    slice-aggregate-write-handed-2
-    sub-write-handed-2
-    part-write-handed-start-2
-    part-write-handed-end-2
-    slice-aggregate-write-handed-3
-    sub-write-handed-3
-    part-write-handed-start-3
-    part-write-handed-end-3
-    write-handed-requires
+    slice-aggregate-write-job
+    sub-write-job
+    part-write-job-start
+    part-write-job-end
+    slice-aggregate-write-job-2
+    sub-write-job-2
+    part-write-job-start-2
+    part-write-job-end-2
+    slice-aggregate-write-job-3
+    sub-write-job-3
+    part-write-job-start-3
+    part-write-job-end-3
+    write-job-requires
     same-length
     returns-2)

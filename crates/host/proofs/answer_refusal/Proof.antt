@@ -7,14 +7,14 @@ use denote.Enum.Declared.{tagOf}
 use Rattle.meaning.proofs.Answer.{the-type}
 use Rattle.meaning.specs.declared.Answer.{Answer}
 use Rattle.meaning.specs.declared.Answer.the-variants as Says
-use Rattle.meaning.specs.Answers.{saidOf}
+use Rattle.meaning.specs.Answers.{answerNumbers}
 use borrow.Author.Needs.{needs}
 use Rattle.host.proofs.answer_refusal.Statement.{statement}
 use Rattle.host.proofs.answer_refusal.Tie as tie
 
 -- every other case
-others : (a : Answer) → OneOf (1 ∷ 2 ∷ 3 ∷ 4 ∷ 5 ∷ []) (tagOf the-type a) → 0 ≡ saidOf a .refusal
-unfolding saidOf
+others : (a : Answer) → OneOf (1 ∷ 2 ∷ 3 ∷ 4 ∷ 5 ∷ []) (tagOf the-type a) → 0 ≡ answerNumbers a .refusal
+unfolding answerNumbers
 others (Says.Refused r) tag = absurd (miss (1 ∷ 2 ∷ 3 ∷ 4 ∷ 5 ∷ []) 0 tt tag)
 others (Says.Knapsack v w) tag = refl
 others (Says.Sums y n) tag = refl
@@ -26,7 +26,7 @@ enum-known-answer : tie.Need-enum-known-answer
 enum-known-answer c = search needs
 
 returns : tie.Need-returns
-unfolding saidOf
+unfolding answerNumbers
 returns c = rw (c .before .answer .given .1)
 
 returns-2 : tie.Need-returns-2

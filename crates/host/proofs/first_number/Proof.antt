@@ -1,7 +1,7 @@
 -- `host::first_number` meets its contract, case by case.
 -- Assumes nothing.
 use native.Mathlib.Omega.{arith}
-use Rattle.meaning.specs.Answers.{saidOf}
+use Rattle.meaning.specs.Answers.{answerNumbers}
 use Rattle.meaning.specs.Host.{firstNumber}
 use Rattle.meaning.proofs.Tally.{one-or-none}
 use borrow.Author.Needs.{needs}
@@ -39,27 +39,27 @@ cast-result-4 : tie.Need-cast-result-4
 cast-result-4 c = search needs
 
 returns : tie.Need-returns
-unfolding firstNumber saidOf
+unfolding firstNumber answerNumbers
 returns c = rw (c .enum-told .given .1)
 
 returns-2 : tie.Need-returns-2
-unfolding firstNumber saidOf
+unfolding firstNumber answerNumbers
 returns-2 c = rw (c .before .answer .given .1) (omega arith)
 
 returns-3 : tie.Need-returns-3
-unfolding firstNumber saidOf
+unfolding firstNumber answerNumbers
 returns-3 c = rw (c .before .answer2 .given .1) (omega (arith, one-or-none (c .before .answer2 .given .0 .0)))
 
 returns-4 : tie.Need-returns-4
-unfolding firstNumber saidOf
+unfolding firstNumber answerNumbers
 returns-4 c = rw (c .before .answer3 .given .1) (omega arith)
 
 returns-5 : tie.Need-returns-5
-unfolding firstNumber saidOf
+unfolding firstNumber answerNumbers
 returns-5 c = rw (c .before .answer4 .given .1) (omega arith)
 
 returns-6 : tie.Need-returns-6
-unfolding firstNumber saidOf
+unfolding firstNumber answerNumbers
 returns-6 c = rw (c .before .answer5 .given .1) (omega arith)
 
 pub first-number-spec : {M : Type 1} → statement M

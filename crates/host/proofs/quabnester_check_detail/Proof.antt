@@ -2,7 +2,7 @@
 -- Assumes nothing.
 use mathlib.Core.Path.{ap, _∙_}
 use Prim.Native.Nat.{_+_}
-use Rattle.meaning.specs.Answers.{Judged}
+use Rattle.meaning.specs.Answers.{VerdictNumbers}
 use Rattle.meaning.specs.Certificates.{Checked}
 use Rattle.meaning.specs.Host.{valueOrPlace}
 use borrow.Author.Needs.{needs}
@@ -17,7 +17,7 @@ verdict-detail-requires c κs = search needs
 
 returns : tie.Need-returns
 unfolding valueOrPlace Checked
-returns c = c .verdict-detail .ensures ∙ ap (λ (s : Judged). s .value + s .place) (c .before .check .ensures)
+returns c = c .verdict-detail .ensures ∙ ap (λ (s : VerdictNumbers). s .value + s .place) (c .before .check .ensures)
 
 pub quabnester-check-detail-spec : {M : Type 1} → statement M
 quabnester-check-detail-spec = tie.close (tie.spec check-requires verdict-detail-requires returns)

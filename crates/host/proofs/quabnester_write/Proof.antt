@@ -1,6 +1,6 @@
 -- `host::quabnester_write` meets its contract: the writer's answer as numbers.
 -- Assumes nothing.
-use Rattle.meaning.specs.Answers.{wroteOf}
+use Rattle.meaning.specs.Answers.{writtenNumbers}
 use borrow.Author.Needs.{needs}
 use Rattle.host.proofs.quabnester_write.Statement.{statement}
 use Rattle.host.proofs.quabnester_write.Tie as tie
@@ -18,7 +18,7 @@ same-length : tie.Need-same-length
 same-length c = search needs
 
 returns : tie.Need-returns
-unfolding wroteOf
+unfolding writtenNumbers
 returns c =
     let answer = c .before .before .before .before .before .write-bytes in
     record { answer = answer .result; writes = answer .ensures; refusal = rw (c .before .answer .given .1); bytes-are = rw (c .before .answer .given .1) }
@@ -27,7 +27,7 @@ same-length-2 : tie.Need-same-length-2
 same-length-2 c = search needs
 
 returns-2 : tie.Need-returns-2
-unfolding wroteOf
+unfolding writtenNumbers
 returns-2 c =
     let answer = c .before .before .before .before .before .write-bytes in
     record { answer = answer .result; writes = answer .ensures; refusal = rw (c .before .answer2 .given .1); bytes-are = rw (c .before .answer2 .given .1) }

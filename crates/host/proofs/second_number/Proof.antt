@@ -8,15 +8,15 @@ use Rattle.meaning.proofs.Answer.{the-type}
 use Rattle.meaning.specs.declared.Answer.{Answer}
 use Rattle.meaning.specs.declared.Answer.the-variants as Says
 use native.Mathlib.Omega.{arith}
-use Rattle.meaning.specs.Answers.{saidOf}
+use Rattle.meaning.specs.Answers.{answerNumbers}
 use Rattle.meaning.specs.Host.{secondNumber}
 use borrow.Author.Needs.{needs}
 use Rattle.host.proofs.second_number.Statement.{statement}
 use Rattle.host.proofs.second_number.Tie as tie
 
 -- every other case
-others : (a : Answer) → OneOf (0 ∷ 3 ∷ 4 ∷ 5 ∷ []) (tagOf the-type a) → 0 ≡ secondNumber (saidOf a)
-unfolding secondNumber saidOf
+others : (a : Answer) → OneOf (0 ∷ 3 ∷ 4 ∷ 5 ∷ []) (tagOf the-type a) → 0 ≡ secondNumber (answerNumbers a)
+unfolding secondNumber answerNumbers
 others (Says.Refused r) tag = refl
 others (Says.Knapsack v w) tag = absurd (miss (0 ∷ 3 ∷ 4 ∷ 5 ∷ []) 1 tt tag)
 others (Says.Sums y n) tag = absurd (miss (0 ∷ 3 ∷ 4 ∷ 5 ∷ []) 2 tt tag)
@@ -37,11 +37,11 @@ cast-result-2 : tie.Need-cast-result-2
 cast-result-2 c = search needs
 
 returns : tie.Need-returns
-unfolding secondNumber saidOf
+unfolding secondNumber answerNumbers
 returns c = rw (c .before .answer .given .1) (omega arith)
 
 returns-2 : tie.Need-returns-2
-unfolding secondNumber saidOf
+unfolding secondNumber answerNumbers
 returns-2 c = rw (c .before .answer2 .given .1) (omega arith)
 
 returns-3 : tie.Need-returns-3

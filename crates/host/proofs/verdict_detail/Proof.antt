@@ -1,7 +1,7 @@
 -- `host::verdict_detail` meets its contract, case by case.
 -- Assumes nothing.
 use native.Mathlib.Omega.{arith}
-use Rattle.meaning.specs.Answers.{judgedOf}
+use Rattle.meaning.specs.Answers.{verdictNumbers}
 use Rattle.meaning.specs.Host.{valueOrPlace}
 use borrow.Author.Needs.{needs}
 use Rattle.host.proofs.verdict_detail.Statement.{statement}
@@ -17,11 +17,11 @@ enum-known-verdict-2 : tie.Need-enum-known-verdict-2
 enum-known-verdict-2 c = search needs
 
 returns : tie.Need-returns
-unfolding valueOrPlace judgedOf
+unfolding valueOrPlace verdictNumbers
 returns c = rw (c .before .verdict .given .1) (omega arith)
 
 returns-2 : tie.Need-returns-2
-unfolding valueOrPlace judgedOf
+unfolding valueOrPlace verdictNumbers
 returns-2 c = rw (c .before .verdict2 .given .1) (omega arith)
 
 pub verdict-detail-spec : {M : Type 1} → statement M

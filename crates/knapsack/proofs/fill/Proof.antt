@@ -1,4 +1,4 @@
--- `knapsack::fill` meets its contract: the rows so far are filled, and the last of them is low enough to make the next (`filled-low`).
+-- `knapsack::fill` meets its contract: the rows so far are filled, and the last of them is low enough to make the next (`filled-capped`).
 -- Assumes nothing.
 use mathlib.Core.Path.{_≡_, refl, _∙_}
 use Prim.Native.Nat.{ℕ, _+_, _-_, _*_, _≤_, _<_}
@@ -7,9 +7,9 @@ use native.Mathlib.Omega.{arith}
 use mathlib.Core.List.{List}
 use lib.ListN.{length}
 use borrow.Author.Needs.{needs}
-use Rattle.numbers.specs.Handed.{handed}
+use Rattle.numbers.specs.TwoSlices.{listFrom}
 use Rattle.knapsack.specs.Tables.{limitOf, Filled}
-use Rattle.knapsack.proofs.FullRows.{one-row-more, rows-within, filled-none, filled-more, filled-low}
+use Rattle.knapsack.proofs.FullRows.{one-row-more, rows-within, filled-none, filled-more, filled-capped}
 use Rattle.knapsack.proofs.fill.Statement.{statement}
 use Rattle.knapsack.proofs.fill.Tie as tie
 
@@ -18,7 +18,7 @@ Inv-loop kind weights wbytes values vbytes copies cbytes width cells₀ n i₀ f
     (i ≤ n)
     × (from ≡ i * width)
     × (length cells ≡ length cells₀)
-    × Filled (handed weights wbytes) (handed values vbytes) (limitOf kind (handed copies cbytes)) width i cells
+    × Filled (listFrom weights wbytes) (listFrom values vbytes) (limitOf kind (listFrom copies cbytes)) width i cells
 
 abbrev μ-loop : tie.MeasureT-loop
 μ-loop kind weights wbytes values vbytes copies cbytes width cells₀ n i₀ from₀ cells i from = n - i
@@ -30,13 +30,13 @@ entry c = c .before .before .before .before .before .before .before .before .bef
 -- the lists that the function is handed
 module _ (s : tie.Start Inv-loop μ-loop) where
   abbrev weights : List ℕ
-  weights = handed (s .args .weights .now) (s .args .wbytes .now)
+  weights = listFrom (s .args .weights .now) (s .args .wbytes .now)
 
   abbrev values : List ℕ
-  values = handed (s .args .values .now) (s .args .vbytes .now)
+  values = listFrom (s .args .values .now) (s .args .vbytes .now)
 
   abbrev limits : ℕ → ℕ
-  limits = limitOf (s .args .kind) (handed (s .args .copies .now) (s .args .cbytes .now))
+  limits = limitOf (s .args .kind) (listFrom (s .args .copies .now) (s .args .cbytes .now))
 
 long : (c : tie.At-loop Inv-loop μ-loop) → length (c .loop .cells) ≡ length (entry c .args .cells .now)
 long c = c .loop .inv .2 ∙ c .before .before .before .before .set-all .kept .0
@@ -92,7 +92,7 @@ next-row-requires c κs =
       (b .wide, (b .narrow, omega (arith, room turn, long head))),
       (
         (rw (c .before .before .before .item .ensures) (b .heavy (l .i) (inside turn)), rw (c .before .before .item2 .ensures) (b .cheap (l .i) (inside turn))),
-        rw (l .inv .1) (filled-low (weights s) (values s) (limits s) (a .width) b (l .i) (l .cells) (omega (arith, inside turn)) (l .inv .3) (l .i) (omega arith)),
+        rw (l .inv .1) (filled-capped (weights s) (values s) (limits s) (a .width) b (l .i) (l .cells) (omega (arith, inside turn)) (l .inv .3) (l .i) (omega arith)),
       ),
     )
 

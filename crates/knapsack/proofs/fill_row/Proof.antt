@@ -1,4 +1,4 @@
--- `knapsack::fill_row` meets its contract: the row so far is made label by label, and is low enough for the next (`climbed-low`).
+-- `knapsack::fill_row` meets its contract: the row so far is made label by label, and is low enough for the next (`climbed-capped`).
 -- Assumes nothing.
 use native.Mathlib.Numerals.{add-one}
 use mathlib.Core.Path.{_≡_, refl, _∙_}
@@ -8,11 +8,11 @@ use mathlib.Core.List.{List}
 use lib.ListN.{length}
 use borrow.Author.Needs.{needs}
 use Rattle.meaning.specs.Lists.{at}
-use Rattle.numbers.specs.Handed.{handed}
+use Rattle.numbers.specs.TwoSlices.{listFrom}
 use Rattle.rows.specs.Rounds.{none-yet, one-more}
 use Rattle.rows.proofs.Stores.{stored-each}
 use Rattle.knapsack.specs.Tables.{Climbed}
-use Rattle.knapsack.proofs.FreeRow.{climbed-low}
+use Rattle.knapsack.proofs.FreeRow.{climbed-capped}
 use Rattle.knapsack.proofs.fill_row.Statement.{statement}
 use Rattle.knapsack.proofs.fill_row.Tie as tie
 
@@ -20,7 +20,7 @@ abbrev Inv-loop : tie.InvT-loop
 Inv-loop weights wbytes values vbytes row₀ width n i₀ row i =
     (i ≤ n)
     × (length row ≡ length row₀)
-    × Climbed (handed weights wbytes) (handed values vbytes) width i row
+    × Climbed (listFrom weights wbytes) (listFrom values vbytes) width i row
 
 abbrev μ-loop : tie.MeasureT-loop
 μ-loop weights wbytes values vbytes row₀ width n i₀ row i = n - i
@@ -32,10 +32,10 @@ entry c = c .before .before .before .before .before .before .before .before .bef
 -- the lists that the function is handed
 module _ (s : tie.Start Inv-loop μ-loop) where
   abbrev weights : List ℕ
-  weights = handed (s .args .weights .now) (s .args .wbytes .now)
+  weights = listFrom (s .args .weights .now) (s .args .wbytes .now)
 
   abbrev values : List ℕ
-  values = handed (s .args .values .now) (s .args .vbytes .now)
+  values = listFrom (s .args .values .now) (s .args .vbytes .now)
 
 long : (c : tie.At-loop Inv-loop μ-loop) → length (c .loop .row) ≡ length (entry c .args .row .now)
 long c = c .loop .inv .1 ∙ c .before .before .before .before .set-all .kept .0
@@ -61,8 +61,8 @@ item-requires c κs = inside c
 item-requires-2 : tie.Need-item-requires-2 Inv-loop μ-loop
 item-requires-2 c κs = let turn = c .before in rw (entry (turn .before) .pre .valued) (inside turn)
 
-raise-up-requires : tie.Need-raise-up-requires Inv-loop μ-loop
-raise-up-requires c κs =
+add-any-number-requires : tie.Need-add-any-number-requires Inv-loop μ-loop
+add-any-number-requires c κs =
     let turn = c .before .before .before in
     let head = turn .before in
     let l = head .loop in
@@ -71,7 +71,7 @@ raise-up-requires c κs =
     let b = entry head .pre in
     rw (long head) (
       (rw (c .before .before .item .ensures) (b .heavy (l .i) (inside turn)), (rw (c .before .item2 .ensures) (b .cheap (l .i) (inside turn)), b .narrow)),
-      climbed-low (weights s) (values s) (length (a .row .now)) (l .i) (l .row) b (omega (arith, inside turn)) (l .inv .2),
+      climbed-capped (weights s) (values s) (length (a .row .now)) (l .i) (l .row) b (omega (arith, inside turn)) (l .inv .2),
     )
 
 add-i : tie.Need-add-i Inv-loop μ-loop
@@ -84,7 +84,7 @@ loop-again : tie.Need-loop-again Inv-loop μ-loop
 loop-again c =
     let head = c .before .before .before .before .before .before .before in
     let l = head .loop in
-    let up = c .before .before .raise-up in
+    let up = c .before .before .add-any-number in
     let w = c .before .before .before .before .before .item .ensures in
     let v = c .before .before .before .before .item2 .ensures in (
       omega arith,
@@ -112,7 +112,7 @@ fill-row-spec =
     loop-holds
     item-requires
     item-requires-2
-    raise-up-requires
+    add-any-number-requires
     add-i
     loop-less
     loop-again

@@ -1,4 +1,4 @@
--- `knapsack::full_table` meets its contract: `fill` leaves the table, and `way_back` the picks and what is left of the budget (`packs-full`).
+-- `knapsack::full_table` meets its contract: `fill` leaves the table, and `trace_back` the picks and what is left of the budget (`packs-full`).
 -- Assumes nothing.
 use mathlib.Core.Path.{_≡_, sym, ap, _∙_}
 use Prim.Native.Nat.{ℕ, suc, _+_, _*_, _≤_, _<_}
@@ -9,59 +9,59 @@ use lib.ListN.{length, drop, take}
 use lib.Seq.{length-take-le}
 use borrow.Author.Needs.{needs}
 use Rattle.meaning.specs.Lists.{at}
-use Rattle.meaning.specs.Job.{Job, Sort, packing, jobOf, labels}
+use Rattle.meaning.specs.Job.{Job, Knapsack, packing, jobOf, labels}
 use Rattle.meaning.specs.Lent.{cellCount}
-use Rattle.meaning.specs.Refusals.{mostBudget}
+use Rattle.meaning.specs.Bounds.{mostBudget}
 use Rattle.meaning.proofs.Laws.{numberOf, kind-number}
-use Rattle.numbers.specs.Handed.{handed}
+use Rattle.numbers.specs.TwoSlices.{listFrom}
 use Rattle.rows.specs.Rows.{SomeCount}
 use Rattle.rows.proofs.Parts.{front-part, front-room, front-last}
 use Rattle.knapsack.specs.Tables.{Bounded, limitOf, rowOf, Filled}
-use Rattle.knapsack.specs.Ways.{WayBack}
-use Rattle.knapsack.proofs.FullRows.{one-row-more, some-back, way-within}
-use Rattle.knapsack.proofs.Doors.{Rowed, rowed, ready, bounded, limit-few, limit-may, full-room, copies-long, packs-full}
+use Rattle.knapsack.specs.Traces.{TraceBack}
+use Rattle.knapsack.proofs.FullRows.{one-row-more, some-back, trace-within}
+use Rattle.knapsack.proofs.KnapsackDoor.{Rowed, rowed, ready, bounded, limit-few, limit-may, full-room, copies-long, packs-full}
 use Rattle.knapsack.proofs.full_table.Statement.{statement}
 use Rattle.knapsack.proofs.full_table.Tie as tie
 
 -- what the job keeps
 module _ (s : tie.Start) where
   abbrev weights : List ℕ
-  weights = handed (s .args .weights .now) (s .args .wbytes .now)
+  weights = listFrom (s .args .weights .now) (s .args .wbytes .now)
 
   abbrev values : List ℕ
-  values = handed (s .args .values .now) (s .args .vbytes .now)
+  values = listFrom (s .args .values .now) (s .args .vbytes .now)
 
   abbrev copies : List ℕ
-  copies = handed (s .args .copies .now) (s .args .cbytes .now)
+  copies = listFrom (s .args .copies .now) (s .args .cbytes .now)
 
   abbrev job : Job
   job = jobOf (s .args .kind) (s .args .budget ∷ []) weights values copies
 
-  abbrev sort : Sort
-  sort = s .pre .0 .sort
+  abbrev knapsack : Knapsack
+  knapsack = s .pre .0 .knapsack
 
-  numbered : s .args .kind ≡ numberOf (packing sort)
+  numbered : s .args .kind ≡ numberOf (packing knapsack)
   unfolding jobOf
-  numbered = kind-number (s .args .kind) (packing sort) (s .pre .0 .unrefused .of-kind)
+  numbered = kind-number (s .args .kind) (packing knapsack) (s .pre .0 .unrefused .of-kind)
 
-  is : Rowed sort
-  is = rowed sort (rw numbered at (s .pre .1))
+  is : Rowed knapsack
+  is = rowed knapsack (rw numbered at (s .pre .1))
 
   bounds : Bounded (s .args .budget + 1) weights values
   unfolding jobOf
-  bounds = bounded sort job (ready sort job (s .args .cells .now) (s .args .picks .now) (s .pre .0 .unrefused) .valid)
+  bounds = bounded knapsack job (ready knapsack job (s .args .cells .now) (s .args .picks .now) (s .pre .0 .unrefused) .valid)
 
   cells-room : (length weights + 1) * (s .args .budget + 1) ≤ length (s .args .cells .now)
   unfolding jobOf labels cellCount
-  cells-room = rw (full-room is job) at (ready sort job (s .args .cells .now) (s .args .picks .now) (s .pre .0 .unrefused) .cells-room)
+  cells-room = rw (full-room is job) at (ready knapsack job (s .args .cells .now) (s .args .picks .now) (s .pre .0 .unrefused) .cells-room)
 
   picks-room : length weights ≤ length (s .args .picks .now)
   unfolding jobOf labels
-  picks-room = ready sort job (s .args .cells .now) (s .args .picks .now) (s .pre .0 .unrefused) .picks-room
+  picks-room = ready knapsack job (s .args .cells .now) (s .args .picks .now) (s .pre .0 .unrefused) .picks-room
 
   copied : ¬ (s .args .kind ≡ 1) → length copies ≡ length weights
   unfolding jobOf labels
-  copied other = copies-long is job (ready sort job (s .args .cells .now) (s .args .picks .now) (s .pre .0 .unrefused) .valid) (rw numbered at other)
+  copied other = copies-long is job (ready knapsack job (s .args .cells .now) (s .args .picks .now) (s .pre .0 .unrefused) .valid) (rw numbered at other)
 
 -- how many cells and picks are needed
 module _ (l : tie.After-list-length) where
@@ -104,26 +104,26 @@ module _ (f : tie.After-fill) where
   table-front : take (needed listed) (table ++ drop (needed listed) (start .args .cells .now)) ≡ table
   table-front = front-part table (start .args .cells .now) (needed listed) table-long
 
-  filled : Filled (weights start) (values start) (limitOf (numberOf (packing (sort start))) (copies start)) (start .args .budget + 1) (length (weights start)) table
+  filled : Filled (weights start) (values start) (limitOf (numberOf (packing (knapsack start))) (copies start)) (start .args .budget + 1) (length (weights start)) table
   filled = rw (numbered start) at (f .fill .ensures)
 
   some-count : (i c : ℕ) → i < length (weights start) → c < start .args .budget + 1
       → SomeCount (rowOf table (start .args .budget + 1) i) (at (weights start) i) (at (values start) i) c (rowOf table (start .args .budget + 1) (suc i) c)
   unfolding jobOf labels
   some-count =
-      some-back (sort start) (job start) (limitOf (numberOf (packing (sort start))) (copies start)) (start .args .budget + 1) table
+      some-back (knapsack start) (job start) (limitOf (numberOf (packing (knapsack start))) (copies start)) (start .args .budget + 1) table
       (λ i x h. limit-few (is start) (job start) i x) (λ i x h. limit-may (is start) (job start) i x) filled
 
--- what the call of `way_back` leaves
-module _ (w : tie.After-way-back) where
+-- what the call of `trace_back` leaves
+module _ (w : tie.After-trace-back) where
   abbrev after-fill : tie.After-fill
   after-fill = w .before .before .before .before .before
 
   abbrev found : List ℕ
-  found = w .way-back .last .1 .1 .1 .1 .1 .1 .0
+  found = w .trace-back .last .1 .1 .1 .1 .1 .1 .0
 
-  way : let s = start after-fill in WayBack (rowOf (table after-fill) (s .args .budget + 1)) (weights s) (values s) (length (weights s)) (s .args .budget) 0 (w .way-back .result) found
-  way = rw (table-front after-fill, add-sub-cancel) at (w .way-back .ensures)
+  way : let s = start after-fill in TraceBack (rowOf (table after-fill) (s .args .budget + 1)) (weights s) (values s) (length (weights s)) (s .args .budget) 0 (w .trace-back .result) found
+  way = rw (table-front after-fill, add-sub-cancel) at (w .trace-back .ensures)
 
 list-length-requires : tie.Need-list-length-requires
 list-length-requires c κs = search needs
@@ -146,20 +146,20 @@ slice-aggregate-fill c = sym (cells-long (c .before))
 fill-requires : tie.Need-fill-requires
 fill-requires c κs = let s = at-start (c .before) in (bounds s, (copied s, sym (needed-is (c .before)) ∙ sym (cells-long (c .before))))
 
-slice-reshare-prefix-way-back : tie.Need-slice-reshare-prefix-way-back
-slice-reshare-prefix-way-back c = let f = c .before .before in front-room (table f) (start f .args .cells .now) (needed (listed f)) (table-long f)
+slice-reshare-prefix-trace-back : tie.Need-slice-reshare-prefix-trace-back
+slice-reshare-prefix-trace-back c = let f = c .before .before in front-room (table f) (start f .args .cells .now) (needed (listed f)) (table-long f)
 
-slice-aggregate-way-back : tie.Need-slice-aggregate-way-back
-slice-aggregate-way-back c = let f = c .before .before .before in sym (table-long f) ∙ ap length (sym (table-front f))
+slice-aggregate-trace-back : tie.Need-slice-aggregate-trace-back
+slice-aggregate-trace-back c = let f = c .before .before .before in sym (table-long f) ∙ ap length (sym (table-front f))
 
-slice-relend-prefix-way-back : tie.Need-slice-relend-prefix-way-back
-slice-relend-prefix-way-back c = picks-enough (listed (c .before .before .before))
+slice-relend-prefix-trace-back : tie.Need-slice-relend-prefix-trace-back
+slice-relend-prefix-trace-back c = picks-enough (listed (c .before .before .before))
 
-slice-aggregate-way-back-2 : tie.Need-slice-aggregate-way-back-2
-slice-aggregate-way-back-2 c = let l = listed (c .before .before .before .before) in l .list-length .ensures ∙ sym (picks-long l)
+slice-aggregate-trace-back-2 : tie.Need-slice-aggregate-trace-back-2
+slice-aggregate-trace-back-2 c = let l = listed (c .before .before .before .before) in l .list-length .ensures ∙ sym (picks-long l)
 
-way-back-requires : tie.Need-way-back-requires
-way-back-requires c κs =
+trace-back-requires : tie.Need-trace-back-requires
+trace-back-requires c κs =
     let f = c .before .before .before .before in
     rw (table-front f) (bounds (start f), ((sym (needed-is (listed f)) ∙ sym (table-long f), sym (picks-long (listed f))), some-count f))
 
@@ -174,10 +174,10 @@ slice-read-t25 c = let f = after-fill (c .before .before .before) in let s = sta
 
 cast-t26 : tie.Need-cast-t26
 unfolding mostBudget
-cast-t26 c = let w = c .before .before .before in omega (arith, way-within (way w) .1, bounds (start (after-fill w)) .narrow)
+cast-t26 c = let w = c .before .before .before in omega (arith, trace-within (way w) .1, bounds (start (after-fill w)) .narrow)
 
 sub-t27 : tie.Need-sub-t27
-sub-t27 c = way-within (way (c .before .before .before)) .1
+sub-t27 c = trace-within (way (c .before .before .before)) .1
 
 same-length : tie.Need-same-length
 same-length c = search needs
@@ -195,7 +195,7 @@ returns c =
     let a = s .args in
     let more = one-row-more (length (weights s)) (a .budget + 1) in
     let last = front-last (table f) (a .cells .now) (needed l) (table-long f) (length (weights s) * (a .budget + 1) + a .budget) (omega (arith, needed-is l, more)) in
-    packs-full (sort s) (job s) (a .cells .now) (a .picks .now) (table f) (found w) (w .way-back .result) (is s) (s .pre .0 .unrefused) (table-long f ∙ needed-is l) (filled f) (way w)
+    packs-full (knapsack s) (job s) (a .cells .now) (a .picks .now) (table f) (found w) (w .trace-back .result) (is s) (s .pre .0 .unrefused) (table-long f ∙ needed-is l) (filled f) (way w)
     (needed l) (l .list-length .result) _ (needed-is l) (l .list-length .ensures) last
 
 pub full-table-spec : {M : Type 1} → statement M
@@ -209,11 +209,11 @@ full-table-spec =
     slice-relend-prefix-fill
     slice-aggregate-fill
     fill-requires
-    slice-reshare-prefix-way-back
-    slice-aggregate-way-back
-    slice-relend-prefix-way-back
-    slice-aggregate-way-back-2
-    way-back-requires
+    slice-reshare-prefix-trace-back
+    slice-aggregate-trace-back
+    slice-relend-prefix-trace-back
+    slice-aggregate-trace-back-2
+    trace-back-requires
     sub-t15
     mul-t23
     slice-read-t25

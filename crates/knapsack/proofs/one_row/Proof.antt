@@ -1,4 +1,4 @@
--- `knapsack::one_row` meets its contract: `fill_row` leaves the row, and `way_along` the picks and what is left of the budget (`packs-free`).
+-- `knapsack::one_row` meets its contract: `fill_row` leaves the row, and `trace_along` the picks and what is left of the budget (`packs-free`).
 -- Assumes nothing.
 use mathlib.Core.Path.{_≡_, refl, sym, ap, _∙_}
 use Prim.Native.Nat.{ℕ, _+_, _≤_}
@@ -11,23 +11,23 @@ use borrow.Author.Needs.{needs}
 use Rattle.meaning.specs.Lists.{at}
 use Rattle.meaning.specs.Job.{Job, jobOf, free, labels}
 use Rattle.meaning.specs.Lent.{roomFor, roomOf}
-use Rattle.meaning.specs.Refusals.{mostBudget}
-use Rattle.numbers.specs.Handed.{handed}
+use Rattle.meaning.specs.Bounds.{mostBudget}
+use Rattle.numbers.specs.TwoSlices.{listFrom}
 use Rattle.rows.proofs.Parts.{front-part, front-room, front-last}
 use Rattle.knapsack.specs.Tables.{Bounded, Climbed}
-use Rattle.knapsack.specs.Ways.{WayAlong}
-use Rattle.knapsack.proofs.FreeRow.{climbed-low, along-weight}
-use Rattle.knapsack.proofs.Doors.{ready, bounded, packs-free}
+use Rattle.knapsack.specs.Traces.{TraceAlong}
+use Rattle.knapsack.proofs.FreeRow.{climbed-capped, along-weight}
+use Rattle.knapsack.proofs.KnapsackDoor.{ready, bounded, packs-free}
 use Rattle.knapsack.proofs.one_row.Statement.{statement}
 use Rattle.knapsack.proofs.one_row.Tie as tie
 
 -- what the job keeps
 module _ (s : tie.Start) where
   abbrev weights : List ℕ
-  weights = handed (s .args .weights .now) (s .args .wbytes .now)
+  weights = listFrom (s .args .weights .now) (s .args .wbytes .now)
 
   abbrev values : List ℕ
-  values = handed (s .args .values .now) (s .args .vbytes .now)
+  values = listFrom (s .args .values .now) (s .args .vbytes .now)
 
   abbrev job : Job
   job = jobOf 3 (s .args .budget ∷ []) weights values []
@@ -69,20 +69,20 @@ module _ (f : tie.After-fill-row) where
   picks-long : length (take (f .before .before .list-length .result) (start .args .picks .now)) ≡ length (weights start)
   picks-long = length-take-le (f .before .before .list-length .result) (start .args .picks .now) (omega (arith, labelled, ok start .picks-room)) ∙ labelled
 
--- what the call of `way_along` leaves
-module _ (w : tie.After-way-along) where
+-- what the call of `trace_along` leaves
+module _ (w : tie.After-trace-along) where
   abbrev filled : tie.After-fill-row
   filled = w .before .before .before .before .before
 
   abbrev found : List ℕ
-  found = w .way-along .last .1 .1 .1 .1 .1 .0
+  found = w .trace-along .last .1 .1 .1 .1 .1 .0
 
-  way : let s = start filled in WayAlong (at (row filled)) (weights s) (values s) (s .args .budget) (w .way-along .result) found
-  way = rw (row-front filled, row-long filled, add-sub-cancel) at (w .way-along .ensures)
+  way : let s = start filled in TraceAlong (at (row filled)) (weights s) (values s) (s .args .budget) (w .trace-along .result) found
+  way = rw (row-front filled, row-long filled, add-sub-cancel) at (w .trace-along .ensures)
 
   -- what is left is no more than the budget
-  within : w .way-along .result ≤ start filled .args .budget
-  within = let s = start filled in omega (arith, along-weight (at (row filled)) (weights s) (values s) (s .args .budget) (w .way-along .result) found way)
+  within : w .trace-along .result ≤ start filled .args .budget
+  within = let s = start filled in omega (arith, along-weight (at (row filled)) (weights s) (values s) (s .args .budget) (w .trace-along .result) found way)
 
 list-length-requires : tie.Need-list-length-requires
 list-length-requires c κs = search needs
@@ -99,24 +99,24 @@ slice-aggregate-fill-row c = let s = c .before .before .before .before .before .
 fill-row-requires : tie.Need-fill-row-requires
 fill-row-requires c κs = let s = c .before .before .before .before .before .before .before .before in rw (length-take-le (s .args .budget + 1) (s .args .cells .now) (ok s .cells-room)) (ok s .bounds)
 
-slice-reshare-prefix-way-along : tie.Need-slice-reshare-prefix-way-along
-slice-reshare-prefix-way-along c = room (c .before .before)
+slice-reshare-prefix-trace-along : tie.Need-slice-reshare-prefix-trace-along
+slice-reshare-prefix-trace-along c = room (c .before .before)
 
-slice-aggregate-way-along : tie.Need-slice-aggregate-way-along
-slice-aggregate-way-along c = let f = c .before .before .before in sym (row-long f) ∙ ap length (sym (row-front f))
+slice-aggregate-trace-along : tie.Need-slice-aggregate-trace-along
+slice-aggregate-trace-along c = let f = c .before .before .before in sym (row-long f) ∙ ap length (sym (row-front f))
 
-slice-relend-prefix-way-along : tie.Need-slice-relend-prefix-way-along
-slice-relend-prefix-way-along c = let f = c .before .before .before in omega (arith, labelled f, ok (start f) .picks-room)
+slice-relend-prefix-trace-along : tie.Need-slice-relend-prefix-trace-along
+slice-relend-prefix-trace-along c = let f = c .before .before .before in omega (arith, labelled f, ok (start f) .picks-room)
 
-slice-aggregate-way-along-2 : tie.Need-slice-aggregate-way-along-2
-slice-aggregate-way-along-2 c = let f = c .before .before .before .before in labelled f ∙ sym (picks-long f)
+slice-aggregate-trace-along-2 : tie.Need-slice-aggregate-trace-along-2
+slice-aggregate-trace-along-2 c = let f = c .before .before .before .before in labelled f ∙ sym (picks-long f)
 
-way-along-requires : tie.Need-way-along-requires
-way-along-requires c κs =
+trace-along-requires : tie.Need-trace-along-requires
+trace-along-requires c κs =
     let f = c .before .before .before .before in
     let s = start f in
     let a = s .args in
-    rw (row-front f, row-long f) (ok s .bounds, (climbed-low (weights s) (values s) (a .budget + 1) (length (weights s)) (row f) (ok s .bounds) (omega arith) (row-climbed f), sym (picks-long f)))
+    rw (row-front f, row-long f) (ok s .bounds, (climbed-capped (weights s) (values s) (a .budget + 1) (length (weights s)) (row f) (ok s .bounds) (omega arith) (row-climbed f), sym (picks-long f)))
 
 sub-t11 : tie.Need-sub-t11
 sub-t11 c = search needs
@@ -148,7 +148,7 @@ returns c =
     let s = start f in
     let a = s .args in
     let last = front-last (row f) (a .cells .now) (a .budget + 1) (row-long f) (a .budget) refl in
-    packs-free (job s) (a .cells .now) (a .picks .now) (row f) (found w) (w .way-along .result) (s .pre) (row-long f) (row-climbed f) (way w) _ _ (labelled f) last
+    packs-free (job s) (a .cells .now) (a .picks .now) (row f) (found w) (w .trace-along .result) (s .pre) (row-long f) (row-climbed f) (way w) _ _ (labelled f) last
 
 pub one-row-spec : {M : Type 1} → statement M
 one-row-spec =
@@ -159,11 +159,11 @@ one-row-spec =
     slice-relend-prefix-fill-row
     slice-aggregate-fill-row
     fill-row-requires
-    slice-reshare-prefix-way-along
-    slice-aggregate-way-along
-    slice-relend-prefix-way-along
-    slice-aggregate-way-along-2
-    way-along-requires
+    slice-reshare-prefix-trace-along
+    slice-aggregate-trace-along
+    slice-relend-prefix-trace-along
+    slice-aggregate-trace-along-2
+    trace-along-requires
     sub-t11
     mul-t19
     slice-read-t21

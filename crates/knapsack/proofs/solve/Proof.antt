@@ -5,23 +5,23 @@ use Prim.Native.Nat.{ℕ}
 use mathlib.Core.List.{List, [], _∷_}
 use borrow.Author.Needs.{needs}
 use Rattle.meaning.specs.Job.{Job, jobOf, packing, free}
-use Rattle.numbers.specs.Handed.{handed}
+use Rattle.numbers.specs.TwoSlices.{listFrom}
 use Rattle.meaning.specs.Lent.{lentOf}
 use Rattle.meaning.specs.Solved.{Unrefused}
-use Rattle.knapsack.proofs.Doors.{any-below, job-free}
+use Rattle.knapsack.proofs.KnapsackDoor.{any-below, job-free}
 use Rattle.knapsack.proofs.solve.Statement.{statement}
 use Rattle.knapsack.proofs.solve.Tie as tie
 
 -- the job
 module _ (s : tie.Start) where
   abbrev weights : List ℕ
-  weights = handed (s .args .weights .now) (s .args .wbytes .now)
+  weights = listFrom (s .args .weights .now) (s .args .wbytes .now)
 
   abbrev values : List ℕ
-  values = handed (s .args .values .now) (s .args .vbytes .now)
+  values = listFrom (s .args .values .now) (s .args .vbytes .now)
 
   abbrev copies : List ℕ
-  copies = handed (s .args .copies .now) (s .args .cbytes .now)
+  copies = listFrom (s .args .copies .now) (s .args .cbytes .now)
 
   abbrev job : Job
   job = jobOf (s .args .kind) (s .args .budget ∷ []) weights values copies

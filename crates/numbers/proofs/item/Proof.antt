@@ -4,7 +4,7 @@ use mathlib.Core.Path.{sym, _∙_}
 use native.Mathlib.Omega.{arith}
 use borrow.Author.Needs.{needs}
 use Rattle.meaning.proofs.Numbers.{numbers-long}
-use Rattle.numbers.proofs.Handed.{handed-long, handed-first, handed-rest}
+use Rattle.numbers.proofs.TwoSlices.{list-long, list-first, list-rest}
 use Rattle.numbers.proofs.item.Statement.{statement}
 use Rattle.numbers.proofs.item.Tie as tie
 
@@ -17,18 +17,18 @@ shared-slice-read-result c = search needs
 number-in-requires : tie.Need-number-in-requires
 number-in-requires c κs =
     let a = c .before .before .before .args in
-    omega (arith, handed-long (a .numbers .now) (a .bytes .now), numbers-long (a .bytes .now))
+    omega (arith, list-long (a .numbers .now) (a .bytes .now), numbers-long (a .bytes .now))
 
 returns : tie.Need-returns
 returns c =
     let a = c .before .before .before .before .args in
-    sym (handed-first (a .numbers .now) (a .bytes .now) (a .i) (omega arith))
+    sym (list-first (a .numbers .now) (a .bytes .now) (a .i) (omega arith))
 
 returns-2 : tie.Need-returns-2
 returns-2 c =
     let s = c .before .before .before .before in
     let a = s .args in
-    c .number-in .ensures ∙ sym (handed-rest (a .numbers .now) (a .bytes .now) (a .i) (omega arith))
+    c .number-in .ensures ∙ sym (list-rest (a .numbers .now) (a .bytes .now) (a .i) (omega arith))
 
 pub item-spec : {M : Type 1} → statement M
 item-spec =

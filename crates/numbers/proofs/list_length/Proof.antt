@@ -2,7 +2,7 @@
 -- Assumes nothing.
 use mathlib.Core.Path.{sym}
 use borrow.Author.Needs.{needs}
-use Rattle.numbers.proofs.Handed.{handed-long}
+use Rattle.numbers.proofs.TwoSlices.{list-long}
 use Rattle.numbers.proofs.list_length.Statement.{statement}
 use Rattle.numbers.proofs.list_length.Tie as tie
 
@@ -10,7 +10,7 @@ add-result : tie.Need-add-result
 add-result c = search needs
 
 returns : tie.Need-returns
-returns c = sym (handed-long (c .args .numbers .now) (c .args .bytes .now))
+returns c = sym (list-long (c .args .numbers .now) (c .args .bytes .now))
 
 pub list-length-spec : {M : Type 1} → statement M
 list-length-spec = tie.close (tie.spec add-result returns)

@@ -3,14 +3,14 @@
 -- Assumes nothing.
 use mathlib.Core.Path.{ap, sym, _∙_}
 use Prim.Native.Nat.{_≤_}
-use mathlib.Core.List.{[]}
+use mathlib.Core.List.{[], _∷_}
 use native.Mathlib.Omega.{arith}
 use lib.ListN.{length, take}
 use lib.Seq.{length-take-le}
 use Rattle.meaning.specs.Job.{Job, jobOf, labels}
 use Rattle.meaning.specs.Lent.{lentOf}
 use Rattle.meaning.specs.Bytes.{between}
-use Rattle.numbers.specs.Handed.{jobHanded}
+use Rattle.numbers.specs.TwoSlices.{jobFrom}
 use Rattle.requests.proofs.Reading.{PartsIn, unread, read-in}
 use Rattle.print.proofs.Lengths.{lines-room}
 use Rattle.plan.specs.Picks.{picksWritten}
@@ -30,7 +30,7 @@ abbrev job : tie.After-request → Job
 job c =
     let p = c .request .given .0 in
     let b = c .before .before .before .before .before .before .before .before .before .before .before .before .args .job .now in
-    jobHanded (p .0) (p .1 .0) [] (between b (p .1 .1 .0) (p .1 .1 .1 .0)) [] (between b (p .1 .1 .1 .1 .0) (p .1 .1 .1 .1 .1 .0)) [] (between b (p .1 .1 .1 .1 .1 .1 .0) (p .1 .1 .1 .1 .1 .1 .1 .0))
+    jobFrom (p .0) (p .1 .0 ∷ []) [] (between b (p .1 .1 .0) (p .1 .1 .1 .0)) [] (between b (p .1 .1 .1 .1 .0) (p .1 .1 .1 .1 .1 .0)) [] (between b (p .1 .1 .1 .1 .1 .1 .0) (p .1 .1 .1 .1 .1 .1 .1 .0))
 
 -- the picks that are printed were lent
 room : (c : tie.After-picks-written) → c .picks-written .result ≤ length (c .before .before .before .before .before .before .before .before .before .before .before .solve-bytes .last .1 .1 .1 .0)

@@ -1,13 +1,14 @@
 -- `planner::decide` meets its contract: each arm's promise is that of its kinds, and what no arm takes is no kind.
 -- Assumes nothing.
+use mathlib.Core.List.{[], _∷_}
 use mathlib.Core.Path.{_≡_}
 use mathlib.Core.Logic.{inl, inr}
 use native.Mathlib.Omega.{arith}
 use Rattle.meaning.specs.Job.{Job, jobOf, allKinds}
 use Rattle.meaning.specs.Lent.{Lent, lentOf}
-use Rattle.meaning.specs.Doors.{SolvedInCells, SolvedInWords, SolvedInPicks}
+use Rattle.meaning.specs.SolvedIn.{SolvedInCells, SolvedInWords, SolvedInPicks}
 use Rattle.meaning.proofs.Laws.{no-kind, solved-no-kind}
-use Rattle.numbers.specs.Handed.{jobHanded}
+use Rattle.numbers.specs.TwoSlices.{jobFrom}
 use borrow.Author.Needs.{needs}
 use Rattle.planner.proofs.decide.Statement.{statement}
 use Rattle.planner.proofs.decide.Tie as tie
@@ -15,7 +16,7 @@ use Rattle.planner.proofs.decide.Tie as tie
 -- the job, and the slices
 module _ (s : tie.Start) where
   abbrev job : Job
-  job = jobHanded (s .args .kind) (s .args .budget) (s .args .ws .now) (s .args .wb .now) (s .args .vs .now) (s .args .vb .now) (s .args .cs .now) (s .args .cb .now)
+  job = jobFrom (s .args .kind) (s .args .budget ∷ []) (s .args .weights .now) (s .args .wbytes .now) (s .args .values .now) (s .args .vbytes .now) (s .args .copies .now) (s .args .cbytes .now)
 
   abbrev lent : Lent
   lent = lentOf (s .args .cells .now) (s .args .words .now) (s .args .picks .now)

@@ -1,5 +1,6 @@
 -- `planner::lay` meets its contract: kinds 5 and 6 are turned away by 3 to 6, or let in to `blocks`.
 -- Assumes nothing.
+use mathlib.Core.List.{[], _∷_}
 use mathlib.Core.Path.{_≡_, refl, sym, _∙_, ap, subst}
 use mathlib.Core.Bool.{false}
 use borrow.Author.Tests.{not-true, not-false}
@@ -9,7 +10,7 @@ use Rattle.meaning.specs.Lent.{Lent, lentOf, roomFor}
 use Rattle.meaning.specs.Refusals as meaning
 use Rattle.meaning.specs.Refusals.{jobRefusal, rulesOf, roomFits}
 use Rattle.meaning.specs.Solved.{Unrefused}
-use Rattle.numbers.specs.Handed.{jobHanded, weightsHanded}
+use Rattle.numbers.specs.TwoSlices.{jobFrom, weightsFrom}
 use Rattle.planner.proofs.Judged.{turned-away, too-short, let-in, weights-alone, fits-as, LaidKind, five-or-six, laid-kind, laid-rules, laid-alone, laid-claims, laid-room, laid-in}
 use Rattle.planner.proofs.lay.Statement.{statement}
 use Rattle.planner.proofs.lay.Tie as tie
@@ -17,10 +18,10 @@ use Rattle.planner.proofs.lay.Tie as tie
 -- the job, without the lists that it doesn't use, and its kind
 module _ (s : tie.Start) where
   abbrev job : Job
-  job = jobHanded (s .args .kind) (s .args .budget) (s .args .ws .now) (s .args .wb .now) (s .args .vs .now) (s .args .vb .now) (s .args .cs .now) (s .args .cb .now)
+  job = jobFrom (s .args .kind) (s .args .budget ∷ []) (s .args .weights .now) (s .args .wbytes .now) (s .args .values .now) (s .args .vbytes .now) (s .args .copies .now) (s .args .cbytes .now)
 
   abbrev bare : Job
-  bare = weightsHanded (s .args .kind) (s .args .budget) (s .args .ws .now) (s .args .wb .now)
+  bare = weightsFrom (s .args .kind) (s .args .budget ∷ []) (s .args .weights .now) (s .args .wbytes .now)
 
   one-of-two : LaidKind (s .args .kind)
   one-of-two = five-or-six (s .args .kind) (s .pre .0) (s .pre .1)

@@ -3,17 +3,17 @@
 use mathlib.Core.Path.{_≡_, refl, sym, _∙_, ap}
 use Prim.Native.Nat.{ℕ}
 use mathlib.Core.Bool.{false}
-use mathlib.Core.List.{List, []}
+use mathlib.Core.List.{List, [], _∷_}
 use borrow.Author.Tests.{not-true, not-false}
 use borrow.Author.Needs.{needs}
 use Rattle.meaning.specs.Job.{Job, Kind, packing, jobOf, labels}
 use Rattle.meaning.specs.Lent.{lentOf, roomFor}
 use Rattle.meaning.specs.Refusals as meaning
 use Rattle.meaning.specs.Refusals.{jobRefusal, rulesOf, knapsackRules, claimsFit, roomFits}
-use Rattle.meaning.specs.Doors.{SolvedInCells}
-use Rattle.numbers.specs.Handed.{jobHanded}
-use Rattle.knapsack.proofs.Doors.{words-needed}
-use Rattle.rules.proofs.Ruling.{SortOf, sort-of}
+use Rattle.meaning.specs.SolvedIn.{SolvedInCells}
+use Rattle.numbers.specs.TwoSlices.{jobFrom}
+use Rattle.knapsack.proofs.KnapsackDoor.{words-needed}
+use Rattle.rules.proofs.Ruling.{KnapsackOf, knapsack-of}
 use Rattle.planner.proofs.Judged.{turned-away, too-short, let-in, few, small, unneeded, fits-as}
 use Rattle.planner.proofs.pack.Statement.{statement}
 use Rattle.planner.proofs.pack.Tie as tie
@@ -21,13 +21,13 @@ use Rattle.planner.proofs.pack.Tie as tie
 -- the job, and its kind
 module _ (s : tie.Start) where
   abbrev job : Job
-  job = jobHanded (s .args .kind) (s .args .budget) (s .args .ws .now) (s .args .wb .now) (s .args .vs .now) (s .args .vb .now) (s .args .cs .now) (s .args .cb .now)
+  job = jobFrom (s .args .kind) (s .args .budget ∷ []) (s .args .weights .now) (s .args .wbytes .now) (s .args .values .now) (s .args .vbytes .now) (s .args .copies .now) (s .args .cbytes .now)
 
-  one-of-three : SortOf (s .args .kind)
-  one-of-three = sort-of (s .args .kind) (s .pre .0) (s .pre .1)
+  one-of-three : KnapsackOf (s .args .kind)
+  one-of-three = knapsack-of (s .args .kind) (s .pre .0) (s .pre .1)
 
   abbrev kind : Kind
-  kind = packing (one-of-three .sort)
+  kind = packing (one-of-three .knapsack)
 
 knapsack-rules-requires : tie.Need-knapsack-rules-requires
 knapsack-rules-requires c κs = search needs
@@ -42,7 +42,7 @@ judged c =
     let s = c .before .before .before .before .before .before .before .before .before .before in
     let k = one-of-three s in
     c .job-refusal .ensures (s .args .kind) false
-    ∙ ap (λ (r : meaning.Rules). jobRefusal r (job s) 0) (c .before .knapsack-rules .ensures (k .sort) (k .of-kind))
+    ∙ ap (λ (r : meaning.Rules). jobRefusal r (job s) 0) (c .before .knapsack-rules .ensures (k .knapsack) (k .of-kind))
 
 returns : tie.Need-returns
 unfolding SolvedInCells jobOf
@@ -76,8 +76,8 @@ roomy c words =
     let need = roomFor (kind s) (job s) in
     c .room-fits .ensures
     ∙ fits-as (kind s) (job s) (c .before .knapsack-room .result) _ _ 0 _ (lentOf (s .args .cells .now) words (s .args .picks .now))
-    (c .before .knapsack-room .ensures (k .sort) (k .of-kind)) (c .before .before .list-length .ensures)
-    (record { in-cells = refl; in-words = unneeded (need .words) 0 _ (sym (words-needed (k .sort) (job s))); in-picks = refl })
+    (c .before .knapsack-room .ensures (k .knapsack) (k .of-kind)) (c .before .before .list-length .ensures)
+    (record { in-cells = refl; in-words = unneeded (need .words) 0 _ (sym (words-needed (k .knapsack) (job s))); in-picks = refl })
 
 returns-2 : tie.Need-returns-2
 unfolding SolvedInCells jobOf
@@ -92,7 +92,7 @@ solve-requires c κs =
     let s = c .before .before .before .before .before .before .before .before .before .before .before .before .before .before .before .before .before in
     let e = c .before .before in
     record {
-      sort = one-of-three s .sort;
+      knapsack = one-of-three s .knapsack;
       unrefused =
           let-in (kind s) (job s) (one-of-three s .of-kind) (passed (e .before .before .before .before)) (lentOf (s .args .cells .now) [] (s .args .picks .now))
           (sym (roomy (e .before) []) ∙ not-false _ (e .if2 .left)) refl;

@@ -4,7 +4,7 @@ use mathlib.Core.Path.{_≡_, refl, sym, _∙_, ap, subst}
 use mathlib.Core.Option.{some}
 use Prim.Native.Nat.{ℕ}
 use mathlib.Core.Bool.{false}
-use mathlib.Core.List.{List, []}
+use mathlib.Core.List.{List, [], _∷_}
 use lib.ListN.{length}
 use borrow.Author.Tests.{not-true, not-false}
 use borrow.Author.Needs.{needs}
@@ -13,8 +13,8 @@ use Rattle.meaning.specs.Lent.{Lent, lentOf, roomFor, roomOf}
 use Rattle.meaning.specs.Refusals as meaning
 use Rattle.meaning.specs.Refusals.{jobRefusal, rulesOf, weightRules, claimsFit, roomFits}
 use Rattle.meaning.specs.Solved.{Unrefused}
-use Rattle.meaning.specs.Doors.{SolvedInWords}
-use Rattle.numbers.specs.Handed.{jobHanded, weightsHanded}
+use Rattle.meaning.specs.SolvedIn.{SolvedInWords}
+use Rattle.numbers.specs.TwoSlices.{jobFrom, weightsFrom}
 use Rattle.planner.proofs.Judged.{turned-away, too-short, let-in, weights-alone, unneeded, fits-as}
 use Rattle.planner.proofs.reach.Statement.{statement}
 use Rattle.planner.proofs.reach.Tie as tie
@@ -22,10 +22,10 @@ use Rattle.planner.proofs.reach.Tie as tie
 -- the job, and without the lists that it doesn't use
 module _ (s : tie.Start) where
   abbrev job : Job
-  job = jobHanded 4 (s .args .budget) (s .args .ws .now) (s .args .wb .now) (s .args .vs .now) (s .args .vb .now) (s .args .cs .now) (s .args .cb .now)
+  job = jobFrom 4 (s .args .budget ∷ []) (s .args .weights .now) (s .args .wbytes .now) (s .args .values .now) (s .args .vbytes .now) (s .args .copies .now) (s .args .cbytes .now)
 
   abbrev bare : Job
-  bare = weightsHanded 4 (s .args .budget) (s .args .ws .now) (s .args .wb .now)
+  bare = weightsFrom 4 (s .args .budget ∷ []) (s .args .weights .now) (s .args .wbytes .now)
 
 -- the slices, by its words
 abbrev lent : List ℕ → List ℕ → tie.Start → Lent

@@ -4,7 +4,7 @@ use mathlib.Core.Path.{subst}
 use Rattle.meaning.specs.Job.{Job}
 use Rattle.meaning.specs.Lent.{lentOf}
 use Rattle.meaning.specs.Solved.{Solved}
-use Rattle.numbers.proofs.Handed.{job-of-lists}
+use Rattle.numbers.proofs.TwoSlices.{job-of-lists}
 use borrow.Author.Needs.{needs}
 use Rattle.planner.proofs.solve.Statement.{statement}
 use Rattle.planner.proofs.solve.Tie as tie

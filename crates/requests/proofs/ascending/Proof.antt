@@ -7,20 +7,20 @@ use mathlib.Core.List.{List}
 use lib.ListN.{length, drop}
 use borrow.Author.Needs.{needs}
 use Rattle.meaning.specs.Refusals.{ascendingFrom}
-use Rattle.numbers.specs.Handed.{handed}
+use Rattle.numbers.specs.TwoSlices.{listFrom}
 use Rattle.requests.proofs.Judging.{ascends, descends, all-ascend}
 use Rattle.requests.proofs.ascending.Statement.{statement}
 use Rattle.requests.proofs.ascending.Tie as tie
 
 abbrev Inv-loop : tie.InvT-loop
-Inv-loop numbers bytes n least₀ i₀ least i = ascendingFrom 1 (handed numbers bytes) ≡ ascendingFrom least (drop i (handed numbers bytes))
+Inv-loop numbers bytes n least₀ i₀ least i = ascendingFrom 1 (listFrom numbers bytes) ≡ ascendingFrom least (drop i (listFrom numbers bytes))
 
 abbrev μ-loop : tie.MeasureT-loop
 μ-loop numbers bytes n least₀ i₀ least i = n - i
 
 -- the list
 abbrev list : tie.Start Inv-loop μ-loop → List ℕ
-list s = handed (s .args .numbers .now) (s .args .bytes .now)
+list s = listFrom (s .args .numbers .now) (s .args .bytes .now)
 
 list-length-requires : tie.Need-list-length-requires Inv-loop μ-loop
 list-length-requires c κs = search needs

@@ -1,5 +1,6 @@
 -- `requests::job_refusal` meets its contract: the tests in their order, and the number of the first that fails.
 -- Assumes nothing.
+use mathlib.Core.List.{[], _∷_}
 use mathlib.Core.Path.{_≡_, sym, _∙_}
 use mathlib.Core.Bool.{Bool, true}
 use Prim.Native.Nat.{ℕ}
@@ -7,7 +8,7 @@ use borrow.Author.Tests.{not-true, not-false}
 use borrow.Author.Needs.{needs}
 use Rattle.meaning.specs.Job.{Job, jobOf, labels}
 use Rattle.meaning.specs.Refusals.{listsFit, boundsFit}
-use Rattle.numbers.specs.Handed.{jobHanded}
+use Rattle.numbers.specs.TwoSlices.{jobFrom}
 use Rattle.rules.specs.Ruling.{rulesFrom}
 use Rattle.requests.proofs.Judging.{lists-as, bounds-as, refused-3, refused-4, refused-5, not-yet}
 use Rattle.requests.proofs.job_refusal.Statement.{statement}
@@ -15,7 +16,7 @@ use Rattle.requests.proofs.job_refusal.Tie as tie
 
 -- the job, of any kind
 abbrev job : ℕ → tie.Start → Job
-job kind s = jobHanded kind (s .args .budget) (s .args .weights .now) (s .args .wbytes .now) (s .args .values .now) (s .args .vbytes .now) (s .args .copies .now) (s .args .cbytes .now)
+job kind s = jobFrom kind (s .args .budget ∷ []) (s .args .weights .now) (s .args .wbytes .now) (s .args .values .now) (s .args .vbytes .now) (s .args .copies .now) (s .args .cbytes .now)
 
 -- what the first two tests come to
 listed : (c : tie.After-lists-fit) (kind : ℕ) (needs-sum : Bool) → let s = c .before .before .before .before .before .before .before .before .before .before in

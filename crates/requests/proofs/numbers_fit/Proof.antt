@@ -1,13 +1,15 @@
 -- `requests::numbers_fit` meets its contract: weights, values and copies, list by list.
 -- Assumes nothing.
+use mathlib.Core.List.{[], _∷_}
 use mathlib.Core.Path.{_≡_, sym, _∙_}
 use mathlib.Core.Bool.{true}
 use Prim.Native.Nat.{ℕ}
 use borrow.Author.Tests.{not-true, not-false}
 use borrow.Author.Needs.{needs}
 use Rattle.meaning.specs.Job.{Job, jobOf}
-use Rattle.meaning.specs.Refusals.{eachWithin, mostValue}
-use Rattle.numbers.specs.Handed.{handed, jobHanded}
+use Rattle.meaning.specs.Bounds.{mostValue}
+use Rattle.meaning.specs.Refusals.{eachWithin}
+use Rattle.numbers.specs.TwoSlices.{listFrom, jobFrom}
 use Rattle.rules.specs.Ruling.{ruleFrom}
 use Rattle.requests.proofs.Judging.{within-as, weights-wrong, values-wrong, rest-copies}
 use Rattle.requests.proofs.numbers_fit.Statement.{statement}
@@ -15,11 +17,11 @@ use Rattle.requests.proofs.numbers_fit.Tie as tie
 
 -- the job, of any kind and budget
 abbrev job : ℕ → ℕ → tie.Start → Job
-job kind budget s = jobHanded kind budget (s .args .weights .now) (s .args .wbytes .now) (s .args .values .now) (s .args .vbytes .now) (s .args .copies .now) (s .args .cbytes .now)
+job kind budget s = jobFrom kind (budget ∷ []) (s .args .weights .now) (s .args .wbytes .now) (s .args .values .now) (s .args .vbytes .now) (s .args .copies .now) (s .args .cbytes .now)
 
 -- its weights keep their rule
 kept : (c : tie.Else1) → let s = c .before .before .before .before .before .before .before .before in
-    ruleFrom (s .args .rules .weights) (handed (s .args .weights .now) (s .args .wbytes .now)) ≡ true
+    ruleFrom (s .args .rules .weights) (listFrom (s .args .weights .now) (s .args .wbytes .now)) ≡ true
 kept c = sym (c .before .keeps .ensures) ∙ not-false _ (c .if1 .left)
 
 keeps-requires : tie.Need-keeps-requires
@@ -39,7 +41,7 @@ each-within-requires c κs = search needs
 
 -- what the test of its values comes to
 valued : (c : tie.After-each-within) → let s = c .before .before .before .before .before .before .before .before .before .before in
-    c .each-within .result ≡ eachWithin (s .args .rules .floor) mostValue (handed (s .args .values .now) (s .args .vbytes .now))
+    c .each-within .result ≡ eachWithin (s .args .rules .floor) mostValue (listFrom (s .args .values .now) (s .args .vbytes .now))
 valued c = within-as (c .before .value-bounds .ensures .0) (c .before .value-bounds .ensures .1) (c .each-within .ensures)
 
 returns-2 : tie.Need-returns-2

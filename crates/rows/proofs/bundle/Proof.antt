@@ -1,4 +1,4 @@
--- `rows::bundle` meets its contract: a row with fewer than m of the label holds fewer than twice as many, once m are raised (`topped-part`).
+-- `rows::bundle` meets its contract: a row with fewer than m of the label holds fewer than twice as many, once m are raised (`greatest-part`).
 -- Assumes nothing.
 use mathlib.Core.Path.{_≡_, refl, _∙_}
 use Prim.Native.Nat.{_+_, _-_, _*_, _%_, _≤_, _<_}
@@ -7,9 +7,9 @@ use native.Mathlib.Omega.{arith}
 use lib.ListN.{length}
 use borrow.Author.Needs.{needs}
 use Rattle.meaning.specs.Lists.{at}
-use Rattle.meaning.specs.Refusals.{mostBudget, mostValue}
-use Rattle.rows.specs.Rows.{ToppedRow, Low}
-use Rattle.rows.proofs.Counts.{topped-none, topped-part, PartFits, part-fits, raised-low}
+use Rattle.meaning.specs.Bounds.{mostBudget, mostValue}
+use Rattle.rows.specs.Rows.{GreatestRow, Capped}
+use Rattle.rows.proofs.Counts.{greatest-none, greatest-part, PartFits, part-fits, raised-capped}
 use Rattle.rows.proofs.bundle.Statement.{statement}
 use Rattle.rows.proofs.bundle.Tie as tie
 
@@ -19,8 +19,8 @@ Inv-loop row₀ w v m₀ row m =
     × (m < 32)
     × (w * m < 4_294_967_296)
     × (length row ≡ length row₀)
-    × Low (at row) (length row₀)
-    × ToppedRow (λ x. x ≤ m - 1) (at row₀) w v (length row₀) (at row)
+    × Capped (at row) (length row₀)
+    × GreatestRow (λ x. x ≤ m - 1) (at row₀) w v (length row₀) (at row)
 
 abbrev μ-loop : tie.MeasureT-loop
 μ-loop row₀ w v m₀ row m = 32 - m
@@ -30,42 +30,42 @@ abbrev entry : tie.At-loop Inv-loop μ-loop → tie.Start Inv-loop μ-loop
 entry c = c .before .before
 
 -- a bundle that is to grow is light
-fits : (c : tie.After-raise-down-arg Inv-loop μ-loop) → let a = entry (c .before .before) .args in PartFits (a .w) (a .v) (c .before .before .loop .m) 16
+fits : (c : tie.After-add-one-arg Inv-loop μ-loop) → let a = entry (c .before .before) .args in PartFits (a .w) (a .v) (c .before .before .loop .m) 16
 fits c =
     let s = entry (c .before .before) in
     let m = c .before .before .loop .m in
     part-fits (s .args .w) (s .args .v) m m 16 (s .pre .0 .0) (s .pre .0 .1 .0) (omega arith) (c .before .loop-test .taken)
 
 -- and small
-small : (c : tie.After-raise-down-arg Inv-loop μ-loop) → (1 ≤ c .before .before .loop .m) × (c .before .before .loop .m < 16)
+small : (c : tie.After-add-one-arg Inv-loop μ-loop) → (1 ≤ c .before .before .loop .m) × (c .before .before .loop .m < 16)
 small c =
     let s = entry (c .before .before) in
     let m = c .before .before .loop .m in
     (c .before .before .loop .inv .0, omega (arith, mul-le-mul-right m (s .pre .0 .0), one-mul m, fits c .light))
 
 -- its weight is below the remainder's divisor
-whole : (c : tie.After-raise-down-arg Inv-loop μ-loop) → let a = entry (c .before .before) .args in a .w * c .before .before .loop .m % 16 ≡ a .w * c .before .before .loop .m
+whole : (c : tie.After-add-one-arg Inv-loop μ-loop) → let a = entry (c .before .before) .args in a .w * c .before .before .loop .m % 16 ≡ a .w * c .before .before .loop .m
 whole c = mod-eq-of-lt (fits c .light)
 
 loop-holds : tie.Need-loop-holds Inv-loop μ-loop
-unfolding ToppedRow
+unfolding GreatestRow
 loop-holds c =
     let s = c .before in
-    (omega arith, omega arith, omega (arith, mul-one (s .args .w)), refl, s .pre .1, λ d h. topped-none (at (s .args .row .now)) (s .args .w) (s .args .v) d)
+    (omega arith, omega arith, omega (arith, mul-one (s .args .w)), refl, s .pre .1, λ d h. greatest-none (at (s .args .row .now)) (s .args .w) (s .args .v) d)
 
 mul-loop : tie.Need-mul-loop Inv-loop μ-loop
 mul-loop c = search needs
 
-mul-raise-down : tie.Need-mul-raise-down Inv-loop μ-loop
-mul-raise-down c = search needs
+mul-add-one : tie.Need-mul-add-one Inv-loop μ-loop
+mul-add-one c = search needs
 
-mul-raise-down-2 : tie.Need-mul-raise-down-2 Inv-loop μ-loop
+mul-add-one-2 : tie.Need-mul-add-one-2 Inv-loop μ-loop
 unfolding mostValue
-mul-raise-down-2 c = omega (arith, fits c .cheap, fits c .light)
+mul-add-one-2 c = omega (arith, fits c .cheap, fits c .light)
 
-raise-down-requires : tie.Need-raise-down-requires Inv-loop μ-loop
-unfolding Low mostValue mostBudget
-raise-down-requires c κs =
+add-one-requires : tie.Need-add-one-requires Inv-loop μ-loop
+unfolding Capped mostValue mostBudget
+add-one-requires c κs =
     λ d h.
     let l = c .before .before .loop in
     omega (arith, l .inv .4 d (omega (arith, l .inv .3)), fits c, whole c, l .inv .3, entry (c .before .before) .pre .0)
@@ -77,20 +77,20 @@ loop-less : tie.Need-loop-less Inv-loop μ-loop
 loop-less c = omega (arith, small (c .before .before .before))
 
 loop-again : tie.Need-loop-again Inv-loop μ-loop
-unfolding ToppedRow
+unfolding GreatestRow
 loop-again c =
     let here = c .before .before .before in
     let l = here .before .before .loop in
     let a = entry (here .before .before) .args in
-    let up = c .before .before .raise-down in
+    let up = c .before .before .add-one in
     let raised = rw (whole here, l .inv .3) at (up .ensures) in (
       omega (arith, small here),
       omega (arith, small here),
       omega (arith, fits here .light, mul-assoc (a .w) (l .m) 2),
       up .kept .0 ∙ l .inv .3,
-      raised-low (at (l .row)) (at (up .last .0)) (a .w * l .m) (a .v * l .m) (length (a .row .now)) (fits here .cheap) (l .inv .4) raised,
+      raised-capped (at (l .row)) (at (up .last .0)) (a .w * l .m) (a .v * l .m) (length (a .row .now)) (fits here .cheap) (l .inv .4) raised,
       λ d h.
-          let all = topped-part (at (a .row .now)) (at (l .row)) (at (up .last .0)) (a .w) (a .v) (l .m - 1) (l .m) (length (a .row .now)) (omega arith) (l .inv .5) raised d h in
+          let all = greatest-part (at (a .row .now)) (at (l .row)) (at (up .last .0)) (a .w) (a .v) (l .m - 1) (l .m) (length (a .row .now)) (omega arith) (l .inv .5) raised d h in
           let count : l .m - 1 + l .m ≡ l .m * 2 - 1 = omega arith in
           rw (← count) all,
     )
@@ -111,9 +111,9 @@ bundle-spec =
     μ-loop
     loop-holds
     mul-loop
-    mul-raise-down
-    mul-raise-down-2
-    raise-down-requires
+    mul-add-one
+    mul-add-one-2
+    add-one-requires
     mul-m
     loop-less
     loop-again

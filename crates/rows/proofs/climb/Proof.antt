@@ -6,13 +6,13 @@ use native.Mathlib.Omega.{arith}
 use lib.ListN.{length}
 use borrow.Author.Needs.{needs}
 use Rattle.meaning.specs.Lists.{at}
-use Rattle.rows.specs.Rows.{Swept, raisedBy, Low}
+use Rattle.rows.specs.Rows.{Swept, raisedBy, Capped}
 use Rattle.rows.proofs.Stores.{swept-on}
 use Rattle.rows.proofs.climb.Statement.{statement}
 use Rattle.rows.proofs.climb.Tie as tie
 
 abbrev Inv-loop : tie.InvT-loop
-Inv-loop row₀ w v w' c₀ row c = (w' ≤ c) × (length row ≡ length row₀) × Swept (raisedBy v) row₀ row w' w' c × Low (at row) (length row₀)
+Inv-loop row₀ w v w' c₀ row c = (w' ≤ c) × (length row ≡ length row₀) × Swept (raisedBy v) row₀ row w' w' c × Capped (at row) (length row₀)
 
 abbrev μ-loop : tie.MeasureT-loop
 μ-loop row₀ w v w' c₀ row c = length row₀ - c

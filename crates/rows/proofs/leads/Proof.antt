@@ -4,8 +4,8 @@ use Prim.Native.Nat.{_-_}
 use native.Mathlib.Omega.{arith}
 use borrow.Author.Tests.{lt-leb, le-leb}
 use borrow.Author.Needs.{needs}
-use Rattle.meaning.specs.Refusals.{mostValue, mostBudget}
-use Rattle.rows.specs.Rows.{Low, leadsOn}
+use Rattle.meaning.specs.Bounds.{mostValue, mostBudget}
+use Rattle.rows.specs.Rows.{Capped, leadsOn}
 use Rattle.rows.proofs.leads.Statement.{statement}
 use Rattle.rows.proofs.leads.Tie as tie
 
@@ -20,7 +20,7 @@ shared-slice-read-result : tie.Need-shared-slice-read-result
 shared-slice-read-result c = search needs
 
 add-result : tie.Need-add-result
-unfolding Low mostValue mostBudget
+unfolding Capped mostValue mostBudget
 add-result c = let s = c .before .before in omega (arith, s .pre .1 (s .args .c - s .args .w) (omega arith))
 
 mul-result-2 : tie.Need-mul-result-2

@@ -6,7 +6,7 @@ use Prim.Native.Nat.{ℕ, _+_, _*_, _<_}
 use native.Mathlib.Omega.{arith}
 use borrow.Author.Needs.{needs}
 use Rattle.meaning.specs.Lists.{at}
-use Rattle.meaning.specs.Refusals.{mostBudget}
+use Rattle.meaning.specs.Bounds.{mostBudget}
 use Rattle.rows.specs.Rows.{Worth}
 use Rattle.rows.proofs.LeastCounts.{found, GoesOn, goes-on}
 use Rattle.rows.proofs.least_count.Statement.{statement}

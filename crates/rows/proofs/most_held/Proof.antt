@@ -4,7 +4,7 @@ use mathlib.Core.Path.{_≡_}
 use Prim.Native.Nat.{_-_, _/_, _≤_}
 use native.Mathlib.Nat.{div-eq-of-lt, le-div-iff-mul-le, one-mul}
 use native.Mathlib.Omega.{arith}
-use Rattle.meaning.specs.Refusals.{mostBudget}
+use Rattle.meaning.specs.Bounds.{mostBudget}
 use borrow.Author.Needs.{needs}
 use Rattle.rows.proofs.most_held.Statement.{statement}
 use Rattle.rows.proofs.most_held.Tie as tie

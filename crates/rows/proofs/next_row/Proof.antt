@@ -6,10 +6,10 @@ use native.Mathlib.Omega.{arith}
 use lib.ListN.{length}
 use borrow.Author.Needs.{needs}
 use Rattle.meaning.specs.Lists.{at}
-use Rattle.meaning.specs.Refusals.{mostValue, mostBudget}
-use Rattle.rows.specs.Rows.{Low}
+use Rattle.meaning.specs.Bounds.{mostValue, mostBudget}
+use Rattle.rows.specs.Rows.{Capped}
 use Rattle.rows.proofs.Parts.{part-long}
-use Rattle.rows.proofs.NextRow.{most-light, start-within, part-low, next-made}
+use Rattle.rows.proofs.NextRow.{most-light, start-within, part-capped, next-made}
 use Rattle.rows.proofs.next_row.Statement.{statement}
 use Rattle.rows.proofs.next_row.Tie as tie
 
@@ -40,7 +40,7 @@ copy-requires c κs =
     (omega (arith, short (c .before)), omega (arith, short (c .before), start .pre .0))
 
 raise-requires : tie.Need-raise-requires
-unfolding Low mostValue mostBudget
+unfolding Capped mostValue mostBudget
 raise-requires c κs =
     let start = c .before .before .before .before .before .before .before .before in
     let a = start .args in
@@ -77,7 +77,7 @@ add-parts-requires c κs =
     let fits : to + a .width ≤ length u = omega (arith, raise .raise .kept .0, copy .copy .kept .0, start .pre .0) in
     rw (part-long u to (a .width) fits) (
       (start .pre .1 .0 .0, (start .pre .1 .0 .1, (start .pre .0 .1 .0, light reach))),
-      part-low (a .cells .now) (copy .copy .last .0) u (a .from) (a .width) (a .w) (a .v) (reach .before .most-held .result) (reach .raised-from .result) (reach .raised-from .ensures .0) (reach .raised-from .ensures .1)
+      part-capped (a .cells .now) (copy .copy .last .0) u (a .from) (a .width) (a .w) (a .v) (reach .before .most-held .result) (reach .raised-from .result) (reach .raised-from .ensures .0) (reach .raised-from .ensures .1)
           (copy .copy .ensures) (raise .raise .ensures) (start .pre .1 .0 .0) (start .pre .1 .0 .1) fits (start .pre .1 .1),
     )
 

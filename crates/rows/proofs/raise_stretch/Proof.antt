@@ -1,4 +1,4 @@
--- `rows::raise_stretch` meets its contract: the cells so far are swept by the new ones w places before them, and the row stays low (`low-more`).
+-- `rows::raise_stretch` meets its contract: the cells so far are swept by the new ones w places before them, and the row stays low (`capped-more`).
 -- Assumes nothing.
 use mathlib.Core.Path.{_≡_, refl}
 use Prim.Native.Nat.{_-_, _≤_}
@@ -6,14 +6,14 @@ use native.Mathlib.Omega.{arith}
 use lib.ListN.{length, length-set}
 use borrow.Author.Needs.{needs}
 use Rattle.meaning.specs.Lists.{at}
-use Rattle.meaning.specs.Refusals.{mostBudget, mostValue}
-use Rattle.rows.specs.Rows.{Swept, raisedBy, Low}
-use Rattle.rows.proofs.Stores.{swept-none, swept-more, low-more, low-set}
+use Rattle.meaning.specs.Bounds.{mostBudget, mostValue}
+use Rattle.rows.specs.Rows.{Swept, raisedBy, Capped}
+use Rattle.rows.proofs.Stores.{swept-none, swept-more, capped-more, capped-set}
 use Rattle.rows.proofs.raise_stretch.Statement.{statement}
 use Rattle.rows.proofs.raise_stretch.Tie as tie
 
 abbrev Inv-loop : tie.InvT-loop
-Inv-loop row₀ from to w v c₀ row c = (from ≤ c) × (c ≤ to) × (length row ≡ length row₀) × Swept (raisedBy v) row₀ row w from c × Low (at row) (length row₀)
+Inv-loop row₀ from to w v c₀ row c = (from ≤ c) × (c ≤ to) × (length row ≡ length row₀) × Swept (raisedBy v) row₀ row w from c × Capped (at row) (length row₀)
 
 abbrev μ-loop : tie.MeasureT-loop
 μ-loop row₀ from to w v c₀ row c = to - c
@@ -39,7 +39,7 @@ slice-read-with : tie.Need-slice-read-with Inv-loop μ-loop
 slice-read-with c = search needs
 
 add-with : tie.Need-add-with Inv-loop μ-loop
-unfolding Low mostValue mostBudget
+unfolding Capped mostValue mostBudget
 add-with c =
     let start = c .before .before .before .before .before in
     let l = c .before .before .before .loop in
@@ -61,7 +61,7 @@ loop-less : tie.Need-loop-less Inv-loop μ-loop
 loop-less c = search needs
 
 loop-again : tie.Need-loop-again Inv-loop μ-loop
-unfolding Low mostValue
+unfolding Capped mostValue
 loop-again c =
     let start = c .before .before .before .before .before .before in
     let a = start .args in
@@ -71,8 +71,8 @@ loop-again c =
       omega arith,
       simp length-set (l .inv .2),
       swept-more (raisedBy (a .v)) (a .row .now) (a .w) (l .row) (a .from) (l .c) (c .greater .result) (omega arith) (omega arith) (omega arith) (omega arith) (l .inv .3) (c .greater .ensures),
-      low-set (l .row) (l .c) (c .greater .result) (length (a .row .now)) (omega arith) low
-          (rw (c .greater .ensures) (low-more (at (l .row) (l .c)) (at (l .row) (l .c - a .w)) (l .c) (a .w) (a .v) (low (l .c) (omega arith)) (omega arith) (low (l .c - a .w) (omega arith)) (omega arith))),
+      capped-set (l .row) (l .c) (c .greater .result) (length (a .row .now)) (omega arith) low
+          (rw (c .greater .ensures) (capped-more (at (l .row) (l .c)) (at (l .row) (l .c - a .w)) (l .c) (a .w) (a .v) (low (l .c) (omega arith)) (omega arith) (low (l .c - a .w) (omega arith)) (omega arith))),
     )
 
 same-length : tie.Need-same-length Inv-loop μ-loop

@@ -2,7 +2,8 @@
 -- Assumes nothing.
 use mathlib.Core.Bool.{false}
 use borrow.Author.Needs.{needs}
-use Rattle.meaning.specs.Refusals.{rulesOf, mostSizes, mostBudget}
+use Rattle.meaning.specs.Bounds.{mostSizes, mostBudget}
+use Rattle.meaning.specs.Refusals.{rulesOf}
 use Rattle.rules.specs.Ruling.{ruleFrom}
 use Rattle.rules.proofs.blocks_rules.Statement.{statement}
 use Rattle.rules.proofs.blocks_rules.Tie as tie

@@ -1,7 +1,7 @@
 -- `rules::copies_bounds` meets its contract: the bounds are those of the definition.
 -- Assumes nothing.
 use mathlib.Core.Path.{refl}
-use Rattle.meaning.specs.Refusals.{mostCopies, leastCopies}
+use Rattle.meaning.specs.Bounds.{mostCopies, leastCopies}
 use Rattle.rules.proofs.copies_bounds.Statement.{statement}
 use Rattle.rules.proofs.copies_bounds.Tie as tie
 

@@ -3,7 +3,7 @@
 use mathlib.Core.Path.{sym, _∙_}
 use native.Mathlib.Omega.{arith}
 use Rattle.meaning.specs.Job.{packing}
-use Rattle.meaning.specs.Refusals.{mostLabels, mostBudget}
+use Rattle.meaning.specs.Bounds.{mostLabels, mostBudget}
 use Rattle.meaning.proofs.Laws.{kind-number}
 use Rattle.rules.proofs.Places.{one-row, all-rows, few-cells}
 use borrow.Author.Needs.{needs}

@@ -2,7 +2,7 @@
 -- Assumes nothing.
 use mathlib.Core.Logic.{inl, inr}
 use Rattle.meaning.specs.Job.{packing}
-use Rattle.meaning.specs.Refusals.{mostLabels, mostBudget}
+use Rattle.meaning.specs.Bounds.{mostLabels, mostBudget}
 use Rattle.meaning.proofs.Laws.{kind-number}
 use Rattle.rules.proofs.Ruling.{Floor, one-for-3, none-else, knapsack-as}
 use Rattle.rules.proofs.knapsack_rules.Statement.{statement}

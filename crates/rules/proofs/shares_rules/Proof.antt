@@ -2,7 +2,8 @@
 -- Assumes nothing.
 use mathlib.Core.Bool.{true}
 use borrow.Author.Needs.{needs}
-use Rattle.meaning.specs.Refusals.{rulesOf, mostClaims, mostShared}
+use Rattle.meaning.specs.Bounds.{mostClaims, mostShared}
+use Rattle.meaning.specs.Refusals.{rulesOf}
 use Rattle.rules.specs.Ruling.{ruleFrom}
 use Rattle.rules.proofs.shares_rules.Statement.{statement}
 use Rattle.rules.proofs.shares_rules.Tie as tie

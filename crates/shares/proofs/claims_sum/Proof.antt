@@ -6,14 +6,14 @@ use native.Mathlib.Omega.{arith}
 use lib.ListN.{take}
 use borrow.Author.Needs.{needs}
 use Rattle.meaning.specs.Lists.{sum}
-use Rattle.meaning.specs.Refusals.{mostClaims}
+use Rattle.meaning.specs.Bounds.{mostClaims}
 use Rattle.meaning.proofs.Loops.{sum-step, sum-done}
-use Rattle.numbers.specs.Handed.{handed}
+use Rattle.numbers.specs.TwoSlices.{listFrom}
 use Rattle.shares.proofs.claims_sum.Statement.{statement}
 use Rattle.shares.proofs.claims_sum.Tie as tie
 
 abbrev Inv-loop : tie.InvT-loop
-Inv-loop weights wbytes n sum₀ i₀ acc i = (i ≤ n) × (acc ≡ sum (take i (handed weights wbytes))) × (acc ≤ i * 4_294_967_295)
+Inv-loop weights wbytes n sum₀ i₀ acc i = (i ≤ n) × (acc ≡ sum (take i (listFrom weights wbytes))) × (acc ≤ i * 4_294_967_295)
 
 abbrev μ-loop : tie.MeasureT-loop
 μ-loop weights wbytes n sum₀ i₀ sum i = n - i
@@ -45,13 +45,13 @@ loop-again : tie.Need-loop-again Inv-loop μ-loop
 loop-again c =
     let l = c .before .before .loop in
     let a = c .before .before .before .before .before .before .args in
-    (omega arith, rw (c .item .ensures) (sum-step (handed (a .weights .now) (a .wbytes .now)) (l .sum) (l .i) (omega (arith, c .before .before .before .list-length .ensures)) (l .inv .1)), omega arith)
+    (omega arith, rw (c .item .ensures) (sum-step (listFrom (a .weights .now) (a .wbytes .now)) (l .sum) (l .i) (omega (arith, c .before .before .before .list-length .ensures)) (l .inv .1)), omega arith)
 
 returns : tie.Need-returns Inv-loop μ-loop
 returns c =
     let l = c .before .loop in
     let a = c .before .before .before .before .before .args in
-    sum-done (handed (a .weights .now) (a .wbytes .now)) (l .sum) (l .i) (omega (arith, c .before .before .list-length .ensures)) (l .inv .1)
+    sum-done (listFrom (a .weights .now) (a .wbytes .now)) (l .sum) (l .i) (omega (arith, c .before .before .list-length .ensures)) (l .inv .1)
 
 pub claims-sum-spec : {M : Type 1} → statement M
 claims-sum-spec =

@@ -1,5 +1,6 @@
 -- `count_ahead` counts the labels at a border or before it.
 -- Assumes nothing.
+use mathlib.Core.List.{[], _∷_}
 use mathlib.Core.Path.{_≡_, ap, _∙_}
 use Prim.Native.Nat.{ℕ, _+_, _-_, _≤_}
 use native.Mathlib.Omega.{arith}
@@ -8,7 +9,7 @@ use mir.Val.{boolByte}
 use borrow.Author.Needs.{needs}
 use Rattle.meaning.specs.Lists.{upTo, tally}
 use Rattle.meaning.specs.Job.{Job, jobOf, labels}
-use Rattle.numbers.specs.Handed.{weightsHanded}
+use Rattle.numbers.specs.TwoSlices.{weightsFrom}
 use Rattle.shares.specs.Borders.{aheadIn, countOf}
 use Rattle.meaning.proofs.Tally.{tally-most}
 use Rattle.shares.proofs.Borders.{ahead-more}
@@ -16,13 +17,13 @@ use Rattle.shares.proofs.count_ahead.Statement.{statement}
 use Rattle.shares.proofs.count_ahead.Tie as tie
 
 abbrev Inv-loop : tie.InvT-loop
-Inv-loop budget weights wbytes claimed starts border count₀ i₀ count i = (i ≤ length starts) × (count ≡ tally (aheadIn (weightsHanded 7 budget weights wbytes) border) (upTo i))
+Inv-loop budget weights wbytes claimed starts border count₀ i₀ count i = (i ≤ length starts) × (count ≡ tally (aheadIn (weightsFrom 7 (budget ∷ []) weights wbytes) border) (upTo i))
 
 abbrev μ-loop : tie.MeasureT-loop
 μ-loop budget weights wbytes claimed starts border count₀ i₀ count i = length starts - i
 
 abbrev job : tie.Start Inv-loop μ-loop → Job
-job s = weightsHanded 7 (s .args .budget) (s .args .weights .now) (s .args .wbytes .now)
+job s = weightsFrom 7 (s .args .budget ∷ []) (s .args .weights .now) (s .args .wbytes .now)
 
 -- the count with label i
 more : (c : tie.After-ahead Inv-loop μ-loop) →

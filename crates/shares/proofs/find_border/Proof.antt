@@ -1,5 +1,6 @@
 -- `find_border` finds where the units run out.
 -- Assumes nothing.
+use mathlib.Core.List.{[], _∷_}
 use mathlib.Core.Path.{_≡_, ap, _∙_}
 use mathlib.Core.Logic.{inl, inr}
 use Prim.Native.Nat.{_+_, _-_, _*_, _/_, _≤_, _<_}
@@ -11,7 +12,7 @@ use borrow.Author.Tests.{ltb-true, ltb-false}
 use Rattle.meaning.specs.Lists.{sum}
 use Rattle.meaning.specs.Job.{Job, jobOf, labels}
 use Rattle.meaning.specs.Shares.{spareOf}
-use Rattle.numbers.specs.Handed.{weightsHanded}
+use Rattle.numbers.specs.TwoSlices.{weightsFrom}
 use Rattle.shares.specs.Borders.{Spans, Narrowed, countOf, NoLower}
 use Rattle.shares.proofs.Starts.{one-at-most}
 use Rattle.shares.proofs.Borders.{next-lowest, not-at-least, none-found, some-span, low-up, high-down, still-some, none-between, just-enough}
@@ -20,13 +21,13 @@ use Rattle.shares.proofs.find_border.Tie as tie
 
 abbrev Inv-loop : tie.InvT-loop
 Inv-loop budget weights wbytes claimed starts units low₀ high₀ found₀ more₀ close₀ low high found more close =
-    (low < high) × (high ≤ claimed) × (found ≡ countOf (weightsHanded 7 budget weights wbytes) high) × (found ≤ units) × NoLower (weightsHanded 7 budget weights wbytes) (low + 1)
+    (low < high) × (high ≤ claimed) × (found ≡ countOf (weightsFrom 7 (budget ∷ []) weights wbytes) high) × (found ≤ units) × NoLower (weightsFrom 7 (budget ∷ []) weights wbytes) (low + 1)
 
 abbrev μ-loop : tie.MeasureT-loop
 μ-loop budget weights wbytes claimed starts units low₀ high₀ found₀ more₀ close₀ low high found more close = 2 * (high - low) + boolByte close
 
 abbrev job : tie.Start Inv-loop μ-loop → Job
-job s = weightsHanded 7 (s .args .budget) (s .args .weights .now) (s .args .wbytes .now)
+job s = weightsFrom 7 (s .args .budget ∷ []) (s .args .weights .now) (s .args .wbytes .now)
 
 -- while the halving goes on, the borders are apart
 apart : (c : tie.Then1 Inv-loop μ-loop) → 1 < c .before .before .loop .high - c .before .before .loop .low

@@ -1,5 +1,6 @@
 -- `give` makes the shares of the starts: the units go to the labels at the border or before it, and to the first ones next behind it.
 -- Assumes nothing.
+use mathlib.Core.List.{[], _∷_}
 use mathlib.Core.Path.{_≡_, refl, ap, sym, _∙_}
 use Prim.Native.Nat.{ℕ, _+_, _-_, _≤_, _<_}
 use native.Mathlib.Omega.{arith}
@@ -9,7 +10,7 @@ use borrow.Author.Needs.{needs}
 use Rattle.meaning.specs.Lists.{at}
 use Rattle.meaning.specs.Job.{Job, jobOf, labels}
 use Rattle.meaning.specs.Shares.{shareOf}
-use Rattle.numbers.specs.Handed.{weightsHanded}
+use Rattle.numbers.specs.TwoSlices.{weightsFrom}
 use Rattle.rows.specs.Rows.{Stored}
 use Rattle.rows.proofs.Stores.{stored-each, stored-none, stored-up}
 use Rattle.shares.specs.Borders.{aheadOf, behindOf}
@@ -20,13 +21,13 @@ use Rattle.shares.proofs.give.Tie as tie
 
 abbrev Inv-loop : tie.InvT-loop
 Inv-loop budget weights wbytes claimed shares₀ border left seen₀ i₀ shares seen i =
-    (i ≤ length shares₀) × (length shares ≡ length shares₀) × Stored shares₀ shares 0 0 i (shareOf (weightsHanded 7 budget weights wbytes)) × (seen ≡ behindOf (weightsHanded 7 budget weights wbytes) border i)
+    (i ≤ length shares₀) × (length shares ≡ length shares₀) × Stored shares₀ shares 0 0 i (shareOf (weightsFrom 7 (budget ∷ []) weights wbytes)) × (seen ≡ behindOf (weightsFrom 7 (budget ∷ []) weights wbytes) border i)
 
 abbrev μ-loop : tie.MeasureT-loop
 μ-loop budget weights wbytes claimed shares₀ border left seen₀ i₀ shares seen i = length shares₀ - i
 
 abbrev job : tie.Start Inv-loop μ-loop → Job
-job s = weightsHanded 7 (s .args .budget) (s .args .weights .now) (s .args .wbytes .now)
+job s = weightsFrom 7 (s .args .budget ∷ []) (s .args .weights .now) (s .args .wbytes .now)
 
 -- a remainder is below S, which has 64 bits, so that one more has them too
 below : (c : tie.After-remainder-at Inv-loop μ-loop) → c .remainder-at .result < c .before .before .before .before .before .before .before .args .claimed

@@ -1,25 +1,26 @@
 -- `reach_between` finds the least and the greatest of the remainders between two numbers.
 -- Assumes nothing.
+use mathlib.Core.List.{[], _∷_}
 use mathlib.Core.Path.{_≡_}
 use Prim.Native.Nat.{_-_, _≤_}
 use native.Mathlib.Omega.{arith}
 use lib.ListN.{length}
 use borrow.Author.Needs.{needs}
 use Rattle.meaning.specs.Job.{Job, jobOf, labels}
-use Rattle.numbers.specs.Handed.{weightsHanded}
+use Rattle.numbers.specs.TwoSlices.{weightsFrom}
 use Rattle.shares.specs.Borders.{Narrowed}
 use Rattle.shares.proofs.Starts.{narrowed-none, narrowed-more}
 use Rattle.shares.proofs.reach_between.Statement.{statement}
 use Rattle.shares.proofs.reach_between.Tie as tie
 
 abbrev Inv-loop : tie.InvT-loop
-Inv-loop budget weights wbytes claimed starts low high least₀ greatest₀ i₀ least greatest i = (i ≤ length starts) × Narrowed (weightsHanded 7 budget weights wbytes) i low high least greatest
+Inv-loop budget weights wbytes claimed starts low high least₀ greatest₀ i₀ least greatest i = (i ≤ length starts) × Narrowed (weightsFrom 7 (budget ∷ []) weights wbytes) i low high least greatest
 
 abbrev μ-loop : tie.MeasureT-loop
 μ-loop budget weights wbytes claimed starts low high least₀ greatest₀ i₀ least greatest i = length starts - i
 
 abbrev job : tie.Start Inv-loop μ-loop → Job
-job s = weightsHanded 7 (s .args .budget) (s .args .weights .now) (s .args .wbytes .now)
+job s = weightsFrom 7 (s .args .budget ∷ []) (s .args .weights .now) (s .args .wbytes .now)
 
 loop-holds : tie.Need-loop-holds Inv-loop μ-loop
 loop-holds c = let s = c .before .before .before in (omega arith, narrowed-none (job s) (s .args .low) (s .args .high) (s .pre .1))

@@ -1,15 +1,16 @@
 -- `remainder_at` gives the remainder of a label of the job.
 -- Assumes nothing.
+use mathlib.Core.List.{[], _∷_}
 use mathlib.Core.Path.{sym, _∙_}
 use Rattle.meaning.specs.Job.{Job, jobOf}
-use Rattle.numbers.specs.Handed.{weightsHanded}
+use Rattle.numbers.specs.TwoSlices.{weightsFrom}
 use Rattle.shares.proofs.Starts.{kept-start, kept-remainder}
 use borrow.Author.Needs.{needs}
 use Rattle.shares.proofs.remainder_at.Statement.{statement}
 use Rattle.shares.proofs.remainder_at.Tie as tie
 
 abbrev job : tie.Start → Job
-job s = weightsHanded 7 (s .args .budget) (s .args .weights .now) (s .args .wbytes .now)
+job s = weightsFrom 7 (s .args .budget ∷ []) (s .args .weights .now) (s .args .wbytes .now)
 
 item-requires : tie.Need-item-requires
 item-requires c κs = search needs

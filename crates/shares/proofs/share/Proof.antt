@@ -1,17 +1,18 @@
 -- `share` turns the claims into shares and gives the spare.
 -- Assumes nothing.
+use mathlib.Core.List.{[], _∷_}
 use mathlib.Core.Path.{_≡_, sym}
 use native.Mathlib.Omega.{arith}
 use borrow.Author.Needs.{needs}
 use Rattle.meaning.specs.Job.{Job}
 use Rattle.meaning.specs.Shares.{spareOf}
-use Rattle.numbers.specs.Handed.{weightsHanded}
+use Rattle.numbers.specs.TwoSlices.{weightsFrom}
 use Rattle.shares.proofs.Starts.{none-spare}
 use Rattle.shares.proofs.share.Statement.{statement}
 use Rattle.shares.proofs.share.Tie as tie
 
 abbrev job : tie.Start → Job
-job s = weightsHanded 7 (s .args .budget) (s .args .weights .now) (s .args .wbytes .now)
+job s = weightsFrom 7 (s .args .budget ∷ []) (s .args .weights .now) (s .args .wbytes .now)
 
 claims-sum-requires : tie.Need-claims-sum-requires
 claims-sum-requires c κs = search needs

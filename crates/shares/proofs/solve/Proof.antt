@@ -1,18 +1,19 @@
 -- `solve` keeps the promise of kind 7.
 -- Assumes nothing.
+use mathlib.Core.List.{[], _∷_}
 use mathlib.Core.Path.{_≡_, sym, _∙_}
 use native.Mathlib.Omega.{arith}
 use lib.ListN.{length, take}
 use lib.Seq.{length-take-le}
 use borrow.Author.Needs.{needs}
 use Rattle.meaning.specs.Job.{Job, jobOf, labels}
-use Rattle.numbers.specs.Handed.{weightsHanded}
-use Rattle.shares.proofs.Doors.{Ready, ready, shared}
+use Rattle.numbers.specs.TwoSlices.{weightsFrom}
+use Rattle.shares.proofs.SharesDoor.{Ready, ready, shared}
 use Rattle.shares.proofs.solve.Statement.{statement}
 use Rattle.shares.proofs.solve.Tie as tie
 
 abbrev job : tie.Start → Job
-job s = weightsHanded 7 (s .args .budget) (s .args .weights .now) (s .args .wbytes .now)
+job s = weightsFrom 7 (s .args .budget ∷ []) (s .args .weights .now) (s .args .wbytes .now)
 
 keeps : (s : tie.Start) → Ready (job s) (s .args .picks .now)
 keeps s = ready (job s) (s .args .picks .now) (s .pre)

@@ -1,5 +1,6 @@
 -- `write_starts` keeps every start, and gives the spare and how far the remainders reach.
 -- Assumes nothing.
+use mathlib.Core.List.{[], _∷_}
 use mathlib.Core.Path.{_≡_, refl, _∙_}
 use Prim.Native.Nat.{_+_, _-_, _≤_, _<_}
 use native.Mathlib.Nat.{mod-lt}
@@ -9,7 +10,7 @@ use borrow.Author.Needs.{needs}
 use Rattle.meaning.specs.Lists.{sum}
 use Rattle.meaning.specs.Job.{Job, jobOf, labels}
 use Rattle.meaning.specs.Shares.{startOf, remainderOf}
-use Rattle.numbers.specs.Handed.{handed, weightsHanded}
+use Rattle.numbers.specs.TwoSlices.{listFrom, weightsFrom}
 use Rattle.rows.specs.Rows.{Stored}
 use Rattle.rows.proofs.Stores.{stored-each, stored-none, stored-up}
 use Rattle.shares.specs.Borders.{Spans}
@@ -19,13 +20,13 @@ use Rattle.shares.proofs.write_starts.Tie as tie
 
 abbrev Inv-loop : tie.InvT-loop
 Inv-loop budget weights wbytes claimed shares₀ spare₀ least₀ greatest₀ i₀ shares spare least greatest i =
-    (i ≤ length shares₀) × (length shares ≡ length shares₀) × Stored shares₀ shares 0 0 i (startOf (weightsHanded 7 budget weights wbytes)) × (spare + sum (take i (starts (weightsHanded 7 budget weights wbytes))) ≡ budget) × Spans (weightsHanded 7 budget weights wbytes) claimed i least greatest
+    (i ≤ length shares₀) × (length shares ≡ length shares₀) × Stored shares₀ shares 0 0 i (startOf (weightsFrom 7 (budget ∷ []) weights wbytes)) × (spare + sum (take i (starts (weightsFrom 7 (budget ∷ []) weights wbytes))) ≡ budget) × Spans (weightsFrom 7 (budget ∷ []) weights wbytes) claimed i least greatest
 
 abbrev μ-loop : tie.MeasureT-loop
 μ-loop budget weights wbytes claimed shares₀ spare₀ least₀ greatest₀ i₀ shares spare least greatest i = length shares₀ - i
 
 abbrev job : tie.Start Inv-loop μ-loop → Job
-job s = weightsHanded 7 (s .args .budget) (s .args .weights .now) (s .args .wbytes .now)
+job s = weightsFrom 7 (s .args .budget ∷ []) (s .args .weights .now) (s .args .wbytes .now)
 
 -- what the call of `start` leaves
 module _ (c : tie.After-start Inv-loop μ-loop) where
@@ -61,7 +62,7 @@ start-requires c κs =
     let s = c .before .before .before .before .before .before .before in
     let a = s .args in
     let i = c .before .before .before .loop .i in
-    let light = member-within (handed (a .weights .now) (a .wbytes .now)) i (omega (arith, s .pre .1)) in
+    let light = member-within (listFrom (a .weights .now) (a .wbytes .now)) i (omega (arith, s .pre .1)) in
     let fits = start-within (a .budget) (c .before .item .result) (a .claimed) (omega (arith, light, c .before .item .ensures, s .pre .0 .0)) in
     (s .pre .0 .1, rw (c .wide-product .ensures) (omega (arith, fits)))
 

@@ -7,7 +7,7 @@ use lib.Count.{ones}
 use lib.ListN.{length}
 use borrow.Author.Needs.{needs}
 use Rattle.meaning.specs.Lists.{at, upTo, tally}
-use Rattle.meaning.specs.Refusals.{mostBudget}
+use Rattle.meaning.specs.Bounds.{mostBudget}
 use Rattle.meaning.proofs.Tally.{tally-most}
 use Rattle.sums.specs.Words.{isSet}
 use Rattle.sums.proofs.Ones.{word-counted}

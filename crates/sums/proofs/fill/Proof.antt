@@ -6,14 +6,14 @@ use Prim.Native.Nat.{_-_, _≤_}
 use native.Mathlib.Omega.{arith}
 use lib.ListN.{length}
 use borrow.Author.Needs.{needs}
-use Rattle.numbers.specs.Handed.{handed}
+use Rattle.numbers.specs.TwoSlices.{listFrom}
 use Rattle.rows.specs.Rounds.{none-yet, one-more}
 use Rattle.sums.specs.Words.{Marked}
 use Rattle.sums.proofs.fill.Statement.{statement}
 use Rattle.sums.proofs.fill.Tie as tie
 
 abbrev Inv-loop : tie.InvT-loop
-Inv-loop weights wbytes words₀ n i₀ words i = (i ≤ n) × (length words ≡ length words₀) × Marked (handed weights wbytes) (length words₀) i words
+Inv-loop weights wbytes words₀ n i₀ words i = (i ≤ n) × (length words ≡ length words₀) × Marked (listFrom weights wbytes) (length words₀) i words
 
 abbrev μ-loop : tie.MeasureT-loop
 μ-loop weights wbytes words₀ n i₀ words i = n - i

@@ -1,12 +1,13 @@
 -- `sums::solve` meets its contract: a job that is not refused has the words that it needs, and those past them stay.
 -- Assumes nothing.
+use mathlib.Core.List.{[], _∷_}
 use mathlib.Core.Path.{_≡_, sym, _∙_}
 use Prim.Native.Nat.{_+_, _/_, _≤_}
 use lib.ListN.{take, length}
 use lib.Seq.{length-take-le}
 use borrow.Author.Needs.{needs}
 use Rattle.meaning.specs.Job.{Job, jobOf}
-use Rattle.numbers.specs.Handed.{weightsHanded}
+use Rattle.numbers.specs.TwoSlices.{weightsFrom}
 use Rattle.sums.proofs.Meant.{small, roomy, solved}
 use Rattle.sums.proofs.solve.Statement.{statement}
 use Rattle.sums.proofs.solve.Tie as tie
@@ -19,7 +20,7 @@ cast-needed c = search needs
 
 -- the job
 abbrev job : tie.Start → Job
-job s = weightsHanded 4 (s .args .budget) (s .args .weights .now) (s .args .wbytes .now)
+job s = weightsFrom 4 (s .args .budget ∷ []) (s .args .weights .now) (s .args .wbytes .now)
 
 -- the needed words are there
 room : (s : tie.Start) → s .args .budget / 64 + 1 ≤ length (s .args .words .now)

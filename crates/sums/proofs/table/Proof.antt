@@ -1,12 +1,13 @@
 -- `sums::table` meets its contract: the words are filled and trimmed, and the answer is read off them.
 -- Assumes nothing.
+use mathlib.Core.List.{[], _∷_}
 use mathlib.Core.Path.{_∙_}
 use native.Mathlib.Omega.{arith}
 use lib.ListN.{length}
 use borrow.Author.Needs.{needs}
 use Rattle.meaning.specs.Job.{jobOf, labels}
-use Rattle.meaning.specs.Refusals.{mostBudget}
-use Rattle.numbers.specs.Handed.{weightsHanded}
+use Rattle.meaning.specs.Bounds.{mostBudget}
+use Rattle.numbers.specs.TwoSlices.{weightsFrom}
 use Rattle.sums.proofs.Meant.{bit-table, tabled}
 use Rattle.sums.proofs.table.Statement.{statement}
 use Rattle.sums.proofs.table.Tie as tie
@@ -39,7 +40,7 @@ returns c =
     let fill = trim .before .before .before .before in
     let start = fill .before .before .before .before .before in
     let a = start .args in
-    let j = weightsHanded 4 (a .budget) (a .weights .now) (a .wbytes .now) in
+    let j = weightsFrom 4 (a .budget ∷ []) (a .weights .now) (a .wbytes .now) in
     let words = trim .trim .last .0 in
     let filled = fill .fill .kept .1 .1 .0 in
     tabled j words (length words) (trim .trim .kept .0 ∙ filled ∙ start .pre .1)

@@ -1,0 +1,62 @@
+-- `verdicts::is_low` meets its contract: the first test settles it, or the label doesn't fit, or the second does.
+-- Assumes nothing.
+use mathlib.Core.Path.{ap₂, _∙_}
+use Prim.Native.Nat.{ℕ, _+_}
+use native.Mathlib.Omega.{arith}
+use borrow.Author.Needs.{needs}
+use lib.Dec.{ltb}
+use Rattle.meaning.proofs.Numbers.{numbers-long}
+use Rattle.verdicts.proofs.Rows.{low-before, light-kept, left-to-with}
+use Rattle.verdicts.proofs.is_low.Statement.{statement}
+use Rattle.verdicts.proofs.is_low.Tie as tie
+
+add-m : tie.Need-add-m
+add-m c = let s = c .before in omega (arith, s .pre .0 .ends, s .pre .1, numbers-long (s .args .cells .now))
+
+number-in-requires : tie.Need-number-in-requires
+number-in-requires c κs = let s = c .before in omega (arith, s .pre .0 .ends, s .pre .1)
+
+sub-number-in : tie.Need-sub-number-in
+sub-number-in c = omega (arith, c .before .before .pre .0 .not-first)
+
+number-in-requires-2 : tie.Need-number-in-requires-2
+number-in-requires-2 c κs = let s = c .before .before in omega (arith, s .pre .0 .ends, s .pre .1)
+
+returns : tie.Need-returns
+returns c = low-before _ _ _ _ _ _ (omega (arith, c .before .before .number-in .ensures, c .before .number-in2 .ensures, c .if1 .taken))
+
+returns-2 : tie.Need-returns-2
+returns-2 c = light-kept _ _ _ _ _ _ (omega (arith, c .before .before .before .number-in .ensures, c .before .before .number-in2 .ensures, c .before .if1 .left)) (c .if2 .taken)
+
+sub-number-in-2 : tie.Need-sub-number-in-2
+sub-number-in-2 c = omega (arith, c .before .before .before .before .before .pre .0 .not-first)
+
+sub-number-in-3 : tie.Need-sub-number-in-3
+sub-number-in-3 c = omega (arith, c .before .before .before .before .before .pre .0 .not-first)
+
+number-in-requires-3 : tie.Need-number-in-requires-3
+number-in-requires-3 c κs = let s = c .before .before .before .before .before in omega (arith, s .pre .0 .ends, s .pre .1)
+
+is-below-requires : tie.Need-is-below-requires
+is-below-requires c κs = search needs
+
+returns-3 : tie.Need-returns-3
+returns-3 c =
+    left-to-with _ _ _ _ _ _ (omega (arith, c .before .before .before .before .before .number-in .ensures, c .before .before .before .before .number-in2 .ensures, c .before .before .before .if1 .left)) _ (c .before .before .if2 .left)
+    (c .is-below .ensures ∙ ap₂ (λ (claim other : ℕ). ltb claim (other + c .before .before .before .before .before .before .before .args .v)) (c .before .before .before .before .before .number-in .ensures) (c .before .number-in3 .ensures))
+
+pub is-low-spec : {M : Type 1} → statement M
+is-low-spec =
+    tie.close
+    (tie.spec
+    add-m
+    number-in-requires
+    sub-number-in
+    number-in-requires-2
+    returns
+    returns-2
+    sub-number-in-2
+    sub-number-in-3
+    number-in-requires-3
+    is-below-requires
+    returns-3)
