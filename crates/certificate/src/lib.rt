@@ -36,7 +36,16 @@ fn job_refusal(
         return 2;
     }
     let rules = rules::knapsack_rules(kind);
-    requests::job_refusal(rules, budget, weights, wbytes, values, vbytes, copies, cbytes)
+    requests::job_refusal(
+        rules,
+        budget,
+        weights,
+        wbytes,
+        values,
+        vbytes,
+        copies,
+        cbytes,
+    )
 }
 
 // ---- the checker
@@ -143,7 +152,16 @@ fn write_job(
 ) -> Written
     ensures { λ r. ⌜ Writes (jobFrom kind (budget ∷ []) (now (weights .entry)) (now (wbytes .entry)) (now (values .entry)) (now (vbytes .entry)) (now (copies .entry)) (now (cbytes .entry))) (now (picks .entry)) (now (cells .entry)) (now (out .entry)) r (now (out .exit)) ⌝ }
 {
-    let refused = job_refusal(kind, budget, weights, wbytes, values, vbytes, copies, cbytes);
+    let refused = job_refusal(
+        kind,
+        budget,
+        weights,
+        wbytes,
+        values,
+        vbytes,
+        copies,
+        cbytes,
+    );
     if refused != 0 {
         return Written::Refused(refused);
     }

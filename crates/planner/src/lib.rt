@@ -30,7 +30,16 @@ fn pack(
     ensures { λ r. ⌜ SolvedInCells (jobFrom kind (budget ∷ []) (now (weights .entry)) (now (wbytes .entry)) (now (values .entry)) (now (vbytes .entry)) (now (copies .entry)) (now (cbytes .entry))) (now (cells .entry)) (now (picks .entry)) r (now (cells .exit)) (now (picks .exit)) ⌝ }
 {
     let rules = rules::knapsack_rules(kind);
-    let refused = requests::job_refusal(rules, budget, weights, wbytes, values, vbytes, copies, cbytes);
+    let refused = requests::job_refusal(
+        rules,
+        budget,
+        weights,
+        wbytes,
+        values,
+        vbytes,
+        copies,
+        cbytes,
+    );
     if refused != 0 {
         return Answer::Refused(refused);
     }
@@ -39,7 +48,18 @@ fn pack(
     if !rules::room_fits(room, cells.len(), 0, picks.len()) {
         return Answer::Refused(6);
     }
-    knapsack::solve(kind, budget, weights, wbytes, values, vbytes, copies, cbytes, cells, picks)
+    knapsack::solve(
+        kind,
+        budget,
+        weights,
+        wbytes,
+        values,
+        vbytes,
+        copies,
+        cbytes,
+        cells,
+        picks,
+    )
 }
 
 // Kind 4.
@@ -56,7 +76,16 @@ fn reach(
     ensures { λ r. ⌜ SolvedInWords (jobFrom 4 (budget ∷ []) (now (weights .entry)) (now (wbytes .entry)) (now (values .entry)) (now (vbytes .entry)) (now (copies .entry)) (now (cbytes .entry))) (now (words .entry)) r (now (words .exit)) ⌝ }
 {
     let rules = rules::sums_rules();
-    let refused = requests::job_refusal(rules, budget, weights, wbytes, values, vbytes, copies, cbytes);
+    let refused = requests::job_refusal(
+        rules,
+        budget,
+        weights,
+        wbytes,
+        values,
+        vbytes,
+        copies,
+        cbytes,
+    );
     if refused != 0 {
         return Answer::Refused(refused);
     }
@@ -85,7 +114,16 @@ fn lay(
     ensures { λ r. ⌜ Solved (jobFrom kind (budget ∷ []) (now (weights .entry)) (now (wbytes .entry)) (now (values .entry)) (now (vbytes .entry)) (now (copies .entry)) (now (cbytes .entry))) (lentOf (now (cells .entry)) (now (words .entry)) (now (picks .entry))) r (lentOf (now (cells .exit)) (now (words .exit)) (now (picks .exit))) ⌝ }
 {
     let rules = rules::blocks_rules();
-    let refused = requests::job_refusal(rules, budget, weights, wbytes, values, vbytes, copies, cbytes);
+    let refused = requests::job_refusal(
+        rules,
+        budget,
+        weights,
+        wbytes,
+        values,
+        vbytes,
+        copies,
+        cbytes,
+    );
     if refused != 0 {
         return Answer::Refused(refused);
     }
@@ -111,7 +149,16 @@ fn share(
     ensures { λ r. ⌜ SolvedInPicks (jobFrom 7 (budget ∷ []) (now (weights .entry)) (now (wbytes .entry)) (now (values .entry)) (now (vbytes .entry)) (now (copies .entry)) (now (cbytes .entry))) (now (picks .entry)) r (now (picks .exit)) ⌝ }
 {
     let rules = rules::shares_rules();
-    let refused = requests::job_refusal(rules, budget, weights, wbytes, values, vbytes, copies, cbytes);
+    let refused = requests::job_refusal(
+        rules,
+        budget,
+        weights,
+        wbytes,
+        values,
+        vbytes,
+        copies,
+        cbytes,
+    );
     if refused != 0 {
         return Answer::Refused(refused);
     }
@@ -142,10 +189,51 @@ fn decide(
     ensures { λ r. ⌜ Solved (jobFrom kind (budget ∷ []) (now (weights .entry)) (now (wbytes .entry)) (now (values .entry)) (now (vbytes .entry)) (now (copies .entry)) (now (cbytes .entry))) (lentOf (now (cells .entry)) (now (words .entry)) (now (picks .entry))) r (lentOf (now (cells .exit)) (now (words .exit)) (now (picks .exit))) ⌝ }
 {
     match kind {
-        1..=3 => pack(kind, budget, weights, wbytes, values, vbytes, copies, cbytes, cells, picks),
-        4 => reach(budget, weights, wbytes, values, vbytes, copies, cbytes, words),
-        5 | 6 => lay(kind, budget, weights, wbytes, values, vbytes, copies, cbytes, cells, words, picks),
-        7 => share(budget, weights, wbytes, values, vbytes, copies, cbytes, picks),
+        1..=3 => pack(
+            kind,
+            budget,
+            weights,
+            wbytes,
+            values,
+            vbytes,
+            copies,
+            cbytes,
+            cells,
+            picks,
+        ),
+        4 => reach(
+            budget,
+            weights,
+            wbytes,
+            values,
+            vbytes,
+            copies,
+            cbytes,
+            words,
+        ),
+        5 | 6 => lay(
+            kind,
+            budget,
+            weights,
+            wbytes,
+            values,
+            vbytes,
+            copies,
+            cbytes,
+            cells,
+            words,
+            picks,
+        ),
+        7 => share(
+            budget,
+            weights,
+            wbytes,
+            values,
+            vbytes,
+            copies,
+            cbytes,
+            picks,
+        ),
         _ => Answer::Refused(2),
     }
 }
