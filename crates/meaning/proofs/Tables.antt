@@ -2,13 +2,13 @@
 -- The lent slices are longer than needed, and what they hold past the needed places stays.
 -- Assumes nothing.
 use mathlib.Core.Path.{_≡_, refl}
-use Prim.Native.Nat.{ℕ}
+use Prim.Native.Nat.{suc, ℕ}
 use mathlib.Core.Bool.{true}
 use mathlib.Core.List.{List, [], _∷_}
 use lib.ListN.{getD, length}
 use Rattle.meaning.specs.declared.Answer.the-variants as Says
 use Rattle.meaning.specs.Slices.{Holds}
-use Rattle.meaning.specs.Job.{Job, Kind, block-ways, fewest-blocks, free, jobOf, labels, limited, once, packing, sharing, subset-sums}
+use Rattle.meaning.specs.Job.{Job, Kind, allKinds, block-ways, fewest-blocks, free, jobOf, labels, limited, once, packing, sharing, subset-sums}
 use Rattle.meaning.specs.Lent.{Lent, lentOf, roomFor}
 use Rattle.meaning.specs.Bytes.{jobBytes}
 use Rattle.meaning.specs.Knapsacks.{FullTable, OneRow, ValueTable}
@@ -250,7 +250,8 @@ call₇ = leaves sharing job₇ (lentOf [] [] (4 ∷ 3 ∷ 3 ∷ [])) (record { 
 abbrev lent : Lent
 lent = lentOf (8 ∷ []) (7 ∷ []) (6 ∷ [])
 
-no-kind : Solved (jobOf 8 (0 ∷ []) [] [] []) lent (Says.Refused 2) lent
+-- one above the last kind
+no-kind : Solved (jobOf (suc (length allKinds)) (0 ∷ []) [] [] []) lent (Says.Refused 2) lent
 unfolding call
 no-kind = record { numbers = refl; nothing-written = refl }
 

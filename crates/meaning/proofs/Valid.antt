@@ -185,4 +185,4 @@ value-reached =
     best-by (mostBudget ∷ [])
     (record { selection = record { one-each = refl; allowed = λ m h. tt }; weight = omega (arith, one-mul mostBudget) })
     (omega arith)
-    (λ q f. le-trans (worth-bound 1 (1 ∷ []) (65_535 ∷ []) q refl tt tt) (mul-le-mul-left 65_535 (f .weight)))
+    (λ q f. le-trans (worth-bound 1 (1 ∷ []) (mostValue ∷ []) q refl tt tt) (mul-le-mul-left mostValue (f .weight)))
