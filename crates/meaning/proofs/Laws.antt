@@ -12,14 +12,17 @@ use lib.Seq.{take-at}
 use Rattle.meaning.specs.declared.Answer.{Answer}
 use Rattle.meaning.specs.declared.Answer.the-variants as Says
 use Rattle.meaning.specs.Slices.{Holds}
-use Rattle.meaning.specs.Job.{Job, Kind, once, limited, free, packing, subset-sums, fewest-blocks, block-ways, sharing, kindOf, allKinds}
+use Rattle.meaning.specs.Job.{Job, Kind, kindOf, allKinds}
 use Rattle.meaning.specs.Lent.{Lent, roomFor}
 use Rattle.meaning.specs.Refusals.{kindRefusal}
 use Rattle.meaning.specs.Bytes.{readJob, readable, unreadable}
 use Rattle.meaning.specs.Answers.{answerNumbers}
 use Rattle.meaning.specs.Solved.{Unrefused, Answered, Gives, Outcome, Solved, SolvedAs, SolvedBytes, SolvedRead, TableHolds, TurnedDown, SolvedLists}
-use Rattle.meaning.proofs.OneOfEach.{table-unique}
-use Rattle.meaning.proofs.Unique.{gives-unique, no-influence, answer-numbers-unique}
+use Rattle.meaning.proofs.EachKind.{gives-unique, table-unique}
+use Rattle.meaning.proofs.Unique.{no-influence, answer-numbers-unique}
+-- a kind's number, passed on
+unfoldable pub use Rattle.meaning.proofs.EachKind.{numberOf}
+pub use Rattle.meaning.proofs.EachKind.{kind-number}
 
 -- ---- a lent slice
 
@@ -41,29 +44,6 @@ unfolding kindOf
 no-kind zero h = refl
 no-kind (suc k) (inl e) = absurd (omega arith)
 no-kind (suc k) (inr h) = past-last allKinds k (le-of-suc-le-suc h)
-
--- the number of each kind
-unfoldable pub numberOf : Kind → ℕ
-numberOf (packing once) = 1
-numberOf (packing limited) = 2
-numberOf (packing free) = 3
-numberOf subset-sums = 4
-numberOf fewest-blocks = 5
-numberOf block-ways = 6
-numberOf sharing = 7
-
--- a kind has one number
-pub kind-number : (m : ℕ) (k : Kind) → kindOf m ≡ some k → m ≡ numberOf k
-unfolding kindOf allKinds numberOf
-kind-number zero k e = let z : _≡_ {A = ℕ} 0 1 = cc in absurd (omega arith)
-kind-number (suc zero) k e = let same : packing once ≡ k = cc in rw (← same)
-kind-number (suc (suc zero)) k e = let same : packing limited ≡ k = cc in rw (← same)
-kind-number (suc (suc (suc zero))) k e = let same : packing free ≡ k = cc in rw (← same)
-kind-number (suc (suc (suc (suc zero)))) k e = let same : subset-sums ≡ k = cc in rw (← same)
-kind-number (suc (suc (suc (suc (suc zero))))) k e = let same : fewest-blocks ≡ k = cc in rw (← same)
-kind-number (suc (suc (suc (suc (suc (suc zero)))))) k e = let same : block-ways ≡ k = cc in rw (← same)
-kind-number (suc (suc (suc (suc (suc (suc (suc zero))))))) k e = let same : sharing ≡ k = cc in rw (← same)
-kind-number (suc (suc (suc (suc (suc (suc (suc (suc m)))))))) k e = let z : _≡_ {A = ℕ} 0 1 = cc in absurd (omega arith)
 
 -- a refusal leaves the slices as they were
 pub turned-down : (r : ℕ) (before : Lent) → TurnedDown r before (answerNumbers (Says.Refused r)) before

@@ -21,6 +21,7 @@ pub mod SharesSum
 -- no second choice is left
 pub mod CellNumbers
 pub mod OneOfEach
+pub mod EachKind
 pub mod Unique
 pub mod Laws
 -- bytes

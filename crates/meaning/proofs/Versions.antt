@@ -8,32 +8,32 @@ use native.Mathlib.Nat.{le-refl}
 use native.Mathlib.Omega.{arith}
 use mathlib.Core.List.{List, [], _∷_, _++_}
 use lib.Dec.{lit≤}
-use lib.ListN.{List·getD-append, drop, length, replicate}
+use lib.ListN.{List·getD-append, drop, length}
 use Rattle.meaning.specs.declared.Answer.{Answer}
 use Rattle.meaning.specs.declared.Answer.the-variants as Says
 use Rattle.meaning.specs.declared.Verdict.{Verdict}
 use Rattle.meaning.specs.declared.Verdict.the-variants.{Accepted}
 use Rattle.meaning.specs.Lists.{at}
 use Rattle.meaning.specs.Slices.{Holds}
-use Rattle.meaning.specs.Job.{Job, Kind, Knapsack, block-ways, fewest-blocks, free, labels, limited, once, packing, sharing, subset-sums}
-use Rattle.meaning.specs.Lent.{Lent, cellCount, lentOf, roomFor, roomOf}
+use Rattle.meaning.specs.Job.{Job, Kind, Knapsack, labels, once, sharing}
+use Rattle.meaning.specs.Lent.{Lent, roomFor}
 use Rattle.meaning.specs.Bytes.{jobBytes, readJob, readable, sectionBytes}
 use Rattle.meaning.specs.Knapsacks.{BestPicks, Fits}
 use Rattle.meaning.specs.Answers.{AnswerNumbers, answerNumbers}
 use Rattle.meaning.specs.Solved.{Answered, Solved, SolvedBytes, TableHolds, Unrefused}
-use Rattle.meaning.specs.Host.{SolvedHost, firstNumber}
 use Rattle.meaning.specs.Certificates.{certificateCells}
+use Rattle.meaning.specs.Host.{SolvedHost, firstNumber}
 use Rattle.meaning.specs.Demands.{Accepts, BestList, Demand3, Sound, ValidJob, listIn}
 use Rattle.meaning.specs.Trials.{jobJ}
-use Rattle.meaning.proofs.OneOfEach.{table-unique}
+use Rattle.meaning.proofs.EachKind.{Late, not-said, numbered, table-left, table-unique, tableOf}
 use Rattle.meaning.proofs.Unique.{no-influence}
 use Rattle.meaning.proofs.Laws.{bytes-solved, unrefused-answered}
 use Rattle.meaning.proofs.FullTables.{best-of}
 use Rattle.meaning.proofs.Certified.{certified-once, counts-shown}
 use Rattle.meaning.proofs.Small.{picked, picked-out, selects, selects-out}
 use Rattle.meaning.proofs.Opens.{opens}
-use Rattle.meaning.proofs.Cases.{caseJ, tried}
-use Rattle.meaning.proofs.Held.{Late, not-said, refusals, refused-only, trial-says, tried-back, tried-goes}
+use Rattle.meaning.proofs.Cases.{caseJ, tried, filled, trial-facts}
+use Rattle.meaning.proofs.Held.{refused-only, trial-says, tried-back, tried-goes}
 
 -- ---- a version by any door
 
@@ -99,14 +99,6 @@ doorOf l = record {
   Answers0 = λ k g. l .Answers0 (g .0);
 }
 
--- where the table of kind k stands; kind 7 has none
-unfoldable pub tableOf : Kind → Lent → List ℕ
-tableOf (packing s) lent = lent .cells
-tableOf subset-sums lent = lent .words
-tableOf fewest-blocks lent = lent .cells
-tableOf block-ways lent = lent .words
-tableOf sharing lent = []
-
 -- what no version by such a door can do
 pub record LentShutOut (l : LentDoor) (k : Kind) : Type 0 where
   pub answers : ShutOut (doorOf l) k
@@ -114,23 +106,8 @@ pub record LentShutOut (l : LentDoor) (k : Kind) : Type 0 where
 
 -- ---- one law for every door: whoever keeps its promise shows the answer of the trial of kind k, which is no refusal, and whose first number isn't 0
 
--- what that answer says
-record Proper (s : AnswerNumbers) : Type 0 where
-  no-refusal : refusals (s .case) ≡ 0
-  not-0 : 1 ≤ firstNumber s
-
-tried-proper : (k : Kind) → Proper (answerNumbers (tried k .answer))
-unfolding opens refusals firstNumber
-tried-proper (packing once) = record { no-refusal = refl; not-0 = lit≤ tt }
-tried-proper (packing limited) = record { no-refusal = refl; not-0 = lit≤ tt }
-tried-proper (packing free) = record { no-refusal = refl; not-0 = lit≤ tt }
-tried-proper subset-sums = record { no-refusal = refl; not-0 = lit≤ tt }
-tried-proper fewest-blocks = record { no-refusal = refl; not-0 = lit≤ tt }
-tried-proper block-ways = record { no-refusal = refl; not-0 = lit≤ tt }
-tried-proper sharing = record { no-refusal = refl; not-0 = lit≤ tt }
-
 pub not-refused : (k : Kind) → ¬ Refusal (tried k .answer)
-not-refused k (r, e) = not-said r (tried k .answer) (tried-proper k .no-refusal) (sym (ap answerNumbers e))
+not-refused k (r, e) = not-said r (tried k .answer) (trial-facts k .no-refusal) (sym (ap answerNumbers e))
 
 -- an answer to a job and the slices as they are left, both in some way shown
 pub record SolvedAndShown (j : Job) (lent : Lent) (Shown : Answer → Lent → Type 0) : Type 0 where
@@ -169,68 +146,21 @@ module _ (d : Door) (Shown : Job → d .Given → Answer → Lent → Type 0)
 
 -- ---- the table: what is left in it doesn't depend on what stood there, so it can't be as it was on slices of 0 and on slices of 1
 
--- slices with just the room that the trial of kind k needs, and x in every place
-unfoldable filled : ℕ → Kind → Lent
-filled x k =
-    let room = roomFor k (tried k .job) in
-    lentOf (replicate (room .cells) x) (replicate (room .words) x) (replicate (room .picks) x)
-
-ok-filled : (x : ℕ) (k : Kind) → Unrefused k (tried k .job) (filled x k)
-unfolding opens filled
-ok-filled x (packing once) = record { of-kind = refl; no-refusal = refl }
-ok-filled x (packing limited) = record { of-kind = refl; no-refusal = refl }
-ok-filled x (packing free) = record { of-kind = refl; no-refusal = refl }
-ok-filled x subset-sums = record { of-kind = refl; no-refusal = refl }
-ok-filled x fewest-blocks = record { of-kind = refl; no-refusal = refl }
-ok-filled x block-ways = record { of-kind = refl; no-refusal = refl }
-ok-filled x sharing = record { of-kind = refl; no-refusal = refl }
-
-first-filled : (x : ℕ) (k : Kind) → ¬ (k ≡ sharing) → at (tableOf k (filled x k)) 0 ≡ x
-unfolding opens filled tableOf
-first-filled x (packing once) has = refl
-first-filled x (packing limited) has = refl
-first-filled x (packing free) has = refl
-first-filled x subset-sums has = refl
-first-filled x fewest-blocks has = refl
-first-filled x block-ways has = refl
-first-filled x sharing has = absurd (has refl)
-
 first-held : (new old now : List ℕ) → Holds new old now → 1 ≤ length new → at now 0 ≡ at new 0
 unfolding Holds
 first-held new old now h some = ap (λ (l : List ℕ). at l 0) h ∙ List·getD-append new (drop (length new) old) 0 0 some
 
--- the places that are needed for the table hold it, and there is one at least
-table-held : (k : Kind) {j : Job} {before after : Lent} {s : AnswerNumbers} (x : Answered (roomFor k j) (TableHolds k j) k j before s after)
-    → Holds (tableOf k (x .content)) (tableOf k before) (tableOf k after)
-unfolding tableOf Holds
-table-held (packing s) x = x .cells-hold
-table-held subset-sums x = x .words-hold
-table-held fewest-blocks x = x .cells-hold
-table-held block-ways x = x .words-hold
-table-held sharing x = refl
-
-table-needed : (k : Kind) {j : Job} {before after : Lent} {s : AnswerNumbers} (x : Answered (roomFor k j) (TableHolds k j) k j before s after)
-    → ¬ (k ≡ sharing) → 1 ≤ length (tableOf k (x .content))
-unfolding tableOf roomFor roomOf cellCount
-table-needed (packing once) x has = omega (arith, x .cells-needed)
-table-needed (packing limited) x has = omega (arith, x .cells-needed)
-table-needed (packing free) x has = omega (arith, x .cells-needed)
-table-needed subset-sums x has = omega (arith, x .words-needed)
-table-needed fewest-blocks x has = omega (arith, x .cells-needed)
-table-needed block-ways x has = omega (arith, x .words-needed)
-table-needed sharing x has = absurd (has refl)
-
 -- a table that is as it was has x in its first place
 as-it-was : (k : Kind) (has : ¬ (k ≡ sharing)) (x : ℕ) {left : Lent} {s : AnswerNumbers} (y : Answered (roomFor k (tried k .job)) (TableHolds k (tried k .job)) k (tried k .job) (filled x k) s left)
     → tableOf k left ≡ tableOf k (filled x k) → at (tableOf k (y .content)) 0 ≡ x
-as-it-was k has x y kept = sym (first-held _ _ _ (table-held k y) (table-needed k y has)) ∙ ap (λ (l : List ℕ). at l 0) kept ∙ first-filled x k has
+as-it-was k has x y kept = sym (first-held _ _ _ (table-left k y .held) (table-left k y .needed has)) ∙ ap (λ (l : List ℕ). at l 0) kept ∙ trial-facts k .first-filled has x
 
 not-both : (k : Kind) (has : ¬ (k ≡ sharing)) (left left′ : Lent) (a a′ : Answer) → Solved (tried k .job) (filled 0 k) a left → Solved (tried k .job) (filled 1 k) a′ left′
     → tableOf k left ≡ tableOf k (filled 0 k) → ¬ (tableOf k left′ ≡ tableOf k (filled 1 k))
 not-both k has left left′ a a′ solved solved′ kept kept′ =
     let j = tried k .job in
-    let x = unrefused-answered k j (filled 0 k) left a (ok-filled 0 k) solved in
-    let y = unrefused-answered k j (filled 1 k) left′ a′ (ok-filled 1 k) solved′ in
+    let x = unrefused-answered k j (filled 0 k) left a (trial-facts k .unrefused 0) solved in
+    let y = unrefused-answered k j (filled 1 k) left′ a′ (trial-facts k .unrefused 1) solved′ in
     let same = no-influence k j (filled 0 k) (filled 1 k) left left′ (answerNumbers a) (answerNumbers a′) (table-unique k j) x y .1 in
     omega (arith, as-it-was k has 0 x kept, as-it-was k has 1 y kept′, ap (λ (c : Lent). at (tableOf k c) 0) same)
 
@@ -245,8 +175,8 @@ module _ (l : LentDoor) (Shown : l .Reply → Answer → Type 0)
       shut-out (doorOf l) (λ j g a left. Shown (g .0) a)
       (λ c g j asks kept. let (a, solved, shown) = shows (c .0) (c .1) (g .1) (g .0) j asks kept in record { answer = a; left = g .1; solved = solved; shown = shown })
       (λ j g a left. refusal-shown (g .0) a)
-      (λ k′ g left shown is-0. omega (arith, tried-proper k′ .not-0, 0-shown (g .0) (tried k′ .answer) shown is-0))
-      k (ask k, filled 0 k) (holds k) (ok-filled 0 k)
+      (λ k′ g left shown is-0. omega (arith, trial-facts k′ .not-0, 0-shown (g .0) (tried k′ .answer) shown is-0))
+      k (ask k, filled 0 k) (holds k) (trial-facts k .unrefused 0)
 
   -- a version on the trial of kind k, with slices of x
   module _ (v : Version (doorOf l)) (k : Kind) where
@@ -263,7 +193,7 @@ module _ (l : LentDoor) (Shown : l .Reply → Answer → Type 0)
     unfolding left-by
     writes has all =
         let kept : (x : ℕ) → tableOf k (left-by x) ≡ tableOf k (filled x k) =
-        λ x. all (ask k, filled x k) (record { job = tried k .job; asks-for = holds k; unrefused = ok-filled x k }) in
+        λ x. all (ask k, filled x k) (record { job = tried k .job; asks-for = holds k; unrefused = trial-facts k .unrefused x }) in
         not-both k has (left-by 0) (left-by 1) (solves 0 .0) (solves 1 .0) (solves 0 .1) (solves 1 .1) (kept 0) (kept 1)
 
   pub lent-shut-out : (k : Kind) → LentShutOut l k
@@ -310,15 +240,6 @@ from-c = record {
   Refuses = λ x. ¬ (x .refusal ≡ 0);
   Answers0 = λ x. x .first ≡ 0;
 }
-
-numbered : (a : Answer) → ¬ (answerNumbers a .refusal ≡ 0) → Refusal a
-unfolding answerNumbers
-numbered (Says.Refused r) h = (r, refl)
-numbered (Says.Knapsack v w) h = absurd (h refl)
-numbered (Says.Sums y n) h = absurd (h refl)
-numbered (Says.Blocks b) h = absurd (h refl)
-numbered (Says.Ways w) h = absurd (h refl)
-numbered (Says.Shares x) h = absurd (h refl)
 
 host-versions : (k : Kind) → LentShutOut from-c k
 host-versions =
