@@ -1,4 +1,4 @@
--- Jobs that several files try; and of each kind its trial, with what computing shows of it: a new kind has a line in `tried` and one in `trial-facts`.
+-- Jobs that several files try; and each kind's trial, with what computing shows of it: a new kind has a line in `tried` and in `trial-facts`.
 -- Assumes nothing.
 use mathlib.Core.Path.{_≡_, refl}
 use mathlib.Core.Option.{some}
@@ -78,8 +78,8 @@ filled x k =
     let room = roomFor k (tried k .job) in
     lentOf (replicate (room .cells) x) (replicate (room .words) x) (replicate (room .picks) x)
 
--- it goes as the sixteen say, and is read back from its bytes; its answer is no refusal, and its first number isn't 0; with `filled` slices it isn't refused, and its
--- table, where the kind has one, begins with what they are filled with
+-- it goes as the sixteen say, and is read back from its bytes; its answer is no refusal, and its first number isn't 0; with `filled` slices it isn't
+-- refused, and its table, where the kind has one, begins with what they are filled with
 pub record TrialFacts (k : Kind) : Type 0 where
   pub goes : Goes (solve (tried k .job) (tried k .answer) (tried k .picks))
   pub back : readJob (jobBytes (tried k .job)) ≡ readable (tried k .job)

@@ -1,4 +1,4 @@
--- Closed cases as tables: a line for each, with what goes in and what has to come out; and the refusal that a job gets, with lent slices of some lengths.
+-- Closed cases as tables: a line each, with what goes in and what has to come out; and what a job is refused with, for slices of some lengths.
 -- Assumes nothing.
 use mathlib.Core.Path.{_≡_}
 use mathlib.Core.Option.{Option, none, some}

@@ -1,4 +1,4 @@
--- The numbers of each answer, verdict and report, from Rattle and from C: 0 in every number that its case hasn't got; and ways about the greatest number.
+-- The numbers of each answer, verdict and report, from Rattle and from C: 0 in every number that its case hasn't got; and ways that are many.
 -- Assumes nothing.
 use mathlib.Core.Path.{refl}
 use Prim.Native.Nat.{ℕ}
@@ -8,7 +8,8 @@ use Rattle.meaning.specs.declared.Answer.{Answer}
 use Rattle.meaning.specs.declared.Answer.the-variants as Says
 use Rattle.meaning.specs.declared.Verdict.the-variants.{Accepted, Refused}
 use Rattle.meaning.specs.declared.Written.the-variants as Reports
-use Rattle.meaning.specs.Answers.{is-blocks, is-knapsack, is-refusal, is-shares, is-sums, is-ways, verdictNumbers, answerNumbers, writtenNumbers}
+use Rattle.meaning.specs.Answers.{is-blocks, is-knapsack, is-refusal, is-shares, is-sums}
+use Rattle.meaning.specs.Answers.{is-ways, verdictNumbers, answerNumbers, writtenNumbers}
 use Rattle.meaning.specs.Solved.{waysAnswer}
 use Rattle.meaning.specs.Host.{firstNumber, refusalNumber, secondNumber, valueOrPlace}
 use Rattle.meaning.proofs.Opens.{opens}

@@ -30,13 +30,13 @@ refusal-4-labels : Computes refusalOf (
     (plain 1 mostBudget (replicate mostLabels 1) (replicate mostLabels 0) [], nothing) gives 6  -- kind 1: n and C at their bounds
     ∷ (plain 1 0 (replicate (suc mostLabels) 1) (replicate (suc mostLabels) 0) [], nothing) gives 4  -- one label more
     ∷ (plain 1 (suc mostBudget) (0 ∷ []) (suc mostValue ∷ []) [], nothing) gives 4  -- one unit more, and 4 before 5 and 6
-    ∷ (plain 2 mostBudget (replicate mostLabels 1) (replicate mostLabels 0) (replicate mostLabels leastCopies), nothing) gives 6  -- kind 2: at the bounds
+    ∷ (plain 2 mostBudget (replicate mostLabels 1) (replicate mostLabels 0) (replicate mostLabels leastCopies), nothing) gives 6  -- kind 2
     ∷ (plain 2 0 (replicate (suc mostLabels) 1) (replicate (suc mostLabels) 0) (replicate (suc mostLabels) leastCopies), nothing) gives 4  -- one label more
     ∷ (plain 2 (suc mostBudget) [] [] [], nothing) gives 4  -- one unit more
-    ∷ (plain 3 mostBudget (replicate mostLabels 1) (replicate mostLabels 1) [], nothing) gives 6  -- kind 3: at the bounds
+    ∷ (plain 3 mostBudget (replicate mostLabels 1) (replicate mostLabels 1) [], nothing) gives 6  -- kind 3
     ∷ (plain 3 0 (replicate (suc mostLabels) 1) (replicate (suc mostLabels) 1) [], nothing) gives 4  -- one label more
     ∷ (plain 3 (suc mostBudget) [] [] [], nothing) gives 4  -- one unit more
-    ∷ (plain 4 mostBudget (replicate mostLabels 1) [] [], nothing) gives 6  -- kind 4: at the bounds
+    ∷ (plain 4 mostBudget (replicate mostLabels 1) [] [], nothing) gives 6  -- kind 4
     ∷ (plain 4 0 (replicate (suc mostLabels) 1) [] [], nothing) gives 4  -- one label more
     ∷ (plain 4 (suc mostBudget) [] [] [], nothing) gives 4  -- one unit more
     ∷ []
@@ -46,10 +46,10 @@ refusal-4-labels = refl
 
 -- n in kinds 5 and 6, and C
 refusal-4-sizes : Computes refusalOf (
-    (plain 5 mostBudget (map suc (upTo mostSizes)) [] [], nothing) gives 6  -- kind 5: at the bounds
+    (plain 5 mostBudget (map suc (upTo mostSizes)) [] [], nothing) gives 6  -- kind 5: n and C at their bounds
     ∷ (plain 5 0 (map suc (upTo (suc mostSizes))) [] [], nothing) gives 4  -- one size more
     ∷ (plain 5 (suc mostBudget) [] [] [], nothing) gives 4  -- one unit more
-    ∷ (plain 6 mostBudget (map suc (upTo mostSizes)) [] [], nothing) gives 6  -- kind 6: at the bounds
+    ∷ (plain 6 mostBudget (map suc (upTo mostSizes)) [] [], nothing) gives 6  -- kind 6
     ∷ (plain 6 0 (map suc (upTo (suc mostSizes))) [] [], nothing) gives 4  -- one size more
     ∷ (plain 6 (suc mostBudget) [] [] [], nothing) gives 4  -- one unit more
     ∷ []

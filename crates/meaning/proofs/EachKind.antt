@@ -1,5 +1,5 @@
--- What is shown kind by kind. Each match over the kinds that a proof of meaning needs stands here, or in Cases for the kind's trial, so that a new kind adds
--- its lines to these two files; and so does each match over the cases of an answer but for `unsay` and `unsaid` (Unique).
+-- What is shown kind by kind. Each match over the kinds that a proof of meaning needs stands here, or in Cases for the kind's trial, so that a new
+-- kind adds its lines to these two files; and so does each match over the cases of an answer but for `unsay` and `unsaid` (Unique).
 -- Assumes nothing.
 use mathlib.Core.Path.{_∙_, _≡_, ap, refl, sym}
 use mathlib.Core.Option.{Option·some-injective, some}
@@ -16,14 +16,16 @@ use Rattle.meaning.specs.declared.Answer.{Answer}
 use Rattle.meaning.specs.declared.Answer.the-variants as Says
 use Rattle.meaning.specs.Lists.{at, if, sum, total}
 use Rattle.meaning.specs.Slices.{Holds}
-use Rattle.meaning.specs.Job.{Job, Kind, Knapsack, allKinds, block-ways, fewest-blocks, free, kindOf, labels, limited, once, packing, sharing, subset-sums}
+use Rattle.meaning.specs.Job.{Job, Kind, Knapsack, allKinds, block-ways, fewest-blocks, free}
+use Rattle.meaning.specs.Job.{kindOf, labels, limited, once, packing, sharing, subset-sums}
 use Rattle.meaning.specs.Lent.{Lent, Room, cellCount, roomFor, roomOf}
 use Rattle.meaning.specs.Knapsacks.{ValueTable}
 use Rattle.meaning.specs.Blocks.{FewestRow, Makes, WaysFor, WaysRow, tooMany}
 use Rattle.meaning.specs.Shares.{spareOf}
 use Rattle.meaning.specs.Answers.{AnswerNumbers, Which, is-blocks, is-knapsack, is-refusal, is-shares, is-sums, is-ways, answerNumbers}
 use Rattle.meaning.specs.Solved.{Answered, Built, Gives, TableHolds, a-sum, no-such-sum, waysAnswer}
-use Rattle.meaning.proofs.OneOfEach.{same-list, rows-unique, row-unique, bits-table-unique, least-shown-unique, ways-shown-unique, packed-unique, summed-unique, sum-or-none-unique, laid-unique, ways-given-unique}
+use Rattle.meaning.proofs.OneOfEach.{same-list, rows-unique, row-unique, bits-table-unique, least-shown-unique, ways-shown-unique}
+use Rattle.meaning.proofs.OneOfEach.{packed-unique, summed-unique, sum-or-none-unique, laid-unique, ways-given-unique}
 
 -- ---- the number
 
@@ -81,7 +83,8 @@ none-needed s t m h = absurd (not-suc-le-zero h)
 same-places : (k : Kind) (j : Job) (s t : Lent) → TableHolds k j s → TableHolds k j t → SamePlaces (roomFor k j) s t
 unfolding TableHolds ValueTable FewestRow WaysRow roomFor roomOf
 same-places (packing once) j s t a b = record { cells = rows-unique once j (s .cells) (t .cells) a b; words = none-needed (s .words) (t .words) }
-same-places (packing limited) j s t a b = record { cells = rows-unique limited j (s .cells) (t .cells) a b; words = none-needed (s .words) (t .words) }
+same-places (packing limited) j s t a b =
+    record { cells = rows-unique limited j (s .cells) (t .cells) a b; words = none-needed (s .words) (t .words) }
 same-places (packing free) j s t a b = record { cells = row-unique free j (s .cells) (t .cells) a b; words = none-needed (s .words) (t .words) }
 same-places subset-sums j s t a b = record { cells = none-needed (s .cells) (t .cells); words = bits-table-unique j (s .words) (t .words) a b }
 same-places fewest-blocks j s t a b = record {

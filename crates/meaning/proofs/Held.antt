@@ -85,7 +85,8 @@ pub tried-back : (k : Kind) → readJob (jobBytes (tried k .job)) ≡ readable (
 tried-back k = trial-facts k .back
 
 -- so whoever solves the bytes of one answers it
-pub tried-says : (k : Kind) (before after : Lent) (a : Answer) → Unrefused k (tried k .job) before → SolvedBytes (jobBytes (tried k .job)) before a after
+pub tried-says : (k : Kind) (before after : Lent) (a : Answer) → Unrefused k (tried k .job) before
+    → SolvedBytes (jobBytes (tried k .job)) before a after
     → (a ≡ tried k .answer) × Holds (tried k .picks) (before .picks) (after .picks)
 tried-says k before after a ok h =
     trial-says (tried k .job) (tried k .answer) (tried k .picks) (tried-goes k) k before after a ok

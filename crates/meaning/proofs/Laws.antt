@@ -17,7 +17,8 @@ use Rattle.meaning.specs.Lent.{Lent, roomFor}
 use Rattle.meaning.specs.Refusals.{kindRefusal}
 use Rattle.meaning.specs.Bytes.{readJob, readable, unreadable}
 use Rattle.meaning.specs.Answers.{answerNumbers}
-use Rattle.meaning.specs.Solved.{Unrefused, Answered, Gives, Outcome, Solved, SolvedAs, SolvedBytes, SolvedRead, TableHolds, TurnedDown, SolvedLists}
+use Rattle.meaning.specs.Solved.{Unrefused, Answered, Gives, Outcome, Solved, SolvedAs}
+use Rattle.meaning.specs.Solved.{SolvedBytes, SolvedRead, TableHolds, TurnedDown, SolvedLists}
 use Rattle.meaning.proofs.EachKind.{gives-unique, table-unique}
 use Rattle.meaning.proofs.Unique.{no-influence, answer-numbers-unique}
 -- a kind's number, passed on
@@ -71,17 +72,20 @@ kind-solved j before k r a after e f h = rw (e, f) at h
 -- ---- job bytes
 
 -- job bytes that can be read are solved as the job that they hold
-pub solved-bytes : (bytes : List ℕ) (j : Job) (before after : Lent) (a : Answer) → readJob bytes ≡ readable j → Solved j before a after → SolvedBytes bytes before a after
+pub solved-bytes : (bytes : List ℕ) (j : Job) (before after : Lent) (a : Answer) → readJob bytes ≡ readable j → Solved j before a after
+    → SolvedBytes bytes before a after
 unfolding SolvedBytes SolvedRead Solved
 solved-bytes bytes j before after a e h = rw e h
 
 -- and back
-pub bytes-solved : (bytes : List ℕ) (j : Job) (before after : Lent) (a : Answer) → readJob bytes ≡ readable j → SolvedBytes bytes before a after → Solved j before a after
+pub bytes-solved : (bytes : List ℕ) (j : Job) (before after : Lent) (a : Answer) → readJob bytes ≡ readable j → SolvedBytes bytes before a after
+    → Solved j before a after
 unfolding SolvedBytes SolvedRead Solved
 bytes-solved bytes j before after a e h = rw e at h
 
 -- those that can't are refused with 1
-pub solved-unreadable : (bytes : List ℕ) (place : ℕ) (before : Lent) → readJob bytes ≡ unreadable place → SolvedBytes bytes before (Says.Refused 1) before
+pub solved-unreadable : (bytes : List ℕ) (place : ℕ) (before : Lent) → readJob bytes ≡ unreadable place
+    → SolvedBytes bytes before (Says.Refused 1) before
 unfolding SolvedBytes SolvedRead
 solved-unreadable bytes place before e = rw e (turned-down 1 before)
 
@@ -132,11 +136,15 @@ uninfluenced k j before after before′ after′ a a′ ok ok′ h h′ =
       answer = answer-numbers-unique said;
       content = x .content;
       in-first = record { cells = x .cells-hold; words = x .words-hold; picks = x .picks-hold };
-      in-second = subst (λ (l : Lent). ContentIn l before′ after′) (sym same) (record { cells = y .cells-hold; words = y .words-hold; picks = y .picks-hold });
+      in-second =
+          subst (λ (l : Lent). ContentIn l before′ after′) (sym same)
+          (record { cells = y .cells-hold; words = y .words-hold; picks = y .picks-hold });
     }
 
 -- nor where the job comes as bytes
-pub uninfluenced-bytes : (bytes : List ℕ) (k : Kind) (j : Job) (before after before′ after′ : Lent) (a a′ : Answer) → readJob bytes ≡ readable j → Unrefused k j before → Unrefused k j before′
+pub uninfluenced-bytes : (bytes : List ℕ) (k : Kind) (j : Job) (before after before′ after′ : Lent) (a a′ : Answer) → readJob bytes ≡ readable j
+    → Unrefused k j before → Unrefused k j before′
     → SolvedBytes bytes before a after → SolvedBytes bytes before′ a′ after′ → Uninfluenced a a′ before after before′ after′
 uninfluenced-bytes bytes k j before after before′ after′ a a′ reads ok ok′ h h′ =
-    uninfluenced k j before after before′ after′ a a′ ok ok′ (bytes-solved bytes j before after a reads h) (bytes-solved bytes j before′ after′ a′ reads h′)
+    uninfluenced k j before after before′ after′ a a′ ok ok′ (bytes-solved bytes j before after a reads h)
+    (bytes-solved bytes j before′ after′ a′ reads h′)

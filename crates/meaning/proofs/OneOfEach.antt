@@ -71,7 +71,8 @@ no-worse-same last-most x y e = le-of-eq (sym e)
 
 -- the only list with P is the chosen one
 pub only-choice : (o : Order) (n : ℕ) (P : List ℕ → Type 0) (p : List ℕ) → P p → ((q : List ℕ) → P q → q ≡ p) → Chosen o n P p
-only-choice o n P p has only = record { one-of = has; settled = λ m h q k agree. no-worse-same o (at p m) (at q m) (ap (λ (l : List ℕ). at l m) (sym (only q k))) }
+only-choice o n P p has only =
+    record { one-of = has; settled = λ m h q k agree. no-worse-same o (at p m) (at q m) (ap (λ (l : List ℕ). at l m) (sym (only q k))) }
 
 -- ---- the best value is one number
 
@@ -105,7 +106,8 @@ unfolding FullTable
 rows-unique k j s t a b m h =
     let here : RowAndBudget j m = row-and-budget j m h in
     subst (λ (x : ℕ). at s x ≡ at t x) (here .numbered)
-    (best-value-unique (a (m / (j .budget + 1)) (m % (j .budget + 1)) (here .row) (here .column)) (b (m / (j .budget + 1)) (m % (j .budget + 1)) (here .row) (here .column)))
+    (best-value-unique (a (m / (j .budget + 1)) (m % (j .budget + 1)) (here .row) (here .column))
+    (b (m / (j .budget + 1)) (m % (j .budget + 1)) (here .row) (here .column)))
 
 pub row-unique : (k : Knapsack) (j : Job) (s t : List ℕ) → OneRow k j s → OneRow k j t → (m : ℕ) → m < j .budget + 1 → at s m ≡ at t m
 unfolding OneRow
@@ -134,7 +136,8 @@ ways-unique j i a n m c d = counted-unique c d
 
 -- and so is the cell that shows them
 pub ways-shown-unique : {j : Job} {i a x y : ℕ} → WaysShown j i a x → WaysShown j i a y → x ≡ y
-ways-shown-unique {j} {i} {a} c d = c .lesser ∙ ap (λ (w : ℕ). min w tooMany) (ways-unique j i a (c .many) (d .many) (c .how-many) (d .how-many)) ∙ sym (d .lesser)
+ways-shown-unique {j} {i} {a} c d =
+    c .lesser ∙ ap (λ (w : ℕ). min w tooMany) (ways-unique j i a (c .many) (d .many) (c .how-many) (d .how-many)) ∙ sym (d .lesser)
 
 -- ---- what each kind says and writes
 
@@ -160,7 +163,8 @@ summed-unique a b =
     (a .none-written ∙ sym (b .none-written), a .numbers ∙ ap₂ (λ (y : Bool) (n : ℕ). answerNumbers (Says.Sums y n)) e f ∙ sym (b .numbers))
 
 -- a sum, or none: one of them, where there is one choice at most
-pub sum-or-none-unique : {Exact Choice : List ℕ → Type 0} {answer : List ℕ → Answer} {s s′ : AnswerNumbers} {p p′ : List ℕ} → ((q r : List ℕ) → Choice q → Choice r → q ≡ r)
+pub sum-or-none-unique : {Exact Choice : List ℕ → Type 0} {answer : List ℕ → Answer} {s s′ : AnswerNumbers} {p p′ : List ℕ}
+    → ((q r : List ℕ) → Choice q → Choice r → q ≡ r)
     → SumOrNone Exact Choice answer s p → SumOrNone Exact Choice answer s′ p′ → (p ≡ p′) × (s ≡ s′)
 sum-or-none-unique {answer = answer} {p = p} {p′ = p′} one (a-sum m c e) (a-sum m′ c′ e′) =
     let same : p ≡ p′ = one p p′ c c′ in
@@ -171,10 +175,12 @@ sum-or-none-unique one (no-such-sum n e z) (no-such-sum n′ e′ z′) = (z ∙
 
 pub laid-unique : (j : Job) (a : ℕ) (p q : List ℕ) → Laid j a p → Laid j a q → p ≡ q
 unfolding Laid
-laid-unique j a p q l l′ = chosen-unique blockOrder (labels j) (Fewest j (labels j) a) p q l l′ (l .one-of .makes .one-each) (l′ .one-of .makes .one-each)
+laid-unique j a p q l l′ =
+    chosen-unique blockOrder (labels j) (Fewest j (labels j) a) p q l l′ (l .one-of .makes .one-each) (l′ .one-of .makes .one-each)
 
 pub ways-given-unique : {j : Job} {s s′ : AnswerNumbers} {p p′ : List ℕ} → WaysGiven j s p → WaysGiven j s′ p′ → (p ≡ p′) × (s ≡ s′)
 ways-given-unique {j} a b = (
   a .none-written ∙ sym (b .none-written),
-  a .numbers ∙ ap (λ (w : ℕ). answerNumbers (waysAnswer w)) (ways-unique j (labels j) (j .budget) (a .ways) (b .ways) (a .how-many) (b .how-many)) ∙ sym (b .numbers),
+  a .numbers ∙ ap (λ (w : ℕ). answerNumbers (waysAnswer w)) (ways-unique j (labels j) (j .budget) (a .ways) (b .ways) (a .how-many) (b .how-many))
+      ∙ sym (b .numbers),
 )

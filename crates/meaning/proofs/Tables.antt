@@ -15,10 +15,13 @@ use Rattle.meaning.specs.Knapsacks.{FullTable, OneRow, ValueTable}
 use Rattle.meaning.specs.Sums.{BitTable, ReachedWithin, TotalCount, YesOrNo, is-so}
 use Rattle.meaning.specs.Blocks.{FewestRow, WaysFor, WaysRow, WaysShown}
 use Rattle.meaning.specs.Answers.{AnswerNumbers, answerNumbers}
-use Rattle.meaning.specs.Solved.{Answered, Built, Gives, Outcome, Solved, SolvedAs, SolvedBytes, SolvedLists, SolvedRead, TableHolds, a-sum, no-such-sum}
+use Rattle.meaning.specs.Solved.{Answered, Built, Gives, Outcome, Solved, SolvedAs}
+use Rattle.meaning.specs.Solved.{SolvedBytes, SolvedLists, SolvedRead, TableHolds, a-sum, no-such-sum}
 use Rattle.meaning.proofs.Reaching.{no-labels}
-use Rattle.meaning.proofs.Small.{counted-out, isCounted, isLaid, isSelection, laid-makes, laid-out, picked, picked-out, reached-by, totalled, totalled-out, unmade, unmade-out}
-use Rattle.meaning.proofs.SmallTables.{bit-table-out, fewest-row-out, full-table-out, isBitTable, isFewestRow, isFullTable, isRow, isWaysRow, row-out, ways-row-out}
+use Rattle.meaning.proofs.Small.{counted-out, isCounted, isLaid, isSelection, laid-makes, laid-out, picked}
+use Rattle.meaning.proofs.Small.{picked-out, reached-by, totalled, totalled-out, unmade, unmade-out}
+use Rattle.meaning.proofs.SmallTables.{bit-table-out, fewest-row-out, full-table-out, isBitTable, isFewestRow}
+use Rattle.meaning.proofs.SmallTables.{isFullTable, isRow, isWaysRow, row-out, ways-row-out}
 use Rattle.meaning.proofs.Opens.{opens}
 use Rattle.meaning.proofs.Cases.{caseJ}
 
@@ -176,7 +179,8 @@ unmade-call : Solved unmade₅
     (lentOf (0 ∷ 4_294_967_295 ∷ 4_294_967_295 ∷ 4_294_967_295 ∷ 4_294_967_295 ∷ 1 ∷ 4_294_967_295 ∷ 4_294_967_295 ∷ 7 ∷ []) (8 ∷ []) (6 ∷ 6 ∷ []))
 unfolding call
 unmade-call =
-    leaves fewest-blocks unmade₅ (lentOf (0 ∷ 4_294_967_295 ∷ 4_294_967_295 ∷ 4_294_967_295 ∷ 4_294_967_295 ∷ 1 ∷ 4_294_967_295 ∷ 4_294_967_295 ∷ []) [] [])
+    leaves fewest-blocks unmade₅
+    (lentOf (0 ∷ 4_294_967_295 ∷ 4_294_967_295 ∷ 4_294_967_295 ∷ 4_294_967_295 ∷ 1 ∷ 4_294_967_295 ∷ 4_294_967_295 ∷ []) [] [])
     unmade-answer unmade-row refl refl refl refl refl
 
 -- ---- kind 6: H's first job
@@ -224,7 +228,8 @@ module _ (j : Job) (i a : ℕ) where
 
 module _ (j : Job) where
   -- one less than 2^64 - 1 is answered
-  one-less-answered : WaysFor j (labels j) (j .budget) 18_446_744_073_709_551_614 → Gives block-ways j (answerNumbers (Says.Ways 18_446_744_073_709_551_614)) []
+  one-less-answered : WaysFor j (labels j) (j .budget) 18_446_744_073_709_551_614
+      → Gives block-ways j (answerNumbers (Says.Ways 18_446_744_073_709_551_614)) []
   unfolding call
   one-less-answered h = record { ways = 18_446_744_073_709_551_614; how-many = h; numbers = refl; none-written = refl }
 

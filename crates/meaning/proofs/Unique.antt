@@ -19,7 +19,8 @@ use Rattle.meaning.specs.Job.{Job, Kind, Knapsack, kindOf}
 use Rattle.meaning.specs.Lent.{Lent, Room, roomFor}
 use Rattle.meaning.specs.Refusals.{kindRefusal}
 use Rattle.meaning.specs.Bytes.{JobRead, readJob, readable, unreadable}
-use Rattle.meaning.specs.Answers.{Which, is-refusal, is-knapsack, is-sums, is-blocks, is-ways, is-shares, AnswerNumbers, answerNumbers, VerdictNumbers, verdictNumbers, WrittenNumbers, writtenNumbers}
+use Rattle.meaning.specs.Answers.{Which, is-refusal, is-knapsack, is-sums, is-blocks, is-ways, is-shares}
+use Rattle.meaning.specs.Answers.{AnswerNumbers, answerNumbers, VerdictNumbers, verdictNumbers, WrittenNumbers, writtenNumbers}
 use Rattle.meaning.specs.Solved.{Answered, Outcome, Solved, SolvedAs, SolvedBytes, SolvedLists, SolvedRead, TableHolds, TurnedDown}
 use Rattle.meaning.specs.Certificates.{Checked}
 use Rattle.meaning.specs.Writer.{Writes, WritesBytes, WritesRead, WritesAs}
@@ -77,11 +78,13 @@ pub record One (a a′ : Answer) (t t′ : Lent) : Type 0 where
 as-one : {a a′ : Answer} {t t′ : Lent} → (answerNumbers a ≡ answerNumbers a′) × (t ≡ t′) → One a a′ t t′
 as-one e = record { answer = answer-numbers-unique (e .0); left = e .1 }
 
-sized : {room : Room} {table : Lent → Type 0} {k : Kind} {j : Job} {before t : Lent} {s : AnswerNumbers} → (a : Answered room table k j before s t) → Sized room (a .content)
+sized : {room : Room} {table : Lent → Type 0} {k : Kind} {j : Job} {before t : Lent} {s : AnswerNumbers} → (a : Answered room table k j before s t)
+    → Sized room (a .content)
 sized a = record { cells = a .cells-needed; words = a .words-needed }
 
 -- what stood in the lent slices has no influence: two calls on an accepted job, whatever the slices held before, say the same and write the same
-pub no-influence : {room : Room} {table : Lent → Type 0} (k : Kind) (j : Job) (before before′ t t′ : Lent) (s s′ : AnswerNumbers) → OneTable room table
+pub no-influence : {room : Room} {table : Lent → Type 0} (k : Kind) (j : Job) (before before′ t t′ : Lent) (s s′ : AnswerNumbers)
+    → OneTable room table
     → (a : Answered room table k j before s t) (b : Answered room table k j before′ s′ t′) → (s ≡ s′) × (a .content ≡ b .content)
 unfolding OneTable
 no-influence k j before before′ t t′ s s′ one-table a b =
@@ -135,7 +138,8 @@ pub no-second-choice : (j : Job) (before t t′ : Lent) (a a′ : Answer) → So
 unfolding Solved
 no-second-choice j before t t′ a a′ x y = lists-unique roomFor TableHolds table-unique j before t t′ a a′ x y
 
-pub no-second-choice-bytes : (bytes : List ℕ) (before t t′ : Lent) (a a′ : Answer) → SolvedBytes bytes before a t → SolvedBytes bytes before a′ t′ → One a a′ t t′
+pub no-second-choice-bytes : (bytes : List ℕ) (before t t′ : Lent) (a a′ : Answer) → SolvedBytes bytes before a t → SolvedBytes bytes before a′ t′
+    → One a a′ t t′
 unfolding SolvedBytes
 no-second-choice-bytes bytes before t t′ a a′ x y = read-unique roomFor TableHolds table-unique (readJob bytes) before t t′ a a′ x y
 
@@ -154,7 +158,8 @@ pub record OneWriting (a a′ : Written) (after after′ : List ℕ) : Type 0 wh
 
 writes-as-unique : {r n : ℕ} {certB before after after′ : List ℕ} {a a′ : Written}
     → WritesAs r n certB before a after → WritesAs r n certB before a′ after′ → OneWriting a a′ after after′
-writes-as-unique {a = a} {a′ = a′} x y = record { answer = written-numbers-unique a a′ (x .numbers ∙ sym (y .numbers)); left = holds-unique _ _ _ _ _ refl (x .leaves) (y .leaves) }
+writes-as-unique {a = a} {a′ = a′} x y =
+    record { answer = written-numbers-unique a a′ (x .numbers ∙ sym (y .numbers)); left = holds-unique _ _ _ _ _ refl (x .leaves) (y .leaves) }
 
 pub no-second-writing : (j : Job) (picks cells before after after′ : List ℕ) (a a′ : Written)
     → Writes j picks cells before a after → Writes j picks cells before a′ after′ → OneWriting a a′ after after′
@@ -200,7 +205,8 @@ pub record OneWritingCall (r r′ bytes bytes′ : ℕ) (after after′ : List �
   pub left : after ≡ after′
 
 pub one-host-writing : (jobB picks cells before after after′ : List ℕ) (r r′ bytes bytes′ : ℕ)
-    → WritesHost jobB picks cells before r bytes after → WritesHost jobB picks cells before r′ bytes′ after′ → OneWritingCall r r′ bytes bytes′ after after′
+    → WritesHost jobB picks cells before r bytes after → WritesHost jobB picks cells before r′ bytes′ after′
+    → OneWritingCall r r′ bytes bytes′ after after′
 one-host-writing jobB picks cells before after after′ r r′ bytes bytes′ x y =
     let one = no-second-writing-bytes jobB picks cells before after after′ (x .answer) (y .answer) (x .writes) (y .writes) in
     let wrote : writtenNumbers (x .answer) ≡ writtenNumbers (y .answer) = ap writtenNumbers (one .answer) in

@@ -1,6 +1,6 @@
--- The versions that document 01 names, each shown not to keep the promise, by every door: a planner that refuses everything, answers 0 or writes no cells; and a
--- checker that accepts everything, or refuses everything. Each goes wrong on requests that aren't to be refused, and may do right on all others. (Held has the laws
--- over every job; by them totals, ways and spare can't be invented.)
+-- The versions that document 01 names, each shown not to keep the promise, by every door: a planner that refuses everything, answers 0 or writes no
+-- cells; and a checker that accepts everything, or refuses everything. Each goes wrong on requests that aren't to be refused, and may do right on all
+-- others. (Held has the laws over every job; by them totals, ways and spare can't be invented.)
 -- Assumes nothing.
 use mathlib.Core.Path.{_∙_, _≡_, ap, refl, subst, sym}
 use Prim.Native.Nat.{ℕ, _≤_}
@@ -37,8 +37,8 @@ use Rattle.meaning.proofs.Held.{refused-only, trial-says, tried-back, t
 
 -- ---- a version by any door
 
--- a door in its own words: what a call hands in and gets back, and what is promised of it; which job a call asks for, and the slices that the planner is lent
--- then; and of what comes back, that it is a refusal, and that the first number of an answer of kind k is 0
+-- a door in its own words: what a call hands in and gets back, and what is promised of it; which job a call asks for, and the slices that the planner
+-- is lent then; and of what comes back, that it is a refusal, and that the first number of an answer of kind k is 0
 pub record Door : Type 1 where
   pub Call : Type 0
   pub Given : Type 0
@@ -133,9 +133,11 @@ module _ (d : Door) (Shown : Job → d .Given → Answer → Lent → Type 0)
   unfolding Never
   shut-out k c asks ok =
       let asked : Asked d k c = record { job = tried k .job; asks-for = asks; unrefused = ok } in
-      let shown : (v : Version d) → (left : Lent) × Shown (tried k .job) (v .gives c) (tried k .answer) left = λ v. tried-shown k c (v .gives c) asks ok (v .keeps c) in
+      let shown : (v : Version d) → (left : Lent) × Shown (tried k .job) (v .gives c) (tried k .answer) left =
+      λ v. tried-shown k c (v .gives c) asks ok (v .keeps c) in
       record {
-        refuses-everything = λ v all. let (left, s) = shown v in not-refused k (refusal-shown (tried k .job) (v .gives c) (tried k .answer) left s (all c asked));
+        refuses-everything =
+            λ v all. let (left, s) = shown v in not-refused k (refusal-shown (tried k .job) (v .gives c) (tried k .answer) left s (all c asked));
         refuses-late =
             λ v c′ a refused.
             let x = shows c′ (v .gives c′) (a .job) (a .asks-for) (v .keeps c′) in
@@ -151,11 +153,14 @@ unfolding Holds
 first-held new old now h some = ap (λ (l : List ℕ). at l 0) h ∙ List·getD-append new (drop (length new) old) 0 0 some
 
 -- a table that is as it was has x in its first place
-as-it-was : (k : Kind) (has : ¬ (k ≡ sharing)) (x : ℕ) {left : Lent} {s : AnswerNumbers} (y : Answered (roomFor k (tried k .job)) (TableHolds k (tried k .job)) k (tried k .job) (filled x k) s left)
+as-it-was : (k : Kind) (has : ¬ (k ≡ sharing)) (x : ℕ) {left : Lent} {s : AnswerNumbers}
+    (y : Answered (roomFor k (tried k .job)) (TableHolds k (tried k .job)) k (tried k .job) (filled x k) s left)
     → tableOf k left ≡ tableOf k (filled x k) → at (tableOf k (y .content)) 0 ≡ x
-as-it-was k has x y kept = sym (first-held _ _ _ (table-left k y .held) (table-left k y .needed has)) ∙ ap (λ (l : List ℕ). at l 0) kept ∙ trial-facts k .first-filled has x
+as-it-was k has x y kept =
+    sym (first-held _ _ _ (table-left k y .held) (table-left k y .needed has)) ∙ ap (λ (l : List ℕ). at l 0) kept ∙ trial-facts k .first-filled has x
 
-not-both : (k : Kind) (has : ¬ (k ≡ sharing)) (left left′ : Lent) (a a′ : Answer) → Solved (tried k .job) (filled 0 k) a left → Solved (tried k .job) (filled 1 k) a′ left′
+not-both : (k : Kind) (has : ¬ (k ≡ sharing)) (left left′ : Lent) (a a′ : Answer) → Solved (tried k .job) (filled 0 k) a left
+    → Solved (tried k .job) (filled 1 k) a′ left′
     → tableOf k left ≡ tableOf k (filled 0 k) → ¬ (tableOf k left′ ≡ tableOf k (filled 1 k))
 not-both k has left left′ a a′ solved solved′ kept kept′ =
     let j = tried k .job in
@@ -166,14 +171,17 @@ not-both k has left left′ a a′ solved solved′ kept kept′ =
 
 -- both laws, for a door that gives the slices back, with a request that holds the trial of each kind
 module _ (l : LentDoor) (Shown : l .Reply → Answer → Type 0)
-    (shows : (r : l .Request) (before after : Lent) (x : l .Reply) (j : Job) → l .HoldsJob r j → l .Promise r before x after → (a : Answer) × Solved j before a after × Shown x a)
+    (shows : (r : l .Request) (before after : Lent) (x : l .Reply) (j : Job) → l .HoldsJob r j → l .Promise r before x after
+    → (a : Answer) × Solved j before a after × Shown x a)
     (refusal-shown : (x : l .Reply) (a : Answer) → Shown x a → l .Refuses x → Refusal a)
     (0-shown : (x : l .Reply) (a : Answer) → Shown x a → l .Answers0 x → First0 a)
     (ask : Kind → l .Request) (holds : (k : Kind) → l .HoldsJob (ask k) (tried k .job)) where
   by-answer : (k : Kind) → ShutOut (doorOf l) k
   by-answer k =
       shut-out (doorOf l) (λ j g a left. Shown (g .0) a)
-      (λ c g j asks kept. let (a, solved, shown) = shows (c .0) (c .1) (g .1) (g .0) j asks kept in record { answer = a; left = g .1; solved = solved; shown = shown })
+      (λ c g j asks kept.
+      let (a, solved, shown) = shows (c .0) (c .1) (g .1) (g .0) j asks kept in
+      record { answer = a; left = g .1; solved = solved; shown = shown })
       (λ j g a left. refusal-shown (g .0) a)
       (λ k′ g left shown is-0. omega (arith, trial-facts k′ .not-0, 0-shown (g .0) (tried k′ .answer) shown is-0))
       k (ask k, filled 0 k) (holds k) (trial-facts k .unrefused 0)
@@ -186,7 +194,8 @@ module _ (l : LentDoor) (Shown : l .Reply → Answer → Type 0)
     solves : (x : ℕ) → (a : Answer) × Solved (tried k .job) (filled x k) a (left-by x)
     unfolding left-by
     solves x =
-        let (a, solved, shown) = shows (ask k) (filled x k) (left-by x) (v .gives (ask k, filled x k) .0) (tried k .job) (holds k) (v .keeps (ask k, filled x k)) in
+        let (a, solved, shown) =
+        shows (ask k) (filled x k) (left-by x) (v .gives (ask k, filled x k) .0) (tried k .job) (holds k) (v .keeps (ask k, filled x k)) in
         (a, solved)
 
     writes : ¬ (k ≡ sharing) → ¬ ((c : doorOf l .Call) → Asked (doorOf l) k c → tableOf k (v .gives c .1) ≡ tableOf k (c .1))
@@ -204,7 +213,8 @@ module _ (l : LentDoor) (Shown : l .Reply → Answer → Type 0)
 
 -- a door whose reply is the answer itself
 abbrev pub answering : {Request : Type 0} → (Request → Lent → Answer → Lent → Type 0) → (Request → Job → Type 0) → LentDoor
-answering {Request} Promise HoldsJob = record { Request = Request; Reply = Answer; Promise = Promise; HoldsJob = HoldsJob; Refuses = Refusal; Answers0 = First0 }
+answering {Request} Promise HoldsJob =
+    record { Request = Request; Reply = Answer; Promise = Promise; HoldsJob = HoldsJob; Refuses = Refusal; Answers0 = First0 }
 
 module _ {Request : Type 0} (Promise : Request → Lent → Answer → Lent → Type 0) (HoldsJob : Request → Job → Type 0)
     (solves : (r : Request) (before after : Lent) (a : Answer) (j : Job) → HoldsJob r j → Promise r before a after → Solved j before a after)
@@ -223,7 +233,8 @@ ReadAs bytes j = readJob bytes ≡ readable j
 
 bytes-versions : (k : Kind) → LentShutOut (answering SolvedBytes ReadAs) k
 bytes-versions =
-    answering-versions SolvedBytes ReadAs (λ b before after a j reads kept. bytes-solved b j before after a reads kept) (λ k. jobBytes (tried k .job)) tried-back
+    answering-versions SolvedBytes ReadAs (λ b before after a j reads kept. bytes-solved b j before after a reads kept)
+    (λ k. jobBytes (tried k .job)) tried-back
 
 -- from C three numbers are given back; the first is a refusal's where it isn't 0
 pub record HostReply : Type 0 where
@@ -287,7 +298,8 @@ none-worth-most best = let three : 3 ≤ 0 = best .greatest (1 ∷ []) (best-J .
 
 -- one that looks at the list alone
 accepts-what-fits : (Check : List ℕ → List ℕ → Verdict → Type 0)
-    → ((jobB certB : List ℕ) (j : Job) (ok : ValidJob jobB j) → ListFits (ok .knapsack) j certB → (v : ℕ) × Check jobB certB (Accepted v)) → ¬ Demand3 Check
+    → ((jobB certB : List ℕ) (j : Job) (ok : ValidJob jobB j) → ListFits (ok .knapsack) j certB → (v : ℕ) × Check jobB certB (Accepted v))
+    → ¬ Demand3 Check
 unfolding valid-J
 accepts-what-fits Check all d =
     let (v, e) = all jobJ keepNone caseJ valid-J none-fits in

@@ -190,7 +190,8 @@ module _ (j : Job) where
     pub not-at-least : NoLower j (least + 1)
     unfolding spareOf sumOver labels countOf
     not-at-least = record {
-      enough = λ lower l. omega (arith, spare-few j (omega arith), tally-all (aheadIn j lower) n (λ i h. ahead-in lower i (omega (arith, least-or-more i h))));
+      enough =
+          λ lower l. omega (arith, spare-few j (omega arith), tally-all (aheadIn j lower) n (λ i h. ahead-in lower i (omega (arith, least-or-more i h))));
     }
 
     -- past the greatest stands none

@@ -42,7 +42,8 @@ member-within xs i h = omega (arith, sum-more xs i h, front-within xs (suc i))
 
 -- a list that holds a rule's number at each place
 made-of : (f : ℕ → ℕ) (n : ℕ) (xs : List ℕ) → length xs ≡ n → ((i : ℕ) → i < n → at xs i ≡ f i) → xs ≡ map f (upTo n)
-made-of f n xs long each = ext-getD 0 xs (map f (upTo n)) (long ∙ sym (made-length f n)) (λ i h. each i (omega arith) ∙ sym (made-at f n i (omega arith)))
+made-of f n xs long each =
+    ext-getD 0 xs (map f (upTo n)) (long ∙ sym (made-length f n)) (λ i h. each i (omega arith) ∙ sym (made-at f n i (omega arith)))
 
 -- ---- starts
 

@@ -87,7 +87,8 @@ fn write_starts(
 ) -> Leavings
     requires { ⌜ (claimed ≡ sum (listFrom (now weights) (now wbytes))) × (0 < claimed) ⌝ }
     requires { ⌜ length (now shares) ≡ length (listFrom (now weights) (now wbytes)) ⌝ }
-    ensures { λ r. ⌜ Leaves (claimsJob budget (now (weights .entry)) (now (wbytes .entry))) claimed (now (shares .exit)) (r .spare) (r .least) (r .greatest) ⌝ }
+    ensures { λ r. ⌜ Leaves (claimsJob budget (now (weights .entry)) (now (wbytes .entry)))
+        claimed (now (shares .exit)) (r .spare) (r .least) (r .greatest) ⌝ }
 {
     let mut spare = budget;
     let mut least = claimed;
@@ -198,7 +199,8 @@ fn reach_between(
     high: u64,
 ) -> Reach
     requires { ⌜ Started (claimsJob budget (now weights) (now wbytes)) claimed (now starts) × (low < high) ⌝ }
-    ensures { λ r. ⌜ Reaches (claimsJob budget (now (weights .entry)) (now (wbytes .entry))) (length (now (starts .entry))) low high (r .least) (r .greatest) ⌝ }
+    ensures { λ r. ⌜ Reaches (claimsJob budget (now (weights .entry)) (now (wbytes .entry)))
+        (length (now (starts .entry))) low high (r .least) (r .greatest) ⌝ }
 {
     let mut least = high;
     let mut greatest = low;
@@ -228,7 +230,8 @@ fn find_border(
     starts: &[u32],
     leavings: Leavings,
 ) -> Border
-    requires { ⌜ Leaves (claimsJob budget (now weights) (now wbytes)) claimed (now starts) (leavings .spare) (leavings .least) (leavings .greatest) ⌝ }
+    requires { ⌜ Leaves (claimsJob budget (now weights) (now wbytes))
+        claimed (now starts) (leavings .spare) (leavings .least) (leavings .greatest) ⌝ }
     requires { ⌜ 0 < leavings .spare ⌝ }
     ensures { λ r. ⌜ RunOut (claimsJob budget (now (weights .entry)) (now (wbytes .entry))) (r .remainder) (r .left) ⌝ }
 {

@@ -36,12 +36,14 @@ job s = claimsJob (s .args .budget) (s .args .weights .now) (s .args .wbytes .no
 abbrev among : tie.Start Inv-loop μ-loop → ℕ → ℕ
 among s i = tally (aheadIn (job s) (s .args .border)) (upTo i)
 
-more : (c : tie.After-ahead Inv-loop μ-loop) → let at-i = head (c .before) in at-i .loop .count + boolByte (c .ahead .result) ≡ among (entry at-i) (at-i .loop .i + 1)
+more : (c : tie.After-ahead Inv-loop μ-loop)
+    → let at-i = head (c .before) in at-i .loop .count + boolByte (c .ahead .result) ≡ among (entry at-i) (at-i .loop .i + 1)
 more c =
     let at-i = head (c .before) in
     let s = entry at-i in
     let rest = c .before .remainder-at in
-    ahead-more (job s) (s .args .border) (at-i .loop .i) (at-i .loop .count) (rest .result) (c .ahead .result) (c .ahead .ensures) (rest .ensures) (at-i .loop .inv .1)
+    ahead-more (job s) (s .args .border) (at-i .loop .i) (at-i .loop .count) (rest .result) (c .ahead .result) (c .ahead .ensures) (rest .ensures)
+    (at-i .loop .inv .1)
 
 loop-holds : tie.Need-loop-holds Inv-loop μ-loop
 unfolding tally upTo

@@ -26,7 +26,8 @@ unfolding jobOf
 over c =
     let s = entry c in
     let item = c .before .item in
-    over-claimed (job s) (s .args .i) (c .wide-product .result) (item .result) (s .args .claimed) (c .wide-product .ensures) (item .ensures) (s .pre .0 .0)
+    over-claimed (job s) (s .args .i) (c .wide-product .result) (item .result) (s .args .claimed) (c .wide-product .ensures) (item .ensures)
+    (s .pre .0 .0)
 
 item-requires : tie.Need-item-requires
 item-requires c κs = search needs

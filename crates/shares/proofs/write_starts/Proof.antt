@@ -48,7 +48,8 @@ unfolding jobOf
 over c =
     let s = entry (head c) in
     let item = c .before .item in
-    over-claimed (job s) (head c .loop .i) (c .wide-product .result) (item .result) (s .args .claimed) (c .wide-product .ensures) (item .ensures) (s .pre .0 .0)
+    over-claimed (job s) (head c .loop .i) (c .wide-product .result) (item .result) (s .args .claimed) (c .wide-product .ensures) (item .ensures)
+    (s .pre .0 .0)
 
 -- what the call of `start` leaves
 module _ (c : tie.After-start Inv-loop μ-loop) where
