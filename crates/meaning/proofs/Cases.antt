@@ -1,11 +1,26 @@
--- Jobs that several files try.
+-- Jobs that several files try; and each kind's trial, with what computing shows of it: a new kind has a line in `tried` and in `trial-facts`.
 -- Assumes nothing.
-use Prim.Native.Nat.{ℕ}
+use mathlib.Core.Path.{_≡_, refl}
+use mathlib.Core.Option.{some}
+use Prim.Native.Nat.{ℕ, _≤_, suc, zero}
 use mathlib.Core.Bool.{true}
 use mathlib.Core.List.{List, [], _∷_}
+use lib.Dec.{lit≤}
+use lib.ListN.{replicate}
 use Rattle.meaning.specs.declared.Answer.{Answer}
 use Rattle.meaning.specs.declared.Answer.the-variants.{Knapsack, Sums, Blocks, Ways, Shares}
-use Rattle.meaning.specs.Job.{Job, Kind, block-ways, fewest-blocks, free, jobOf, limited, once, packing, sharing, subset-sums}
+use Rattle.meaning.specs.Lists.{at}
+use Rattle.meaning.specs.Job.{Job, Kind, block-ways, fewest-blocks, free, jobOf, limited, once, packing, sharing, subset-sums, kindOf}
+use Rattle.meaning.specs.Lent.{Lent, lentOf, roomFor}
+use Rattle.meaning.specs.Refusals.{kindRefusal}
+use Rattle.meaning.specs.Bytes.{jobBytes, readJob, readable}
+use Rattle.meaning.specs.Answers.{answerNumbers}
+use Rattle.meaning.specs.Solved.{Unrefused}
+use Rattle.meaning.specs.Host.{firstNumber}
+use Rattle.meaning.specs.Trials.{AllGo, Goes, Trial, _and_, done, solve, trials}
+use Rattle.meaning.proofs.EachKind.{refusals, tableOf}
+use Rattle.meaning.proofs.Opens.{opens}
+use Rattle.meaning.proofs.Sixteen.{sixteen}
 
 -- a job with one budget
 abbrev pub plain : ℕ → ℕ → List ℕ → List ℕ → List ℕ → Job
@@ -42,3 +57,51 @@ tried subset-sums = record { job = plain 4 8 (3 ∷ 5 ∷ 9 ∷ []) [] []; answe
 tried fewest-blocks = record { job = plain 5 6 (1 ∷ 3 ∷ 4 ∷ []) [] []; answer = Blocks 2; picks = 0 ∷ 2 ∷ 0 ∷ [] }
 tried block-ways = record { job = plain 6 5 (1 ∷ 2 ∷ 5 ∷ []) [] []; answer = Ways 4; picks = [] }
 tried sharing = record { job = plain 7 10 (1 ∷ 1 ∷ 1 ∷ []) [] []; answer = Shares 1; picks = 4 ∷ 3 ∷ 3 ∷ [] }
+
+-- ---- what is shown of the trial of each kind
+
+-- the trial at a place of a list of them all
+unfoldable GoesAt : List Trial → ℕ → Type 0
+GoesAt [] i = Unit
+GoesAt (t ∷ ts) zero = Goes t
+GoesAt (t ∷ ts) (suc i) = GoesAt ts i
+
+goes-at : {ts : List Trial} (i : ℕ) → AllGo ts → GoesAt ts i
+unfolding GoesAt
+goes-at i done = tt
+goes-at zero (g and gs) = g
+goes-at (suc i) (g and gs) = goes-at i gs
+
+-- slices with just the room that the trial of kind k needs, and x in every place
+unfoldable pub filled : ℕ → Kind → Lent
+filled x k =
+    let room = roomFor k (tried k .job) in
+    lentOf (replicate (room .cells) x) (replicate (room .words) x) (replicate (room .picks) x)
+
+-- it goes as the sixteen say, and is read back from its bytes; its answer is no refusal, and its first number isn't 0; with `filled` slices it isn't
+-- refused, and its table, where the kind has one, begins with what they are filled with
+pub record TrialFacts (k : Kind) : Type 0 where
+  pub goes : Goes (solve (tried k .job) (tried k .answer) (tried k .picks))
+  pub back : readJob (jobBytes (tried k .job)) ≡ readable (tried k .job)
+  pub no-refusal : refusals (answerNumbers (tried k .answer) .case) ≡ 0
+  pub not-0 : 1 ≤ firstNumber (answerNumbers (tried k .answer))
+  pub unrefused : (x : ℕ) → Unrefused k (tried k .job) (filled x k)
+  pub first-filled : ¬ (k ≡ sharing) → (x : ℕ) → at (tableOf k (filled x k)) 0 ≡ x
+
+unrefused-by : {k : Kind} {j : Job} {lent : Lent} → kindOf (j .kind-number) ≡ some k → kindRefusal (roomFor k j) k j lent ≡ 0 → Unrefused k j lent
+unrefused-by e f = record { of-kind = e; no-refusal = f }
+
+facts-by : {k : Kind} → Goes (solve (tried k .job) (tried k .answer) (tried k .picks)) → readJob (jobBytes (tried k .job)) ≡ readable (tried k .job)
+    → refusals (answerNumbers (tried k .answer) .case) ≡ 0 → 1 ≤ firstNumber (answerNumbers (tried k .answer))
+    → ((x : ℕ) → Unrefused k (tried k .job) (filled x k)) → (¬ (k ≡ sharing) → (x : ℕ) → at (tableOf k (filled x k)) 0 ≡ x) → TrialFacts k
+facts-by g b r n u f = record { goes = g; back = b; no-refusal = r; not-0 = n; unrefused = u; first-filled = f }
+
+pub trial-facts : (k : Kind) → TrialFacts k
+unfolding opens trials GoesAt refusals firstNumber filled tableOf
+trial-facts (packing once) = facts-by (goes-at 0 sixteen) refl refl (lit≤ tt) (λ x. unrefused-by refl refl) (λ has x. refl)
+trial-facts (packing limited) = facts-by (goes-at 3 sixteen) refl refl (lit≤ tt) (λ x. unrefused-by refl refl) (λ has x. refl)
+trial-facts (packing free) = facts-by (goes-at 4 sixteen) refl refl (lit≤ tt) (λ x. unrefused-by refl refl) (λ has x. refl)
+trial-facts subset-sums = facts-by (goes-at 6 sixteen) refl refl (lit≤ tt) (λ x. unrefused-by refl refl) (λ has x. refl)
+trial-facts fewest-blocks = facts-by (goes-at 8 sixteen) refl refl (lit≤ tt) (λ x. unrefused-by refl refl) (λ has x. refl)
+trial-facts block-ways = facts-by (goes-at 10 sixteen) refl refl (lit≤ tt) (λ x. unrefused-by refl refl) (λ has x. refl)
+trial-facts sharing = facts-by (goes-at 12 sixteen) refl refl (lit≤ tt) (λ x. unrefused-by refl refl) (λ has x. absurd (has refl))

@@ -20,7 +20,8 @@ use Rattle.meaning.specs.Refusals.{rulesOf}
 use Rattle.meaning.specs.Bytes.{JobRead, bytesOf, bytesOfAll, readJob, readable, sectionBytes, unreadable}
 use Rattle.meaning.specs.Knapsacks.{Best, Fits, FullTable, cellNumber}
 use Rattle.meaning.specs.Answers.{verdictNumbers}
-use Rattle.meaning.specs.Certificates.{certifiedRefusal, cellAt, lowCell, misvalued, mostPicks, overPicked, overweight, tooLow, verdictOf, verdictOnJob, certifiedAs, certifiedKnapsack, Checked}
+use Rattle.meaning.specs.Certificates.{certifiedRefusal, cellAt, lowCell, misvalued, mostPicks, overPicked, overweight}
+use Rattle.meaning.specs.Certificates.{tooLow, verdictOf, verdictOnJob, certifiedAs, certifiedKnapsack, Checked}
 use Rattle.meaning.specs.Demands.{AcceptedWith, Accepts, BestList, Demand3, Sound, ValidJob, areBytes, listIn}
 use Rattle.meaning.proofs.Totals.{total-part}
 use Rattle.meaning.proofs.CellNumbers.{RowAndBudget, CellOf, row-and-budget, cell-of}
@@ -30,7 +31,8 @@ use Rattle.meaning.proofs.Sections.{All32, limit32}
 use Rattle.meaning.proofs.Valid.{is-valid, Passed, Valid, cells-32, labels-32, has-passed}
 use Rattle.meaning.proofs.Covering.{CountsShown, covered, exact-keeps, once-shown}
 use Rattle.meaning.proofs.FullTables.{full-long, full-table, fullCells, table-32}
-use Rattle.meaning.proofs.Verdicts.{ReadAndSeen, Seen, accepts-seen, first-none, list-written, none-first, on-readable, on-unreadable, read-and-seen, readable-on, verdict-written}
+use Rattle.meaning.proofs.Verdicts.{ReadAndSeen, Seen, accepts-seen, first-none, list-written, none-first}
+use Rattle.meaning.proofs.Verdicts.{on-readable, on-unreadable, read-and-seen, readable-on, verdict-written}
 
 -- ---- a job that a certificate may be for
 
@@ -80,11 +82,13 @@ module _ (k : Knapsack) (j : Job) (shown : CountsShown k j) (picks cells : List 
       let here : CellOf j (suc i) c = cell-of j (suc i) c hi hc in
       let m : ℕ = cellNumber j (suc i) c in
       subst (λ (y : ℕ). T (not (tooLow j cells (suc i) y))) (here .column)
-      (subst (λ (x : ℕ). T (not (tooLow j cells x (m % (j .budget + 1))))) (here .row) (first-none lowAt (cellCount j) (s .rule-kept) m (here .inside))) in
+      (subst (λ (x : ℕ). T (not (tooLow j cells x (m % (j .budget + 1))))) (here .row)
+      (first-none lowAt (cellCount j) (s .rule-kept) m (here .inside))) in
       let fits : Fits k j (labels j) (j .budget) picks = record {
         selection = record {
           one-each = long;
-          allowed = λ m h. shown .allowed m (at picks m) (ltb-no (first-none (λ i. ltb (mostPicks j i) (at picks i)) (labels j) (s .within-counts) m h));
+          allowed =
+              λ m h. shown .allowed m (at picks m) (ltb-no (first-none (λ i. ltb (mostPicks j i) (at picks i)) (labels j) (s .within-counts) m h));
         };
         weight = omega (arith, ltb-false, s .light);
       } in
@@ -95,13 +99,17 @@ module _ (k : Knapsack) (j : Job) (shown : CountsShown k j) (picks cells : List 
   unfolding overPicked overweight lowCell misvalued FullTable cellAt
   best-seen best table =
       let corner : cellAt j cells (labels j) (j .budget) ≡ total (j .values) picks =
-      best-value-unique (table (labels j) (j .budget) (le-refl (labels j)) (le-refl (j .budget))) (record { picks = picks; best = best; value = refl }) in
+      best-value-unique (table (labels j) (j .budget) (le-refl (labels j)) (le-refl (j .budget)))
+      (record { picks = picks; best = best; value = refl }) in
       record {
         within-counts = none-first (λ i. ltb (mostPicks j i) (at picks i)) (labels j)
-            (λ i h. no-ltb (shown .within i (at picks i) (best .fits .selection .allowed i h) (le-trans (total-part (j .weights) picks i) (best .fits .weight))));
+            (λ i h.
+            no-ltb (shown .within i (at picks i) (best .fits .selection .allowed i h) (le-trans (total-part (j .weights) picks i) (best .fits .weight))));
         light = le-ltb (j .budget) (total (j .weights) picks) (best .fits .weight);
         rule-kept = none-first lowAt (cellCount j)
-            (λ m h. let here : RowAndBudget j m = row-and-budget j m h in exact-keeps k j shown cells table (m / (j .budget + 1)) (m % (j .budget + 1)) (here .row) (here .column));
+            (λ m h.
+            let here : RowAndBudget j m = row-and-budget j m h in
+            exact-keeps k j shown cells table (m / (j .budget + 1)) (m % (j .budget + 1)) (here .row) (here .column));
         same = ap not (eq-eqb (cellAt j cells (labels j) (j .budget)) (total (j .values) picks) corner);
         value = refl;
       }
@@ -111,7 +119,8 @@ pub picks-32 : (k : Knapsack) (j : Job) → CountsShown k j → (picks : List �
 unfolding All32
 picks-32 k j shown picks best m h =
     let m′ : m < labels j = omega (arith, best .fits .selection .one-each) in
-    omega (arith, shown .within m (at picks m) (best .fits .selection .allowed m m′) (le-trans (total-part (j .weights) picks m) (best .fits .weight)), shown .narrow m)
+    let light = le-trans (total-part (j .weights) picks m) (best .fits .weight) in
+    omega (arith, shown .within m (at picks m) (best .fits .selection .allowed m m′) light, shown .narrow m)
 
 -- ---- written as bytes
 
@@ -197,7 +206,8 @@ module _ (jobB : List ℕ) (j : Job) (job-ok : ValidJob jobB j) (p : List ℕ) w
   only-when : Accepts Checked jobB p → BestList k j p
   unfolding BestList
   only-when a =
-      let (ok, judged) = on-readable j (a .certB) (a .value) (sym (on-job (a .certB)) ∙ verdict-is jobB (a .certB) (Accepted (a .value)) (a .accepted .verdict)) in
+      let (ok, judged) =
+      on-readable j (a .certB) (a .value) (sym (on-job (a .certB)) ∙ verdict-is jobB (a .certB) (Accepted (a .value)) (a .accepted .verdict)) in
       let s : ReadAndSeen j (a .certB) (a .value) = read-and-seen j (a .certB) (a .value) judged in
       subst (λ (q : List ℕ). Best k j (labels j) (j .budget) q) (a .with-list)
       (seen-best k j shown-here (listIn (a .certB)) (s .cells) (a .value) (s .long) (s .judged))

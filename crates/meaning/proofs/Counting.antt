@@ -5,7 +5,8 @@ use mathlib.Core.Logic.{_⊎_, inl, inr}
 use Prim.Native.Nat.{ℕ, suc, _+_, _≤_, zero-le}
 use native.Mathlib.Nat.{le-antisymm}
 use native.Mathlib.Omega.{arith}
-use mathlib.Core.List.{List, [], _∷_, _++_, map, List·Memᴰ, List·Memᴰ·head, List·Memᴰ·tail, List·Memᴰ·not-nil, List·Memᴰ·cases-cons, List·Memᴰ·append-cases, Memᴰ·append-left, Memᴰ·append-right, Memᴰ·cast, Memᴰ·map, Memᴰ·of-map}
+use mathlib.Core.List.{List, [], _∷_, _++_, map, List·Memᴰ, List·Memᴰ·head, List·Memᴰ·tail, List·Memᴰ·not-nil, List·Memᴰ·cases-cons}
+use mathlib.Core.List.{List·Memᴰ·append-cases, Memᴰ·append-left, Memᴰ·append-right, Memᴰ·cast, Memᴰ·map, Memᴰ·of-map}
 use lib.ListN.{length, length-append, length-map}
 use Rattle.meaning.specs.Counting.{Distinct, Counted}
 
@@ -20,7 +21,8 @@ counted-iff c f g = record {
 }
 
 -- without repetition: what a function that is one to one on such a list makes of it
-pub distinct-map : {A B : Type 0} (f : A → B) (xs : List A) → ((a b : A) → List·Memᴰ a xs → List·Memᴰ b xs → f a ≡ f b → a ≡ b) → Distinct xs → Distinct (map f xs)
+pub distinct-map : {A B : Type 0} (f : A → B) (xs : List A) → ((a b : A) → List·Memᴰ a xs → List·Memᴰ b xs → f a ≡ f b → a ≡ b) → Distinct xs
+    → Distinct (map f xs)
 unfolding Distinct
 distinct-map f [] one d = tt
 distinct-map f (x ∷ xs) one d = (
@@ -29,7 +31,8 @@ distinct-map f (x ∷ xs) one d = (
 )
 
 -- and two such lists that share no member, one after the other
-pub distinct-append : {A : Type 0} (xs ys : List A) → Distinct xs → Distinct ys → ((a : A) → List·Memᴰ a xs → List·Memᴰ a ys → ⊥) → Distinct (xs ++ ys)
+pub distinct-append : {A : Type 0} (xs ys : List A) → Distinct xs → Distinct ys → ((a : A) → List·Memᴰ a xs → List·Memᴰ a ys → ⊥)
+    → Distinct (xs ++ ys)
 unfolding Distinct
 distinct-append [] ys d e apart = e
 distinct-append (x ∷ xs) ys d e apart = (
@@ -49,7 +52,8 @@ counted-through f one c = record {
 }
 
 -- where nothing has both, those with P or Q are as many as those with P and those with Q together
-pub counted-either : {A : Type 0} {P Q : A → Type 0} {n m : ℕ} → ((a : A) → P a → Q a → ⊥) → Counted P n → Counted Q m → Counted (λ (a : A). P a ⊎ Q a) (n + m)
+pub counted-either : {A : Type 0} {P Q : A → Type 0} {n m : ℕ} → ((a : A) → P a → Q a → ⊥) → Counted P n → Counted Q m
+    → Counted (λ (a : A). P a ⊎ Q a) (n + m)
 counted-either apart c d = record {
   those = c .those ++ d .those;
   distinct = distinct-append (c .those) (d .those) (c .distinct) (d .distinct) (λ a h k. apart a (c .no-others a h) (d .no-others a k));
@@ -68,8 +72,15 @@ taken-out (y ∷ ys) m =
     elim (List·Memᴰ·cases-cons m) [
       | inl e ↦ (ys, refl, λ a m′. elim (List·Memᴰ·cases-cons m′) [ inl e′ ↦ inl (e′ ∙ sym e) | inr k ↦ inr k ])
       | inr m₁ ↦
-          let (zs, l, f) = taken-out ys m₁ in
-          (y ∷ zs, ap suc l, λ a m′. elim (List·Memᴰ·cases-cons m′) [ inl e ↦ inr (List·Memᴰ·head e) | inr k ↦ elim (f a k) [ inl e ↦ inl e | inr k′ ↦ inr (List·Memᴰ·tail k′) ] ])
+          let (zs, l, f) = taken-out ys m₁ in (
+            y ∷ zs,
+            ap suc l,
+            λ a m′.
+                elim (List·Memᴰ·cases-cons m′) [
+                  | inl e ↦ inr (List·Memᴰ·head e)
+                  | inr k ↦ elim (f a k) [ inl e ↦ inl e | inr k′ ↦ inr (List·Memᴰ·tail k′) ]
+                ],
+          )
     ]
 
 -- without x, ys still holds what follows x in a list without repetition that it held
@@ -100,5 +111,6 @@ fills (x ∷ xs) ys d h long a m =
 pub counted-unique : {A : Type 0} {P : A → Type 0} {n m : ℕ} → Counted P n → Counted P m → n ≡ m
 counted-unique c d =
     sym (c .size)
-    ∙ le-antisymm (fewer (c .those) (d .those) (c .distinct) (λ a h. d .them-all a (c .no-others a h))) (fewer (d .those) (c .those) (d .distinct) (λ a h. c .them-all a (d .no-others a h)))
+    ∙ le-antisymm (fewer (c .those) (d .those) (c .distinct) (λ a h. d .them-all a (c .no-others a h)))
+    (fewer (d .those) (c .those) (d .distinct) (λ a h. c .them-all a (d .no-others a h)))
     ∙ d .size

@@ -84,13 +84,18 @@ module _ (k : Knapsack) (j : Job) (shown : CountsShown k j) (cells : List ℕ) w
     covers zero c hi hc q f = le-trans (le-of-eq (ap (total (j .values)) (empty-of q (f .selection .one-each)) ∙ total-none (j .values))) zero-le
     covers (suc i) c hi hc q f =
         let (p, x, whole, may, heavy, f′) = fits-less k j i c q f in
-        let worth : total (j .values) q ≡ total (j .values) p + at (j .values) i * x = ap (total (j .values)) whole ∙ total-with (j .values) p x i (f′ .selection .one-each) in
-        let below : total (j .values) p ≤ cellAt j cells i (c - at (j .weights) i * x) = covers i (c - at (j .weights) i * x) (omega arith) (omega arith) p f′ in
-        omega (arith, not-below j cells i c x (no-count (mostPicks j i) (belowWith j cells i c) (rule i c hi hc) x (shown .within i x may (omega arith))) heavy)
+        let worth : total (j .values) q ≡ total (j .values) p + at (j .values) i * x =
+        ap (total (j .values)) whole ∙ total-with (j .values) p x i (f′ .selection .one-each) in
+        let below : total (j .values) p ≤ cellAt j cells i (c - at (j .weights) i * x) =
+        covers i (c - at (j .weights) i * x) (omega arith) (omega arith) p f′ in
+        let passed = no-count (mostPicks j i) (belowWith j cells i c) (rule i c hi hc) x (shown .within i x may (omega arith)) in
+        omega (arith, not-below j cells i c x passed heavy)
 
     -- and where K(n,C) is the value of picks that fit, they are best
-    pub covered : (p : List ℕ) → Fits k j (labels j) (j .budget) p → cellAt j cells (labels j) (j .budget) ≡ total (j .values) p → Best k j (labels j) (j .budget) p
-    covered p f e = record { fits = f; greatest = λ q g. le-trans (covers (labels j) (j .budget) (le-refl (labels j)) (le-refl (j .budget)) q g) (le-of-eq e) }
+    pub covered : (p : List ℕ) → Fits k j (labels j) (j .budget) p → cellAt j cells (labels j) (j .budget) ≡ total (j .values) p
+        → Best k j (labels j) (j .budget) p
+    covered p f e =
+        record { fits = f; greatest = λ q g. le-trans (covers (labels j) (j .budget) (le-refl (labels j)) (le-refl (j .budget)) q g) (le-of-eq e) }
 
   -- exact cells keep rule 14
   pub exact-keeps : FullTable k j cells → (i c : ℕ) → i ≤ labels j → c ≤ j .budget → T (not (tooLow j cells i c))
@@ -101,7 +106,8 @@ module _ (k : Knapsack) (j : Job) (shown : CountsShown k j) (cells : List ℕ) w
       (λ x h. below-not j cells i c x
       (λ heavy.
       let here : BestValue k j (suc i) c (cellAt j cells (suc i) c) = table (suc i) c hi hc in
-      let b : BestValue k j i (c - at (j .weights) i * x) (cellAt j cells i (c - at (j .weights) i * x)) = table i (c - at (j .weights) i * x) (omega arith) (omega arith) in
+      let b : BestValue k j i (c - at (j .weights) i * x) (cellAt j cells i (c - at (j .weights) i * x)) =
+      table i (c - at (j .weights) i * x) (omega arith) (omega arith) in
       let p : List ℕ = b .picks in
       let better : total (j .values) (p ++ (x ∷ [])) ≤ total (j .values) (here .picks) =
       here .best .greatest (p ++ (x ∷ [])) (fits-more k j i c p x (shown .allowed i x h) heavy (b .best .fits)) in

@@ -17,7 +17,8 @@ use Rattle.meaning.specs.Lists.{if}
 use Rattle.meaning.specs.Job.{Job}
 use Rattle.meaning.specs.Bytes.{JobRead, atEnd, readJob, readable, unreadable, withSection}
 use Rattle.meaning.specs.Answers.{verdictNumbers}
-use Rattle.meaning.specs.Certificates.{Checked, certificateBroken, certifiedRefusal, unlessFound, unlessRefused, verdictOf, verdictOnCells, verdictOnCertificate, verdictOnJob}
+use Rattle.meaning.specs.Certificates.{Checked, certificateBroken, certifiedRefusal, unlessFound, unlessRefused}
+use Rattle.meaning.specs.Certificates.{verdictOf, verdictOnCells, verdictOnCertificate, verdictOnJob}
 use Rattle.meaning.specs.Host.{refusalNumber, valueOrPlace}
 
 -- ---- no verdict refuses with 0
@@ -41,7 +42,8 @@ unfolding unlessRefused
 on-refusal zero next h = h
 on-refusal (suc r) next h = refuses r 0
 
-on-section : (b : List ℕ) (s : Section) (readOn : List ℕ → ℕ → Verdict) → ((ns : List ℕ) (p : ℕ) → Numbered (readOn ns p)) → Numbered (withSection b s certificateBroken readOn)
+on-section : (b : List ℕ) (s : Section) (readOn : List ℕ → ℕ → Verdict) → ((ns : List ℕ) (p : ℕ) → Numbered (readOn ns p))
+    → Numbered (withSection b s certificateBroken readOn)
 unfolding withSection certificateBroken
 on-section b (Part start count next) readOn h = h _ next
 on-section b (Broken place) readOn h = refuses 10 0

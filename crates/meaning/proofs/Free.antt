@@ -26,7 +26,8 @@ module _ (j : Job) (c : ℕ) (p : List ℕ) (m : ℕ) (h : m < labels j) where
   unfolding MayPick
   free-fewer some-of f =
       let long : length p ≡ labels j = f .selection .one-each in
-      let lighter : total (j .weights) (one-fewer p m) + at (j .weights) m ≡ total (j .weights) p = fewer-total (j .weights) p m (omega arith) some-of in (
+      let lighter : total (j .weights) (one-fewer p m) + at (j .weights) m ≡ total (j .weights) p =
+      fewer-total (j .weights) p m (omega arith) some-of in (
         omega (arith, f .weight),
         record { selection = record { one-each = length-fewer p m ∙ long; allowed = λ i k. tt }; weight = omega (arith, f .weight) },
       )

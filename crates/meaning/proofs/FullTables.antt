@@ -41,7 +41,8 @@ module _ (k : Knapsack) (j : Job) (shown : CountsShown k j) where
       -- at a budget, or at C where that is less
       let at-most : (c′ : ℕ) → (v : ℕ) × BestValue k j i (min c′ (j .budget)) v = λ c′. before (min c′ (j .budget)) (min-le-right c′ (j .budget)) in
       let row : ℕ → ℕ = λ c′. at-most c′ .0 in
-      let rows : (c′ : ℕ) → c′ ≤ c → BestValue k j i c′ (row c′) = λ c′ h. subst (λ (z : ℕ). BestValue k j i z (row c′)) (min-eq-left (omega arith)) (at-most c′ .1) in
+      let rows : (c′ : ℕ) → c′ ≤ c → BestValue k j i c′ (row c′) =
+      λ c′ h. subst (λ (z : ℕ). BestValue k j i z (row c′)) (min-eq-left (omega arith)) (at-most c′ .1) in
       let f : ℕ → ℕ = λ x. row (c - w * x) + at (j .values) i * x in
       let (x, h, light, most) = greatest-of f (λ x. decLe (w * x) c) (mostPicks j i) (omega (arith, mul-zero w)) in (
         f x,
@@ -75,7 +76,8 @@ module _ (k : Knapsack) (j : Job) (shown : CountsShown k j) where
       let m : ℕ = cellNumber j i c in
       subst (λ (v : ℕ). BestValue k j i c v) (sym (made-at bestAt (cellCount j) m (here .inside)))
       (subst (λ (y : ℕ). BestValue k j i y (bestAt m)) (here .column)
-      (subst (λ (x : ℕ). BestValue k j x (m % (j .budget + 1)) (bestAt m)) (here .row) (best-of (m / (j .budget + 1)) (m % (j .budget + 1)) (column-within m) .1)))
+      (subst (λ (x : ℕ). BestValue k j x (m % (j .budget + 1)) (bestAt m)) (here .row)
+      (best-of (m / (j .budget + 1)) (m % (j .budget + 1)) (column-within m) .1)))
 
 -- the cells of a full table fit 32 bits
 pub table-32 : (k : Knapsack) (j : Job) → Valid k j → (cells : List ℕ) → length cells ≡ cellCount j → FullTable k j cells → All32 cells

@@ -1,5 +1,6 @@
 -- Kinds 3 and 5: the picks are read off the table by taking, again and again, the first label in the order's turn that the best leaves.
--- Once over both kinds: P c holds the best lists for c, and a list of them that uses a label is, with one fewer of it, one of the best for what is left.
+-- Once over both kinds: P c holds the best lists for c, and a list of them that uses a label is, with one fewer of it, one of the best for what is
+-- left.
 -- Assumes nothing.
 use mathlib.Core.Path.{_≡_, sym, _∙_, subst}
 use mathlib.Core.Logic.{_⊎_, inl, inr}
@@ -30,8 +31,16 @@ no-worse-out last-is x y h = h
 
 three : {o : Order} → Most o → (a b : ℕ) → (Earlier o a b × (a ≡ b → ⊥)) ⊎ ((a ≡ b) ⊎ (Earlier o b a × (a ≡ b → ⊥)))
 unfolding Earlier
-three first-is a b = elim (decLe (suc a) b) [ yes h ↦ inl (h, λ e. omega arith) | no h ↦ elim (decLe (suc b) a) [ yes k ↦ inr (inr (k, λ e. omega arith)) | no k ↦ inr (inl (omega arith)) ] ]
-three last-is a b = elim (decLe (suc b) a) [ yes h ↦ inl (h, λ e. omega arith) | no h ↦ elim (decLe (suc a) b) [ yes k ↦ inr (inr (k, λ e. omega arith)) | no k ↦ inr (inl (omega arith)) ] ]
+three first-is a b =
+    elim (decLe (suc a) b) [
+      | yes h ↦ inl (h, λ e. omega arith)
+      | no h ↦ elim (decLe (suc b) a) [ yes k ↦ inr (inr (k, λ e. omega arith)) | no k ↦ inr (inl (omega arith)) ]
+    ]
+three last-is a b =
+    elim (decLe (suc b) a) [
+      | yes h ↦ inl (h, λ e. omega arith)
+      | no h ↦ elim (decLe (suc a) b) [ yes k ↦ inr (inr (k, λ e. omega arith)) | no k ↦ inr (inl (omega arith)) ]
+    ]
 
 module _ (o : Order) (most : Most o) (n : ℕ) (Here Left : List ℕ → Type 0) (m : ℕ) (m< : m < n)
     (long : (q : List ℕ) → Here q → length q ≡ n) (long′ : (q : List ℕ) → Left q → length q ≡ n)
@@ -63,7 +72,8 @@ module _ (o : Order) (most : Most o) (n : ℕ) (Here Left : List ℕ → Type 0)
             | no ne ↦ at-fewer-other q m l ne ∙ a l hl b ∙ at-more-other p m l ne
           ]))
 
-      settled : (i : ℕ) → i < n → (q : List ℕ) → Here q → ((l : ℕ) → l < n → Earlier o l i → at q l ≡ at (one-more p m) l) → NoWorse o (at (one-more p m) i) (at q i)
+      settled : (i : ℕ) → i < n → (q : List ℕ) → Here q → ((l : ℕ) → l < n → Earlier o l i → at q l ≡ at (one-more p m) l)
+          → NoWorse o (at (one-more p m) i) (at q i)
       settled i hi q hq a =
           no-worse-in most (at (one-more p m) i) (at q i)
           (elim (three most i m) [
@@ -71,7 +81,9 @@ module _ (o : Order) (most : Most o) (n : ℕ) (Here Left : List ℕ → Type 0)
             | inr (inl e) ↦
                 subst (λ (z : ℕ). at q z ≤ at (one-more p m) z) (sym e)
                 (elim (decLe 1 (at q m)) [
-                  | yes pos ↦ omega (arith, mine, at-fewer q m (omega (arith, long q hq)), subst (λ (z : ℕ). at (one-fewer q m) z ≤ at p z) e (below i hi q hq pos a))
+                  | yes pos ↦
+                      let least = subst (λ (z : ℕ). at (one-fewer q m) z ≤ at p z) e (below i hi q hq pos a) in
+                      omega (arith, mine, at-fewer q m (omega (arith, long q hq)), least)
                   | no none-of ↦ omega arith
                 ])
             | inr (inr (b, ne)) ↦

@@ -1,74 +1,35 @@
 -- What an answer is held to: each part of the promise as a law over every job that no refusal meets, and on the proved trials the answer itself.
 -- Assumes nothing.
 use mathlib.Core.Path.{_∙_, _≡_, ap, refl, subst, sym}
-use Prim.Native.Nat.{ℕ, zero, suc, _≤_}
-use native.Mathlib.Omega.{arith}
 use mathlib.Core.Option.{Option·some-injective}
+use Prim.Native.Nat.{ℕ, _≤_}
+use native.Mathlib.Omega.{arith}
 use mathlib.Core.Bool.{Bool, true, false}
 use mathlib.Core.List.{List, [], _∷_}
 use lib.Dec.{lit≤, ltb}
 use lib.ListN.{List·getD-append, drop, length}
-use borrow.Author.Tests.{ltb-false}
 use Rattle.meaning.specs.declared.Answer.{Answer}
 use Rattle.meaning.specs.declared.Answer.the-variants as Says
-use Rattle.meaning.specs.Lists.{at, if, sum, total}
+use Rattle.meaning.specs.Lists.{at, if, total}
 use Rattle.meaning.specs.Slices.{Holds}
-use Rattle.meaning.specs.Job.{Job, Kind, Knapsack, block-ways, fewest-blocks, free, labels, limited, once, packing, sharing, subset-sums}
+use Rattle.meaning.specs.Job.{Job, Kind, Knapsack, block-ways, labels, once, packing, sharing, subset-sums}
 use Rattle.meaning.specs.Lent.{Lent}
 use Rattle.meaning.specs.Bytes.{jobBytes, readJob, readable}
 use Rattle.meaning.specs.Knapsacks.{BestPicks, Fits, FullTable, ValueTable}
 use Rattle.meaning.specs.Sums.{TotalCount}
-use Rattle.meaning.specs.Blocks.{Makes, WaysFor, tooMany}
+use Rattle.meaning.specs.Blocks.{WaysFor, tooMany}
 use Rattle.meaning.specs.Shares.{spareOf}
-use Rattle.meaning.specs.Answers.{AnswerNumbers, Which, is-blocks, is-knapsack, is-refusal, is-shares, is-sums, is-ways, answerNumbers}
-use Rattle.meaning.specs.Solved.{Built, Gives, Solved, SolvedBytes, TableHolds, Unrefused, a-sum, no-such-sum, waysAnswer}
-use Rattle.meaning.specs.Trials.{AllGo, Goes, Trial, _and_, done, solve, trials}
+use Rattle.meaning.specs.Answers.{AnswerNumbers, answerNumbers}
+use Rattle.meaning.specs.Solved.{Gives, Solved, SolvedBytes, TableHolds, Unrefused, waysAnswer}
+use Rattle.meaning.specs.Trials.{Goes, solve}
 use Rattle.meaning.proofs.OneOfEach.{best-value-unique}
+use Rattle.meaning.proofs.EachKind.{Late, late, not-said, refusals}
 use Rattle.meaning.proofs.Laws.{bytes-solved, solved-says, unrefused-answered}
 use Rattle.meaning.proofs.Small.{picked, picked-out}
 use Rattle.meaning.proofs.Opens.{opens}
-use Rattle.meaning.proofs.Sixteen.{sixteen}
-use Rattle.meaning.proofs.Cases.{caseA, caseC, tried}
+use Rattle.meaning.proofs.Cases.{caseA, caseC, tried, trial-facts}
 
--- ---- a refusal, of a job that none of 2 to 6 and 9 meets: 'exactly when'
-
--- 7 where no list of blocks sums to C, 8 where the ways are too many to count, and no other
-unfoldable pub Late : Kind → Job → ℕ → Type 0
-Late (packing s) j r = ⊥
-Late subset-sums j r = ⊥
-Late fewest-blocks j r = (r ≡ 7) × ((q : List ℕ) → ¬ Makes j (labels j) (j .budget) q)
-Late block-ways j r = (r ≡ 8) × ((w : ℕ) × WaysFor j (labels j) (j .budget) w × (tooMany ≤ w))
-Late sharing j r = ⊥
-
--- 1 for a refusal, 0 for any other case
-unfoldable pub refusals : Which → ℕ
-refusals is-refusal = 1
-refusals is-knapsack = 0
-refusals is-sums = 0
-refusals is-blocks = 0
-refusals is-ways = 0
-refusals is-shares = 0
-
--- no other case says what a refusal says
-pub not-said : (r : ℕ) (a : Answer) → refusals (answerNumbers a .case) ≡ 0 → ¬ (answerNumbers (Says.Refused r) ≡ answerNumbers a)
-unfolding answerNumbers refusals
-not-said r a other e = let z : 1 ≡ refusals (answerNumbers a .case) = ap (λ (s : AnswerNumbers). refusals (s .case)) e in omega arith
-
-late-ways : (j : Job) (w r : ℕ) → WaysFor j (labels j) (j .budget) w → (b : Bool) → ltb w tooMany ≡ b
-    → answerNumbers (Says.Refused r) ≡ answerNumbers (if b (Says.Ways w) (Says.Refused 8)) → Late block-ways j r
-unfolding if Late answerNumbers refusals
-late-ways j w r ways true h e = absurd (not-said r (Says.Ways w) refl e)
-late-ways j w r ways false h e = (ap (λ (s : AnswerNumbers). s .refusal) e, (w, ways, omega (arith, ltb-false, h)))
-
-late : (k : Kind) (j : Job) (r : ℕ) (p : List ℕ) → Gives k j (answerNumbers (Says.Refused r)) p → Late k j r
-unfolding Gives Built waysAnswer Late answerNumbers refusals
-late (packing s) j r p g = not-said r (Says.Knapsack (total (j .values) p) (total (j .weights) p)) refl (g .numbers)
-late subset-sums j r p g = not-said r (Says.Sums (g .yes) (g .totals)) refl (g .numbers)
-late fewest-blocks j r p (a-sum makes laid e) = absurd (not-said r (Says.Blocks (sum p)) refl e)
-late fewest-blocks j r p (no-such-sum none e written) = (ap (λ (s : AnswerNumbers). s .refusal) e, none)
-late block-ways j r p g = late-ways j (g .ways) r (g .how-many) (ltb (g .ways) tooMany) refl (g .numbers)
-late sharing j r p g = not-said r (Says.Shares (spareOf j)) refl (g .numbers)
-
+-- the ways of an answer are those that were counted
 same-ways : (n w : ℕ) (b : Bool) → answerNumbers (Says.Ways n) ≡ answerNumbers (if b (Says.Ways w) (Says.Refused 8)) → n ≡ w
 unfolding if answerNumbers refusals
 same-ways n w true e = ap (λ (s : AnswerNumbers). s .ways) e
@@ -116,41 +77,16 @@ trial-says j a p (k′, m) k before after a′ ok h =
     let same : k ≡ k′ = Option·some-injective k k′ (sym (ok .of-kind) ∙ m .unrefused .of-kind) in
     solved-says k j before after a′ a p ok (subst (λ (x : Kind). Gives x j (answerNumbers a) p) (sym same) (m .answer)) h
 
--- the trial at a place of a list of them all
-unfoldable GoesAt : List Trial → ℕ → Type 0
-GoesAt [] i = Unit
-GoesAt (t ∷ ts) zero = Goes t
-GoesAt (t ∷ ts) (suc i) = GoesAt ts i
-
-goes-at : {ts : List Trial} (i : ℕ) → AllGo ts → GoesAt ts i
-unfolding GoesAt
-goes-at i done = tt
-goes-at zero (g and gs) = g
-goes-at (suc i) (g and gs) = goes-at i gs
-
 pub tried-goes : (k : Kind) → Goes (solve (tried k .job) (tried k .answer) (tried k .picks))
-unfolding trials GoesAt
-tried-goes (packing once) = goes-at 0 sixteen
-tried-goes (packing limited) = goes-at 3 sixteen
-tried-goes (packing free) = goes-at 4 sixteen
-tried-goes subset-sums = goes-at 6 sixteen
-tried-goes fewest-blocks = goes-at 8 sixteen
-tried-goes block-ways = goes-at 10 sixteen
-tried-goes sharing = goes-at 12 sixteen
+tried-goes k = trial-facts k .goes
 
 -- each trial is read back from its bytes
 pub tried-back : (k : Kind) → readJob (jobBytes (tried k .job)) ≡ readable (tried k .job)
-unfolding opens
-tried-back (packing once) = refl
-tried-back (packing limited) = refl
-tried-back (packing free) = refl
-tried-back subset-sums = refl
-tried-back fewest-blocks = refl
-tried-back block-ways = refl
-tried-back sharing = refl
+tried-back k = trial-facts k .back
 
 -- so whoever solves the bytes of one answers it
-pub tried-says : (k : Kind) (before after : Lent) (a : Answer) → Unrefused k (tried k .job) before → SolvedBytes (jobBytes (tried k .job)) before a after
+pub tried-says : (k : Kind) (before after : Lent) (a : Answer) → Unrefused k (tried k .job) before
+    → SolvedBytes (jobBytes (tried k .job)) before a after
     → (a ≡ tried k .answer) × Holds (tried k .picks) (before .picks) (after .picks)
 tried-says k before after a ok h =
     trial-says (tried k .job) (tried k .answer) (tried k .picks) (tried-goes k) k before after a ok

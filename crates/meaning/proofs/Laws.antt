@@ -12,14 +12,18 @@ use lib.Seq.{take-at}
 use Rattle.meaning.specs.declared.Answer.{Answer}
 use Rattle.meaning.specs.declared.Answer.the-variants as Says
 use Rattle.meaning.specs.Slices.{Holds}
-use Rattle.meaning.specs.Job.{Job, Kind, once, limited, free, packing, subset-sums, fewest-blocks, block-ways, sharing, kindOf, allKinds}
+use Rattle.meaning.specs.Job.{Job, Kind, kindOf, allKinds}
 use Rattle.meaning.specs.Lent.{Lent, roomFor}
 use Rattle.meaning.specs.Refusals.{kindRefusal}
 use Rattle.meaning.specs.Bytes.{readJob, readable, unreadable}
 use Rattle.meaning.specs.Answers.{answerNumbers}
-use Rattle.meaning.specs.Solved.{Unrefused, Answered, Gives, Outcome, Solved, SolvedAs, SolvedBytes, SolvedRead, TableHolds, TurnedDown, SolvedLists}
-use Rattle.meaning.proofs.OneOfEach.{table-unique}
-use Rattle.meaning.proofs.Unique.{gives-unique, no-influence, answer-numbers-unique}
+use Rattle.meaning.specs.Solved.{Unrefused, Answered, Gives, Outcome, Solved, SolvedAs}
+use Rattle.meaning.specs.Solved.{SolvedBytes, SolvedRead, TableHolds, TurnedDown, SolvedLists}
+use Rattle.meaning.proofs.EachKind.{gives-unique, table-unique}
+use Rattle.meaning.proofs.Unique.{no-influence, answer-numbers-unique}
+-- a kind's number, passed on
+unfoldable pub use Rattle.meaning.proofs.EachKind.{numberOf}
+pub use Rattle.meaning.proofs.EachKind.{kind-number}
 
 -- ---- a lent slice
 
@@ -41,29 +45,6 @@ unfolding kindOf
 no-kind zero h = refl
 no-kind (suc k) (inl e) = absurd (omega arith)
 no-kind (suc k) (inr h) = past-last allKinds k (le-of-suc-le-suc h)
-
--- the number of each kind
-unfoldable pub numberOf : Kind → ℕ
-numberOf (packing once) = 1
-numberOf (packing limited) = 2
-numberOf (packing free) = 3
-numberOf subset-sums = 4
-numberOf fewest-blocks = 5
-numberOf block-ways = 6
-numberOf sharing = 7
-
--- a kind has one number
-pub kind-number : (m : ℕ) (k : Kind) → kindOf m ≡ some k → m ≡ numberOf k
-unfolding kindOf allKinds numberOf
-kind-number zero k e = let z : _≡_ {A = ℕ} 0 1 = cc in absurd (omega arith)
-kind-number (suc zero) k e = let same : packing once ≡ k = cc in rw (← same)
-kind-number (suc (suc zero)) k e = let same : packing limited ≡ k = cc in rw (← same)
-kind-number (suc (suc (suc zero))) k e = let same : packing free ≡ k = cc in rw (← same)
-kind-number (suc (suc (suc (suc zero)))) k e = let same : subset-sums ≡ k = cc in rw (← same)
-kind-number (suc (suc (suc (suc (suc zero))))) k e = let same : fewest-blocks ≡ k = cc in rw (← same)
-kind-number (suc (suc (suc (suc (suc (suc zero)))))) k e = let same : block-ways ≡ k = cc in rw (← same)
-kind-number (suc (suc (suc (suc (suc (suc (suc zero))))))) k e = let same : sharing ≡ k = cc in rw (← same)
-kind-number (suc (suc (suc (suc (suc (suc (suc (suc m)))))))) k e = let z : _≡_ {A = ℕ} 0 1 = cc in absurd (omega arith)
 
 -- a refusal leaves the slices as they were
 pub turned-down : (r : ℕ) (before : Lent) → TurnedDown r before (answerNumbers (Says.Refused r)) before
@@ -91,17 +72,20 @@ kind-solved j before k r a after e f h = rw (e, f) at h
 -- ---- job bytes
 
 -- job bytes that can be read are solved as the job that they hold
-pub solved-bytes : (bytes : List ℕ) (j : Job) (before after : Lent) (a : Answer) → readJob bytes ≡ readable j → Solved j before a after → SolvedBytes bytes before a after
+pub solved-bytes : (bytes : List ℕ) (j : Job) (before after : Lent) (a : Answer) → readJob bytes ≡ readable j → Solved j before a after
+    → SolvedBytes bytes before a after
 unfolding SolvedBytes SolvedRead Solved
 solved-bytes bytes j before after a e h = rw e h
 
 -- and back
-pub bytes-solved : (bytes : List ℕ) (j : Job) (before after : Lent) (a : Answer) → readJob bytes ≡ readable j → SolvedBytes bytes before a after → Solved j before a after
+pub bytes-solved : (bytes : List ℕ) (j : Job) (before after : Lent) (a : Answer) → readJob bytes ≡ readable j → SolvedBytes bytes before a after
+    → Solved j before a after
 unfolding SolvedBytes SolvedRead Solved
 bytes-solved bytes j before after a e h = rw e at h
 
 -- those that can't are refused with 1
-pub solved-unreadable : (bytes : List ℕ) (place : ℕ) (before : Lent) → readJob bytes ≡ unreadable place → SolvedBytes bytes before (Says.Refused 1) before
+pub solved-unreadable : (bytes : List ℕ) (place : ℕ) (before : Lent) → readJob bytes ≡ unreadable place
+    → SolvedBytes bytes before (Says.Refused 1) before
 unfolding SolvedBytes SolvedRead
 solved-unreadable bytes place before e = rw e (turned-down 1 before)
 
@@ -152,11 +136,15 @@ uninfluenced k j before after before′ after′ a a′ ok ok′ h h′ =
       answer = answer-numbers-unique said;
       content = x .content;
       in-first = record { cells = x .cells-hold; words = x .words-hold; picks = x .picks-hold };
-      in-second = subst (λ (l : Lent). ContentIn l before′ after′) (sym same) (record { cells = y .cells-hold; words = y .words-hold; picks = y .picks-hold });
+      in-second =
+          subst (λ (l : Lent). ContentIn l before′ after′) (sym same)
+          (record { cells = y .cells-hold; words = y .words-hold; picks = y .picks-hold });
     }
 
 -- nor where the job comes as bytes
-pub uninfluenced-bytes : (bytes : List ℕ) (k : Kind) (j : Job) (before after before′ after′ : Lent) (a a′ : Answer) → readJob bytes ≡ readable j → Unrefused k j before → Unrefused k j before′
+pub uninfluenced-bytes : (bytes : List ℕ) (k : Kind) (j : Job) (before after before′ after′ : Lent) (a a′ : Answer) → readJob bytes ≡ readable j
+    → Unrefused k j before → Unrefused k j before′
     → SolvedBytes bytes before a after → SolvedBytes bytes before′ a′ after′ → Uninfluenced a a′ before after before′ after′
 uninfluenced-bytes bytes k j before after before′ after′ a a′ reads ok ok′ h h′ =
-    uninfluenced k j before after before′ after′ a a′ ok ok′ (bytes-solved bytes j before after a reads h) (bytes-solved bytes j before′ after′ a′ reads h′)
+    uninfluenced k j before after before′ after′ a a′ ok ok′ (bytes-solved bytes j before after a reads h)
+    (bytes-solved bytes j before′ after′ a′ reads h′)

@@ -21,6 +21,7 @@ pub mod SharesSum
 -- no second choice is left
 pub mod CellNumbers
 pub mod OneOfEach
+pub mod EachKind
 pub mod Unique
 pub mod Laws
 -- bytes
@@ -36,7 +37,7 @@ pub mod Certified
 pub mod Ours
 pub mod Ring
 pub mod Entries
--- trials, corner cases, and wrong versions
+-- trials, and wrong versions
 pub mod Small
 pub mod SmallTables
 pub mod Opens
@@ -46,4 +47,15 @@ mod Tables
 pub mod Held
 pub mod Versions
 mod Wrong
-mod Corners
+-- corner cases, by computation, in the order of specs/; Tables has whole calls
+mod Computing
+mod CornersBounds
+mod CornersKinds
+mod CornersRoom
+mod CornersNumbers
+mod CornersBytes
+mod CornersTies
+mod CornersShares
+mod CornersAnswers
+mod CornersVerdicts
+mod CornersWriter

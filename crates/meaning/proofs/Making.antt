@@ -14,7 +14,8 @@ use Rattle.meaning.specs.Counting.{Distinct}
 use Rattle.meaning.specs.Job.{Job, labels}
 use Rattle.meaning.specs.Cells.{LeastShown, noWay, none-shown, shown}
 use Rattle.meaning.specs.Blocks.{MadeOf, Makes, WaysFor}
-use Rattle.meaning.proofs.Totals.{at-more, cut-last, empty-of, fewer-more, fewer-total, front-long, length-fewer, length-more, more-fewer, more-sum, more-total, one-fewer, one-more, total-cut, total-none, total-with}
+use Rattle.meaning.proofs.Totals.{at-more, cut-last, empty-of, fewer-more, fewer-total, front-long, length-fewer, length-more}
+use Rattle.meaning.proofs.Totals.{more-fewer, more-sum, more-total, one-fewer, one-more, total-cut, total-none, total-with}
 use Rattle.meaning.proofs.Loops.{sum-snoc}
 use Rattle.meaning.proofs.Counting.{counted-either, counted-iff, counted-through}
 
@@ -25,7 +26,8 @@ each-counts : (ws p : List ℕ) → ((m : ℕ) → m < length p → 1 ≤ at ws 
 unfolding sum total
 each-counts ws [] pos h = zero-le
 each-counts [] (x ∷ p) pos h = absurd (omega arith)
-each-counts (w ∷ ws) (x ∷ p) pos h = omega (arith, mul-le-mul-right x (pos 0 (omega arith)), one-mul x, each-counts ws p (λ m l. pos (suc m) (omega arith)) (omega arith))
+each-counts (w ∷ ws) (x ∷ p) pos h =
+    omega (arith, mul-le-mul-right x (pos 0 (omega arith)), one-mul x, each-counts ws p (λ m l. pos (suc m) (omega arith)) (omega arith))
 
 module _ (j : Job) (a : ℕ) where
   -- with one more of size m
@@ -39,7 +41,8 @@ module _ (j : Job) (a : ℕ) where
   pub makes-less : {n : ℕ} (q : List ℕ) (m : ℕ) → m < n → 0 < at q m → Makes j n a q
       → (at (j .weights) m ≤ a) × Makes j n (a - at (j .weights) m) (one-fewer q m)
   makes-less q m h pos k =
-      let less : total (j .weights) (one-fewer q m) + at (j .weights) m ≡ total (j .weights) q = fewer-total (j .weights) q m (omega (arith, k .one-each)) pos in
+      let less : total (j .weights) (one-fewer q m) + at (j .weights) m ≡ total (j .weights) q =
+      fewer-total (j .weights) q m (omega (arith, k .one-each)) pos in
       (omega (arith, k .sums-to), record { one-each = length-fewer q m ∙ k .one-each; sums-to = omega (arith, k .sums-to) })
 
 -- ---- with one size more, the lists without it and the lists with one more of it
@@ -70,23 +73,33 @@ module _ (j : Job) (i : ℕ) where
   unfolding none-of
   makes-without a q m e = (
     take i q,
-    record { one-each = front-long q i (m .one-each); sums-to = omega (arith, total-cut (j .weights) q i (m .one-each), m .sums-to, mul-zero w, ap (λ (x : ℕ). w * x) e) },
+    record {
+      one-each = front-long q i (m .one-each);
+      sums-to = omega (arith, total-cut (j .weights) q i (m .one-each), m .sums-to, mul-zero w, ap (λ (x : ℕ). w * x) e);
+    },
     cut-last q i (m .one-each) ∙ ap (λ (x : ℕ). take i q ++ (x ∷ [])) e,
   )
 
   -- a size above a is in none of them
   none-fits : (a : ℕ) → a < w → (q : List ℕ) → Makes j (suc i) a q → at q i ≡ 0
-  none-fits a heavy q m = elim (decLt 0 (at q i)) [ yes pos ↦ absurd (omega (arith, makes-less j a q i (le-refl (suc i)) pos m .0)) | no z ↦ omega arith ]
+  none-fits a heavy q m =
+      elim (decLt 0 (at q i)) [ yes pos ↦ absurd (omega (arith, makes-less j a q i (le-refl (suc i)) pos m .0)) | no z ↦ omega arith ]
 
   -- so it adds no way
   pub ways-skip : (a n : ℕ) → a < w → WaysFor j i a n → WaysFor j (suc i) a n
   unfolding WaysFor
-  ways-skip a n heavy c = counted-iff (counted-through none-of (one-without a) c) (without-makes a) (λ q m. makes-without a q m (none-fits a heavy q m))
+  ways-skip a n heavy c =
+      counted-iff (counted-through none-of (one-without a) c) (without-makes a) (λ q m. makes-without a q m (none-fits a heavy q m))
 
   -- the same number of blocks, with none of the last size
   made-without : (a x : ℕ) → MadeOf j i a x → MadeOf j (suc i) a x
   unfolding none-of
-  made-without a x d = record { picks = none-of (d .picks); makes = without-makes a (none-of (d .picks)) (d .picks, d .makes, refl); blocks = sum-snoc (d .picks) 0 ∙ omega (arith, d .blocks) }
+  made-without a x d =
+      record {
+        picks = none-of (d .picks);
+        makes = without-makes a (none-of (d .picks)) (d .picks, d .makes, refl);
+        blocks = sum-snoc (d .picks) 0 ∙ omega (arith, d .blocks);
+      }
 
   without-made : (a x : ℕ) (q : List ℕ) → Without a q → sum q ≡ x → MadeOf j i a x
   unfolding none-of
@@ -94,8 +107,13 @@ module _ (j : Job) (i : ℕ) where
 
   -- and no fewer blocks
   pub fewest-skip : (a x : ℕ) → a < w → LeastShown (MadeOf j i a) x → LeastShown (MadeOf j (suc i) a) x
-  fewest-skip a x heavy (shown d least) = shown (made-without a x d) (λ z e. least z (without-made a z (e .picks) (makes-without a (e .picks) (e .makes) (none-fits a heavy (e .picks) (e .makes))) (e .blocks)))
-  fewest-skip a x heavy (none-shown none e) = none-shown (λ z d. none z (without-made a z (d .picks) (makes-without a (d .picks) (d .makes) (none-fits a heavy (d .picks) (d .makes))) (d .blocks))) e
+  fewest-skip a x heavy (shown d least) =
+      shown (made-without a x d)
+      (λ z e. least z (without-made a z (e .picks) (makes-without a (e .picks) (e .makes) (none-fits a heavy (e .picks) (e .makes))) (e .blocks)))
+  fewest-skip a x heavy (none-shown none e) =
+      none-shown
+      (λ z d. none z (without-made a z (d .picks) (makes-without a (d .picks) (d .makes) (none-fits a heavy (d .picks) (d .makes))) (d .blocks)))
+      e
 
   module _ (a : ℕ) (fits : w ≤ a) where
     -- the lists for a that have one more of the last size than a list for what it leaves
@@ -128,7 +146,9 @@ module _ (j : Job) (i : ℕ) where
     pub ways-more : (n m : ℕ) → WaysFor j i a n → WaysFor j (suc i) (a - w) m → WaysFor j (suc i) a (n + m)
     unfolding WaysFor
     ways-more n m c d =
-        counted-iff (counted-either apart (counted-through none-of (one-without a) c) (counted-through (λ (p : List ℕ). one-more p i) one-with d)) either-makes makes-either
+        counted-iff
+        (counted-either apart (counted-through none-of (one-without a) c) (counted-through (λ (p : List ℕ). one-more p i) one-with d))
+        either-makes makes-either
 
     -- a block more of the last size
     made-with : (x : ℕ) → MadeOf j (suc i) (a - w) x → MadeOf j (suc i) a (suc x)
@@ -142,13 +162,15 @@ module _ (j : Job) (i : ℕ) where
     made-either x d =
         elim (makes-either (d .picks) (d .makes)) [
           | inl h ↦ inl (without-made a x (d .picks) h (d .blocks))
-          | inr (p, m, e) ↦ inr (sum p, sym (d .blocks) ∙ ap sum e ∙ more-sum p i (omega (arith, m .one-each)), record { picks = p; makes = m; blocks = refl })
+          | inr (p, m, e) ↦ inr
+              (sum p, sym (d .blocks) ∙ ap sum e ∙ more-sum p i (omega (arith, m .one-each)), record { picks = p; makes = m; blocks = refl })
         ]
 
     -- the fewest blocks for a with one size more: those with the sizes before, or one more than those for a less the size. No number of
     -- blocks comes to the mark for no way
     module _ (below : (z : ℕ) → MadeOf j (suc i) a z → z < noWay) where
-      pub fewest-more : (x y : ℕ) → LeastShown (MadeOf j i a) x → LeastShown (MadeOf j (suc i) (a - w)) y → LeastShown (MadeOf j (suc i) a) (min x (suc y))
+      pub fewest-more : (x y : ℕ) → LeastShown (MadeOf j i a) x → LeastShown (MadeOf j (suc i) (a - w)) y
+          → LeastShown (MadeOf j (suc i) a) (min x (suc y))
       fewest-more x y (shown d least) (shown e low) =
           elim (decLe x (suc y)) [
             | yes h ↦ let here : x ≡ min x (suc y) = omega arith in subst (LeastShown (MadeOf j (suc i) a)) here
@@ -179,12 +201,15 @@ few-blocks j i a x pos h d =
 -- with no sizes, amount 0 is made of no blocks
 pub fewest-none : (j : Job) → LeastShown (MadeOf j 0 0) 0
 unfolding sum
-fewest-none j = shown (record { picks = []; makes = record { one-each = refl; sums-to = total-none (j .weights) }; blocks = refl }) (λ z d. omega arith)
+fewest-none j =
+    shown (record { picks = []; makes = record { one-each = refl; sums-to = total-none (j .weights) }; blocks = refl }) (λ z d. omega arith)
 
 -- and no other is made
 pub fewest-no-sizes : (j : Job) (a : ℕ) → 0 < a → LeastShown (MadeOf j 0 a) noWay
 fewest-no-sizes j a pos =
-    none-shown (λ z d. omega (arith, d .makes .sums-to, ap (total (j .weights)) (empty-of (d .picks) (d .makes .one-each)) ∙ total-none (j .weights))) refl
+    none-shown
+    (λ z d. omega (arith, d .makes .sums-to, ap (total (j .weights)) (empty-of (d .picks) (d .makes .one-each)) ∙ total-none (j .weights)))
+    refl
 
 -- ---- the ways with no sizes, and for amount 0
 
@@ -194,7 +219,10 @@ unfolding WaysFor Distinct
 ways-none j = record {
   those = [] ∷ [];
   distinct = (λ m. List·Memᴰ·not-nil m, tt);
-  no-others = λ q m. let e : q ≡ [] = List·Memᴰ·eq-of-singleton m in record { one-each = ap length e; sums-to = ap (total (j .weights)) e ∙ total-none (j .weights) };
+  no-others =
+      λ q m.
+      let e : q ≡ [] = List·Memᴰ·eq-of-singleton m in
+      record { one-each = ap length e; sums-to = ap (total (j .weights)) e ∙ total-none (j .weights) };
   them-all = λ q m. List·Memᴰ·head (empty-of q (m .one-each));
   size = refl;
 }

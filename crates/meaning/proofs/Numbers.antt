@@ -15,7 +15,8 @@ use Rattle.meaning.specs.declared.Section.{Section}
 use Rattle.meaning.specs.declared.Section.the-variants.{Part, Broken}
 use Rattle.meaning.specs.declared.Needed.{Needed}
 use Rattle.meaning.specs.Lists.{at, if}
-use Rattle.meaning.specs.Bytes.{numberAt, numbersIn, between, isNeeded, wholeSection, readSection, withSection, bytesOf, bytesOfAll, sectionBytes}
+use Rattle.meaning.specs.Bytes.{numberAt, numbersIn, between, isNeeded, wholeSection}
+use Rattle.meaning.specs.Bytes.{readSection, withSection, bytesOf, bytesOfAll, sectionBytes}
 use Rattle.meaning.proofs.UpTo.{made-length, made-at}
 
 -- ---- reading
@@ -120,7 +121,8 @@ unfolding withSection
 goes-on b found stop on start count next e = ap (λ (s : Section). withSection b s stop on) e
 
 -- and stops at one that broke
-pub stops : {A : Type 0} (b : List ℕ) (found : Section) (stop : ℕ → A) (on : List ℕ → ℕ → A) (place : ℕ) → found ≡ Broken place → withSection b found stop on ≡ stop place
+pub stops : {A : Type 0} (b : List ℕ) (found : Section) (stop : ℕ → A) (on : List ℕ → ℕ → A) (place : ℕ) → found ≡ Broken place
+    → withSection b found stop on ≡ stop place
 unfolding withSection
 stops b found stop on place e = ap (λ (s : Section). withSection b s stop on) e
 

@@ -1,27 +1,31 @@
 -- Each meaning leaves one list, one number, one table.
 -- Assumes nothing.
-use mathlib.Core.Path.{_∙_, _≡_, ap, subst, sym}
+use mathlib.Core.Path.{_∙_, _≡_, ap, subst, sym, ap₂, refl}
 use Prim.Native.Nat.{_%_, _*_, _+_, _-_, _/_, _<_, _^_, min, suc, suc-le-suc, zero, zero-le, ℕ}
 use native.Mathlib.Nat.{div-div-eq-div-mul, div-one, le-antisymm, le-of-suc-le-suc, le-refl, le-trans, mul-comm, not-suc-le-zero, pow-suc, le-of-eq}
 use native.Mathlib.Omega.{arith}
+use mathlib.Core.Bool.{Bool, false, true}
 use mathlib.Core.List.{List}
 use lib.Arith.{digits-div, digits-mod}
 use lib.ListN.{length}
 use lib.Seq.{ext-getD}
-use Rattle.meaning.specs.Lists.{at}
+use Rattle.meaning.specs.declared.Answer.{Answer}
+use Rattle.meaning.specs.declared.Answer.the-variants as Says
+use Rattle.meaning.specs.Lists.{at, if, total}
 use Rattle.meaning.specs.Cells.{LeastShown, none-shown, shown}
-use Rattle.meaning.specs.Job.{Job, Kind, Knapsack, block-ways, fewest-blocks, free, packing, limited, once, sharing, subset-sums}
-use Rattle.meaning.specs.Lent.{Lent, Room, cellCount, roomFor, roomOf}
+use Rattle.meaning.specs.Job.{Job, Knapsack, labels}
+use Rattle.meaning.specs.Lent.{cellCount}
 use Rattle.meaning.specs.Orders.{AgreeEarlier, Chosen, Earlier, NoWorse, Order, first-most, last-least, last-most}
-use Rattle.meaning.specs.Knapsacks.{BestValue, FullTable, OneRow, ValueTable}
-use Rattle.meaning.specs.Sums.{BitTable, Tells, bit, is-not, is-so}
-use Rattle.meaning.specs.Blocks.{FewestRow, WaysFor, WaysRow, WaysShown, tooMany}
-use Rattle.meaning.specs.Solved.{TableHolds}
+use Rattle.meaning.specs.Knapsacks.{BestValue, FullTable, OneRow, Best, BestPicks, orderOf}
+use Rattle.meaning.specs.Sums.{BitTable, Tells, bit, is-not, is-so, TotalCount, YesOrNo}
+use Rattle.meaning.specs.Blocks.{WaysFor, WaysShown, tooMany, Fewest, Laid, blockOrder}
+use Rattle.meaning.specs.Answers.{AnswerNumbers, answerNumbers}
+use Rattle.meaning.specs.Solved.{Packed, SumOrNone, Summed, WaysGiven, a-sum, no-such-sum, waysAnswer}
 use Rattle.meaning.proofs.Counting.{counted-unique}
 use Rattle.meaning.proofs.CellNumbers.{RowAndBudget, row-and-budget}
 
 -- lists of the same length that agree at each place are the same
-same-list : (n : ℕ) (s t : List ℕ) → length s ≡ n → length t ≡ n → ((m : ℕ) → m < n → at s m ≡ at t m) → s ≡ t
+pub same-list : (n : ℕ) (s t : List ℕ) → length s ≡ n → length t ≡ n → ((m : ℕ) → m < n → at s m ≡ at t m) → s ≡ t
 same-list n s t ls lt h = ext-getD 0 s t (ls ∙ sym lt) (λ m k. h m (omega arith))
 
 -- ---- an order chooses one list
@@ -67,7 +71,8 @@ no-worse-same last-most x y e = le-of-eq (sym e)
 
 -- the only list with P is the chosen one
 pub only-choice : (o : Order) (n : ℕ) (P : List ℕ → Type 0) (p : List ℕ) → P p → ((q : List ℕ) → P q → q ≡ p) → Chosen o n P p
-only-choice o n P p has only = record { one-of = has; settled = λ m h q k agree. no-worse-same o (at p m) (at q m) (ap (λ (l : List ℕ). at l m) (sym (only q k))) }
+only-choice o n P p has only =
+    record { one-of = has; settled = λ m h q k agree. no-worse-same o (at p m) (at q m) (ap (λ (l : List ℕ). at l m) (sym (only q k))) }
 
 -- ---- the best value is one number
 
@@ -96,14 +101,15 @@ bits-unique (suc k) x y hx hy h =
 
 -- ---- the tables: what the needed places hold
 
-rows-unique : (k : Knapsack) (j : Job) (s t : List ℕ) → FullTable k j s → FullTable k j t → (m : ℕ) → m < cellCount j → at s m ≡ at t m
+pub rows-unique : (k : Knapsack) (j : Job) (s t : List ℕ) → FullTable k j s → FullTable k j t → (m : ℕ) → m < cellCount j → at s m ≡ at t m
 unfolding FullTable
 rows-unique k j s t a b m h =
     let here : RowAndBudget j m = row-and-budget j m h in
     subst (λ (x : ℕ). at s x ≡ at t x) (here .numbered)
-    (best-value-unique (a (m / (j .budget + 1)) (m % (j .budget + 1)) (here .row) (here .column)) (b (m / (j .budget + 1)) (m % (j .budget + 1)) (here .row) (here .column)))
+    (best-value-unique (a (m / (j .budget + 1)) (m % (j .budget + 1)) (here .row) (here .column))
+    (b (m / (j .budget + 1)) (m % (j .budget + 1)) (here .row) (here .column)))
 
-row-unique : (k : Knapsack) (j : Job) (s t : List ℕ) → OneRow k j s → OneRow k j t → (m : ℕ) → m < j .budget + 1 → at s m ≡ at t m
+pub row-unique : (k : Knapsack) (j : Job) (s t : List ℕ) → OneRow k j s → OneRow k j t → (m : ℕ) → m < j .budget + 1 → at s m ≡ at t m
 unfolding OneRow
 row-unique k j s t a b m h = best-value-unique (a m (omega arith)) (b m (omega arith))
 
@@ -111,7 +117,7 @@ bit-at : (words : List ℕ) (m b : ℕ) → b < 64 → bit words (m * 64 + b) �
 unfolding bit
 bit-at words m b h = rw (digits-div m h, digits-mod m h)
 
-bits-table-unique : (j : Job) (s t : List ℕ) → BitTable j s → BitTable j t → (m : ℕ) → m < j .budget / 64 + 1 → at s m ≡ at t m
+pub bits-table-unique : (j : Job) (s t : List ℕ) → BitTable j s → BitTable j t → (m : ℕ) → m < j .budget / 64 + 1 → at s m ≡ at t m
 bits-table-unique j s t a b m h =
     bits-unique 64 (at s m) (at t m) (a .narrow m h) (b .narrow m h)
     (λ i l. sym (bit-at s m i l) ∙ tells-unique (a .set (m * 64 + i) (omega arith)) (b .set (m * 64 + i) (omega arith)) ∙ bit-at t m i l)
@@ -130,43 +136,51 @@ ways-unique j i a n m c d = counted-unique c d
 
 -- and so is the cell that shows them
 pub ways-shown-unique : {j : Job} {i a x y : ℕ} → WaysShown j i a x → WaysShown j i a y → x ≡ y
-ways-shown-unique {j} {i} {a} c d = c .lesser ∙ ap (λ (w : ℕ). min w tooMany) (ways-unique j i a (c .many) (d .many) (c .how-many) (d .how-many)) ∙ sym (d .lesser)
+ways-shown-unique {j} {i} {a} c d =
+    c .lesser ∙ ap (λ (w : ℕ). min w tooMany) (ways-unique j i a (c .many) (d .many) (c .how-many) (d .how-many)) ∙ sym (d .lesser)
 
--- ---- a table leaves one content of the needed cells and words
+-- ---- what each kind says and writes
 
-cells-unique : (k : Kind) (j : Job) (s t : Lent) → TableHolds k j s → TableHolds k j t → (m : ℕ) → m < roomFor k j .cells → at (s .cells) m ≡ at (t .cells) m
-unfolding TableHolds ValueTable roomFor roomOf FewestRow
-cells-unique (packing once) j s t a b m h = rows-unique once j (s .cells) (t .cells) a b m h
-cells-unique (packing limited) j s t a b m h = rows-unique limited j (s .cells) (t .cells) a b m h
-cells-unique (packing free) j s t a b m h = row-unique free j (s .cells) (t .cells) a b m h
-cells-unique subset-sums j s t a b m h = absurd (not-suc-le-zero h)
-cells-unique fewest-blocks j s t a b m h = least-shown-unique (a m (omega arith)) (b m (omega arith))
-cells-unique block-ways j s t a b m h = absurd (not-suc-le-zero h)
-cells-unique sharing j s t a b m h = absurd (not-suc-le-zero h)
+pub packed-unique : {k : Knapsack} {j : Job} {s s′ : AnswerNumbers} {p p′ : List ℕ} → Packed k j s p → Packed k j s′ p′ → (p ≡ p′) × (s ≡ s′)
+unfolding BestPicks
+packed-unique {k} {j} {s} {s′} {p} {p′} a b =
+    let same : p ≡ p′ = chosen-unique (orderOf k) (labels j) (Best k j (labels j) (j .budget)) p p′ (a .picked) (b .picked)
+    (a .picked .one-of .fits .selection .one-each) (b .picked .one-of .fits .selection .one-each) in
+    (same, a .numbers ∙ ap (λ (x : List ℕ). answerNumbers (Says.Knapsack (total (j .values) x) (total (j .weights) x))) same ∙ sym (b .numbers))
 
-words-unique : (k : Kind) (j : Job) (s t : Lent) → TableHolds k j s → TableHolds k j t → (m : ℕ) → m < roomFor k j .words → at (s .words) m ≡ at (t .words) m
-unfolding TableHolds roomFor roomOf WaysRow
-words-unique (packing once) j s t a b m h = absurd (not-suc-le-zero h)
-words-unique (packing limited) j s t a b m h = absurd (not-suc-le-zero h)
-words-unique (packing free) j s t a b m h = absurd (not-suc-le-zero h)
-words-unique subset-sums j s t a b m h = bits-table-unique j (s .words) (t .words) a b m h
-words-unique fewest-blocks j s t a b m h = absurd (not-suc-le-zero h)
-words-unique block-ways j s t a b m h = ways-shown-unique (a m (omega arith)) (b m (omega arith))
-words-unique sharing j s t a b m h = absurd (not-suc-le-zero h)
+same-bit : (x y : Bool) → _≡_ {A = ℕ} (if x 1 0) (if y 1 0) → x ≡ y
+unfolding if
+same-bit true true e = refl
+same-bit true false e = absurd (omega arith)
+same-bit false true e = absurd (omega arith)
+same-bit false false e = refl
 
--- the needed places and no more
-pub record Sized (room : Room) (s : Lent) : Type 0 where
-  pub cells : length (s .cells) ≡ room .cells
-  pub words : length (s .words) ≡ room .words
+pub summed-unique : {j : Job} {s s′ : AnswerNumbers} {p p′ : List ℕ} → Summed j s p → Summed j s′ p′ → (p ≡ p′) × (s ≡ s′)
+unfolding YesOrNo TotalCount
+summed-unique a b =
+    let e : a .yes ≡ b .yes = same-bit (a .yes) (b .yes) (tells-unique (a .tells) (b .tells)) in
+    let f : a .totals ≡ b .totals = counted-unique (a .how-many) (b .how-many) in
+    (a .none-written ∙ sym (b .none-written), a .numbers ∙ ap₂ (λ (y : Bool) (n : ℕ). answerNumbers (Says.Sums y n)) e f ∙ sym (b .numbers))
 
--- a table in a room that leaves one content of them
-unfoldable pub OneTable : Room → (Lent → Type 0) → Type 0
-OneTable room table = (s t : Lent) → table s → table t → Sized room s → Sized room t → (s .cells ≡ t .cells) × (s .words ≡ t .words)
+-- a sum, or none: one of them, where there is one choice at most
+pub sum-or-none-unique : {Exact Choice : List ℕ → Type 0} {answer : List ℕ → Answer} {s s′ : AnswerNumbers} {p p′ : List ℕ}
+    → ((q r : List ℕ) → Choice q → Choice r → q ≡ r)
+    → SumOrNone Exact Choice answer s p → SumOrNone Exact Choice answer s′ p′ → (p ≡ p′) × (s ≡ s′)
+sum-or-none-unique {answer = answer} {p = p} {p′ = p′} one (a-sum m c e) (a-sum m′ c′ e′) =
+    let same : p ≡ p′ = one p p′ c c′ in
+    (same, e ∙ ap (λ (x : List ℕ). answerNumbers (answer x)) same ∙ sym e′)
+sum-or-none-unique {p = p} one (a-sum m c e) (no-such-sum n e′ z) = absurd (n p m)
+sum-or-none-unique {p′ = p′} one (no-such-sum n e z) (a-sum m c e′) = absurd (n p′ m)
+sum-or-none-unique one (no-such-sum n e z) (no-such-sum n′ e′ z′) = (z ∙ sym z′, e ∙ sym e′)
 
--- each kind's table leaves one content
-pub table-unique : (k : Kind) (j : Job) → OneTable (roomFor k j) (TableHolds k j)
-unfolding OneTable
-table-unique k j s t a b u v = (
-  same-list (roomFor k j .cells) (s .cells) (t .cells) (u .cells) (v .cells) (cells-unique k j s t a b),
-  same-list (roomFor k j .words) (s .words) (t .words) (u .words) (v .words) (words-unique k j s t a b),
+pub laid-unique : (j : Job) (a : ℕ) (p q : List ℕ) → Laid j a p → Laid j a q → p ≡ q
+unfolding Laid
+laid-unique j a p q l l′ =
+    chosen-unique blockOrder (labels j) (Fewest j (labels j) a) p q l l′ (l .one-of .makes .one-each) (l′ .one-of .makes .one-each)
+
+pub ways-given-unique : {j : Job} {s s′ : AnswerNumbers} {p p′ : List ℕ} → WaysGiven j s p → WaysGiven j s′ p′ → (p ≡ p′) × (s ≡ s′)
+ways-given-unique {j} a b = (
+  a .none-written ∙ sym (b .none-written),
+  a .numbers ∙ ap (λ (w : ℕ). answerNumbers (waysAnswer w)) (ways-unique j (labels j) (j .budget) (a .ways) (b .ways) (a .how-many) (b .how-many))
+      ∙ sym (b .numbers),
 )

@@ -23,7 +23,8 @@ use Rattle.meaning.specs.Knapsacks.{BestPicks, ValueTable}
 use Rattle.meaning.specs.Answers.{answerNumbers, writtenNumbers, AnswerNumbers}
 use Rattle.meaning.specs.Solved.{Answered, Gives, Outcome, Packed, Solved, SolvedBytes, SolvedRead, TableHolds}
 use Rattle.meaning.specs.Certificates.{Checked, certifiedRefusal, verdictOf, verdictOnJob}
-use Rattle.meaning.specs.Writer.{Writes, WritesBytes, WritesRead, bytesNeeded, newBytes, certificate, slicesFit, writerRefusal, writtenAs, WritesAs}
+use Rattle.meaning.specs.Writer.{Writes, WritesBytes, WritesRead, bytesNeeded, newBytes}
+use Rattle.meaning.specs.Writer.{certificate, slicesFit, writerRefusal, writtenAs, WritesAs}
 use Rattle.meaning.specs.Demands.{AcceptedWith, BestList, OursAccepted}
 use Rattle.meaning.proofs.Unique.{answer-numbers-unique, written-numbers-unique}
 use Rattle.meaning.proofs.Laws.{holds-first, kind-solved}
@@ -34,7 +35,8 @@ use Rattle.meaning.proofs.Certified.{accepted-with, accepted-written, M
 -- ---- the bytes of a certificate
 
 -- 8 + 4n + 4(n+1)(C+1) of them
-pub certificate-long : (j : Job) (picks cells : List ℕ) → labels j ≤ length picks → cellCount j ≤ length cells → length (certificate j picks cells) ≡ bytesNeeded j
+pub certificate-long : (j : Job) (picks cells : List ℕ) → labels j ≤ length picks → cellCount j ≤ length cells
+    → length (certificate j picks cells) ≡ bytesNeeded j
 unfolding certificate bytesNeeded
 certificate-long j picks cells hp hc =
     let p : List ℕ = take (labels j) picks in
@@ -62,15 +64,19 @@ bytes≢refused n r e = let f : Bytes n ≡ Refused r = written-numbers-unique (
 wrote-all : (r : ℕ) (j : Job) (picks cells out : List ℕ) (n : ℕ) (out′ : List ℕ) → writerRefusal j picks cells out ≡ r
     → WritesAs r (bytesNeeded j) (certificate j picks cells) out (Bytes n) out′ → WroteAll j picks cells out n out′
 unfolding writtenAs newBytes
-wrote-all zero j picks cells out n out′ e w = let f : Bytes n ≡ Bytes (bytesNeeded j) = written-numbers-unique (Bytes n) (Bytes (bytesNeeded j)) (w .numbers) in record { not-turned-down = e; many = cc; written = w .leaves }
+wrote-all zero j picks cells out n out′ e w =
+    let f : Bytes n ≡ Bytes (bytesNeeded j) =
+    written-numbers-unique (Bytes n) (Bytes (bytesNeeded j)) (w .numbers) in record { not-turned-down = e; many = cc; written = w .leaves }
 wrote-all (suc r) j picks cells out n out′ e w = absurd (bytes≢refused n (suc r) (w .numbers))
 
 -- what came of a job that is not refused with the slices as they are after the call
-answered-after : (r : ℕ) (room : Room) (table : Lent → Type 0) (k : Kind) (j : Job) (before after : Lent) (s : AnswerNumbers) → kindRefusal room k j before ≡ r
+answered-after : (r : ℕ) (room : Room) (table : Lent → Type 0) (k : Kind) (j : Job) (before after : Lent) (s : AnswerNumbers)
+    → kindRefusal room k j before ≡ r
     → kindRefusal room k j after ≡ 0 → Outcome r room table k j before s after → Answered room table k j before s after
 unfolding Outcome
 answered-after zero room table k j before after s e f h = h
-answered-after (suc r) room table k j before after s e f h = absurd (omega (arith, e, f, ap (λ (l : Lent). kindRefusal room k j l) (h .nothing-written)))
+answered-after (suc r) room table k j before after s e f h =
+    absurd (omega (arith, e, f, ap (λ (l : Lent). kindRefusal room k j l) (h .nothing-written)))
 
 -- ---- the ring: solve, write, check
 
@@ -104,7 +110,8 @@ module _ (j : Job) (before after : Lent) (a : Answer) (out out′ : List ℕ) (n
       let out-fits : Bool = leb (bytesNeeded j) (length out) in
       let picks-fit : Bool = leb (labels j) (length (after .picks)) in
       let cells-fit : Bool = leb (cellCount j) (length (after .cells)) in
-      let (inputs, output-fits) = and-yes (picks-fit && cells-fit) out-fits (past-if (slicesFit j (after .picks) (after .cells) out) 5 0 (certify .keeps .later-none) .0) in
+      let (inputs, output-fits) =
+      and-yes (picks-fit && cells-fit) out-fits (past-if (slicesFit j (after .picks) (after .cells) out) 5 0 (certify .keeps .later-none) .0) in
       let (picks-do, cells-do) = and-yes picks-fit cells-fit inputs in
       (leb-yes picks-do, leb-yes cells-do)
 
@@ -119,7 +126,8 @@ module _ (j : Job) (before after : Lent) (a : Answer) (out out′ : List ℕ) (n
   unfolding kindOf allKinds
   answered =
       answered-after (kindRefusal (roomFor one j) one j before) (roomFor one j) (TableHolds one j) one j before after (answerNumbers a) refl
-      (not-refused (roomFor one j) once j after later (subst (λ (k : Knapsack). Passed (rulesOf (packing k)) j later) (is-once .1) (certify .keeps)) enough)
+      (not-refused (roomFor one j) once j after later
+      (subst (λ (k : Knapsack). Passed (rulesOf (packing k)) j later) (is-once .1) (certify .keeps)) enough)
       (kind-solved j before one (kindRefusal (roomFor one j) one j before) a after (ap kindOf (is-once .0)) refl solved)
 
   abbrev picks : List ℕ
@@ -152,7 +160,8 @@ module _ (j : Job) (before after : Lent) (a : Answer) (out out′ : List ℕ) (n
       ∙ ap₂ (λ (p c : List ℕ). sectionBytes p ++ sectionBytes c) same-picks same-cells
 
   -- the bytes written are accepted, with the value of the answer
-  ours : (jobB : List ℕ) → readJob jobB ≡ readable j → (value weight : ℕ) × (a ≡ Says.Knapsack value weight) × AcceptedWith Checked jobB (take n out′) value
+  ours : (jobB : List ℕ) → readJob jobB ≡ readable j
+      → (value weight : ℕ) × (a ≡ Says.Knapsack value weight) × AcceptedWith Checked jobB (take n out′) value
   unfolding verdictOf TableHolds ValueTable
   ours jobB reads = (
     total (j .values) picks,
@@ -160,7 +169,8 @@ module _ (j : Job) (before after : Lent) (a : Answer) (out out′ : List ℕ) (n
     answer-numbers-unique (packed .numbers),
     accepted-with jobB (take n out′) (total (j .values) picks)
         (ap₂ verdictOnJob reads output
-        ∙ accepted-written j once picks (answered .content .cells) (certify .of-knapsack ∙ ap some (is-once .1)) ok best long-cells (answered .table-right)),
+        ∙ accepted-written j once picks (answered .content .cells) (certify .of-knapsack ∙ ap some (is-once .1)) ok best long-cells
+        (answered .table-right)),
   )
 
 -- the same where the job comes as bytes to all three

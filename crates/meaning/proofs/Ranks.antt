@@ -92,7 +92,8 @@ module _ (j : Job) where
   pub rank-small : (a : ℕ) → a < labels j → rankOf j a < labels j
   unfolding rankOf
   rank-small a h =
-      omega (arith, tally-lt (λ i. precedes j i a) (λ i. true) ls (λ i p. tt) a (upTo-in (labels j) a h) tt (not-self a), all-tally ls, upTo-length (labels j))
+      let not-all = tally-lt (λ i. precedes j i a) (λ i. true) ls (λ i p. tt) a (upTo-in (labels j) a h) tt (not-self a) in
+      omega (arith, not-all, all-tally ls, upTo-length (labels j))
 
   -- two labels never share a rank
   pub rank-one : (a b : ℕ) → a < labels j → b < labels j → rankOf j a ≡ rankOf j b → a ≡ b
@@ -107,7 +108,8 @@ module _ (j : Job) where
 
   ranks-distinct : Distinct ranks
   unfolding ranks
-  ranks-distinct = distinct-map (rankOf j) ls (λ a b ha hb. rank-one a b (upTo-out (labels j) a ha) (upTo-out (labels j) b hb)) (upTo-distinct (labels j))
+  ranks-distinct =
+      distinct-map (rankOf j) ls (λ a b ha hb. rank-one a b (upTo-out (labels j) a ha) (upTo-out (labels j) b hb)) (upTo-distinct (labels j))
 
   ranks-out : (t : ℕ) → List·Memᴰ t ranks → List·Memᴰ t ls
   unfolding ranks

@@ -41,12 +41,14 @@ reached-either j i t r = go (fits-less once j i t (r .picks) (record { selection
     w : ℕ
     w = at (j .weights) i
 
-    pick : (x : ℕ) (p : List ℕ) → x ≤ 1 → w * x ≤ t → Selection once j i p → total (j .weights) p + w * x ≡ t → Reached j i t ⊎ ((w ≤ t) × Reached j i (t - w))
+    pick : (x : ℕ) (p : List ℕ) → x ≤ 1 → w * x ≤ t → Selection once j i p → total (j .weights) p + w * x ≡ t
+        → Reached j i t ⊎ ((w ≤ t) × Reached j i (t - w))
     pick zero p may heavy s e = inl (record { picks = p; selection = s; weight = omega (arith, mul-zero w, e) })
     pick (suc zero) p may heavy s e = inr (omega (arith, mul-one w, heavy), record { picks = p; selection = s; weight = omega (arith, mul-one w, e) })
     pick (suc (suc x)) p may heavy s e = absurd (omega arith)
 
-    go : (p : List ℕ) × (x : ℕ) × (r .picks ≡ p ++ (x ∷ [])) × (x ≤ 1) × (w * x ≤ t) × Fits once j i (t - w * x) p → Reached j i t ⊎ ((w ≤ t) × Reached j i (t - w))
+    go : (p : List ℕ) × (x : ℕ) × (r .picks ≡ p ++ (x ∷ [])) × (x ≤ 1) × (w * x ≤ t) × Fits once j i (t - w * x) p
+        → Reached j i t ⊎ ((w ≤ t) × Reached j i (t - w))
     go (p, x, whole, may, heavy, f) =
         pick x p may heavy (f .selection)
         (sym (total-with (j .weights) p x i (f .selection .one-each)) ∙ ap (total (j .weights)) (sym whole) ∙ r .weight)

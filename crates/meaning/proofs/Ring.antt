@@ -49,11 +49,13 @@ module _ (room : Room) (table : Lent → Type 0) (k : Kind) (j : Job) (before af
       let z : _≡_ {A = ℕ} 0 1 = cc in
       absurd (omega arith)
 
-module _ (j : Job) (one : j .kind-number ≡ 1) (before after : Lent) (value weight : ℕ) (solved : Solved j before (Says.Knapsack value weight) after) where
+module _ (j : Job) (one : j .kind-number ≡ 1) (before after : Lent) (value weight : ℕ)
+    (solved : Solved j before (Says.Knapsack value weight) after) where
   abbrev kind : Kind
   kind = packing once
 
-  answered : (kindRefusal (roomFor kind j) kind j before ≡ 0) × Answered (roomFor kind j) (TableHolds kind j) kind j before (answerNumbers (Says.Knapsack value weight)) after
+  answered : (kindRefusal (roomFor kind j) kind j before ≡ 0) × Answered (roomFor kind j)
+      (TableHolds kind j) kind j before (answerNumbers (Says.Knapsack value weight)) after
   unfolding kindOf allKinds
   answered =
       not-turned-down (roomFor kind j) (TableHolds kind j) kind j before after value weight (kindRefusal (roomFor kind j) kind j before)
@@ -62,7 +64,9 @@ module _ (j : Job) (one : j .kind-number ≡ 1) (before after : Lent) (value wei
   -- so it may have a certificate
   keeps-rules : jobRefusal (rulesOf kind) j 0 ≡ 0
   unfolding kindRefusal
-  keeps-rules = subst (λ (later : ℕ). jobRefusal (rulesOf kind) j later ≡ 0) (is-cleared (roomFor kind j) kind j before (answered .0) .keeps .later-none) (answered .0)
+  keeps-rules =
+      subst (λ (later : ℕ). jobRefusal (rulesOf kind) j later ≡ 0) (is-cleared (roomFor kind j) kind j before (answered .0) .keeps .later-none)
+      (answered .0)
 
   not-refused : certifiedRefusal j 0 ≡ 0
   unfolding certifiedRefusal certifiedAs certifiedKnapsack
@@ -92,11 +96,13 @@ module _ (j : Job) (one : j .kind-number ≡ 1) (before after : Lent) (value wei
         written-numbers-unique w (Bytes (bytesNeeded j))
         (subst (λ (r : ℕ). WritesAs r (bytesNeeded j) (certificate j (after .picks) (after .cells)) out w out′) not-refused-6 writes .numbers)
 
-    pub ring-by-lists : (jobB : List ℕ) → readJob jobB ≡ readable j → (w : Written) (out′ : List ℕ) → Writes j (after .picks) (after .cells) out w out′
+    pub ring-by-lists : (jobB : List ℕ) → readJob jobB ≡ readable j → (w : Written) (out′ : List ℕ)
+        → Writes j (after .picks) (after .cells) out w out′
         → RingClosed jobB j value w out′
     ring-by-lists jobB reads w out′ writes =
         let written = all-written w out′ writes in
-        let (value′, weight′, same, accepted) = ours-accepted .by-lists jobB j reads before after (Says.Knapsack value weight) solved out out′ (bytesNeeded j) (rw written at writes) in
+        let (value′, weight′, same, accepted) =
+        ours-accepted .by-lists jobB j reads before after (Says.Knapsack value weight) solved out out′ (bytesNeeded j) (rw written at writes) in
         let worth : value′ ≡ value = cc in
         record {
           written = written;
@@ -110,4 +116,5 @@ pub ring-by-bytes : (jobB : List ℕ) (j : Job) → readJob jobB ≡ readable j 
     → RingClosed jobB j value w out′
 unfolding WritesBytes WritesRead
 ring-by-bytes jobB j reads one before after value weight solved out roomy w out′ writes =
-    ring-by-lists j one before after value weight (bytes-solved jobB j before after (Says.Knapsack value weight) reads solved) out roomy jobB reads w out′ (rw reads at writes)
+    ring-by-lists j one before after value weight
+    (bytes-solved jobB j before after (Says.Knapsack value weight) reads solved) out roomy jobB reads w out′ (rw reads at writes)

@@ -16,7 +16,8 @@ use Rattle.meaning.specs.declared.Needed.{Needed}
 use Rattle.meaning.specs.declared.Needed.the-variants.{Any, Exactly}
 use Rattle.meaning.specs.Lists.{at, if}
 use Rattle.meaning.specs.Job.{Job, jobOf, budgetsOf}
-use Rattle.meaning.specs.Bytes.{atEnd, bytesOf, bytesOfAll, isNeeded, jobBytes, numberAt, numbersIn, between, readJob, readSection, readable, sectionBytes, unreadable, wholeSection, withSection}
+use Rattle.meaning.specs.Bytes.{atEnd, bytesOf, bytesOfAll, isNeeded, jobBytes, numberAt, numbersIn, between}
+use Rattle.meaning.specs.Bytes.{readJob, readSection, readable, sectionBytes, unreadable, wholeSection, withSection}
 use Rattle.meaning.proofs.Numbers.{all-append, all-long, number-long, numbers-at, numbers-long, section-long, section-whole}
 
 -- ---- numbers of 32 bits
@@ -82,7 +83,8 @@ unfolding bytesOfAll
 split-all ns i k =
     ap (λ (l : List ℕ). drop (4 * i) (bytesOfAll l)) (sym (take-append-drop i ns))
     ∙ ap (drop (4 * i)) (all-append (take i ns) (drop i ns))
-    ∙ drop-at (bytesOfAll (take i ns)) (bytesOfAll (drop i ns)) (4 * i) (all-long (take i ns) ∙ ap (λ (x : ℕ). 4 * x) (length-take-le i ns (omega arith)))
+    ∙ drop-at (bytesOfAll (take i ns)) (bytesOfAll (drop i ns)) (4 * i)
+    (all-long (take i ns) ∙ ap (λ (x : ℕ). 4 * x) (length-take-le i ns (omega arith)))
     ∙ ap bytesOfAll (drop-cons ns i 0 k)
 
 numbers-back : (ns : List ℕ) → All32 ns → numbersIn (bytesOfAll ns) ≡ ns
@@ -108,7 +110,8 @@ module _ (b : List ℕ) (p : ℕ) (ns rest : List ℕ) (here : Stands b p (secti
 
   numbers-stand : Stands b (p + 4) (bytesOfAll ns ++ rest)
   numbers-stand =
-      subst (λ (l : List ℕ). Stands b (p + 4) l) (ap (drop 4) section-apart ∙ drop-at (bytesOf (length ns)) (bytesOfAll ns ++ rest) 4 (number-long (length ns)))
+      subst (λ (l : List ℕ). Stands b (p + 4) l)
+      (ap (drop 4) section-apart ∙ drop-at (bytesOf (length ns)) (bytesOfAll ns ++ rest) 4 (number-long (length ns)))
       (stands-on here 4 (omega (arith, length-append (sectionBytes ns) rest, section-long ns)))
 
   section-between : between b (p + 4) (p + 4 + 4 * length ns) ≡ bytesOfAll ns
@@ -119,10 +122,12 @@ module _ (b : List ℕ) (p : ℕ) (ns rest : List ℕ) (here : Stands b p (secti
 
   module _ (many : length ns < limit32) where
     section-count : numberAt b p ≡ length ns
-    section-count = number-from b p ∙ ap (λ (l : List ℕ). numberAt l 0) (here .from ∙ section-apart) ∙ number-back (length ns) (bytesOfAll ns ++ rest) many
+    section-count =
+        number-from b p ∙ ap (λ (l : List ℕ). numberAt l 0) (here .from ∙ section-apart) ∙ number-back (length ns) (bytesOfAll ns ++ rest) many
 
     -- it is found as it was written
-    pub section-back : (needed : Needed) → isNeeded needed (length ns) ≡ true → readSection needed b p ≡ Part (p + 4) (length ns) (p + 4 + 4 * length ns)
+    pub section-back : (needed : Needed) → isNeeded needed (length ns) ≡ true
+        → readSection needed b p ≡ Part (p + 4) (length ns) (p + 4 + 4 * length ns)
     unfolding wholeSection
     section-back needed right =
         section-whole needed b p (omega (arith, stands-long numbers-stand))
@@ -163,7 +168,9 @@ job-back j s =
     let b : List ℕ = jobBytes j in
     let ks : List ℕ = j .kind-number ∷ [] in
     let bs : List ℕ = j .budget ∷ [] in
-    let laid : b ≡ sectionBytes ks ++ (sectionBytes bs ++ (sectionBytes (j .weights) ++ (sectionBytes (j .values) ++ (sectionBytes (j .copies) ++ [])))) = simp (append-assoc, append-nil) in
+    let laid : b ≡ sectionBytes ks ++
+    (sectionBytes bs ++ (sectionBytes (j .weights) ++ (sectionBytes (j .values) ++ (sectionBytes (j .copies) ++ [])))) =
+    simp (append-assoc, append-nil) in
     let s₁ = subst (λ (l : List ℕ). Stands b 0 l) laid (stands-first b) in
     let s₂ = section-next b 0 ks _ s₁ in
     let s₃ = section-next b _ bs _ s₂ in

@@ -15,7 +15,8 @@ use Rattle.meaning.specs.Answers.{answerNumbers}
 use Rattle.meaning.specs.Solved.{Built, Gives, a-sum}
 use Rattle.meaning.specs.Certificates.{Checked}
 use Rattle.meaning.specs.Trials.{AllGo, Goes, Means, _and_, certJ, done, jobJ, justEnough, trials}
-use Rattle.meaning.proofs.Small.{counted-out, isCounted, isLaid, isSelection, laid-out, misses, misses-out, picked, picked-out, reached-by, totalled, totalled-out, laid-makes}
+use Rattle.meaning.proofs.Small.{counted-out, isCounted, isLaid, isSelection, laid-out, misses, misses-out}
+use Rattle.meaning.proofs.Small.{picked, picked-out, reached-by, totalled, totalled-out, laid-makes}
 use Rattle.meaning.proofs.Opens.{opens}
 
 abbrev F₁ : Job
@@ -27,7 +28,8 @@ unfolding jobOf
 F₂ = jobOf 4 (7 ∷ []) (3 ∷ 5 ∷ 9 ∷ []) [] []
 
 -- a trial of kind k whose answer is given
-goes : (k : Kind) {j : Job} {a : Answer} {p : List ℕ} → kindOf (j .kind-number) ≡ some k → kindRefusal (roomFor k j) k j (justEnough k j) ≡ 0 → Gives k j (answerNumbers a) p → (k′ : Kind) × Means k′ j a p
+goes : (k : Kind) {j : Job} {a : Answer} {p : List ℕ} → kindOf (j .kind-number) ≡ some k → kindRefusal (roomFor k j) k j (justEnough k j) ≡ 0
+    → Gives k j (answerNumbers a) p → (k′ : Kind) × Means k′ j a p
 goes k e f g = (k, record { unrefused = record { of-kind = e; no-refusal = f }; answer = g })
 
 pub sixteen : AllGo trials

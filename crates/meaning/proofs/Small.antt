@@ -17,7 +17,8 @@ use Rattle.meaning.specs.Orders.{Order, last-least, first-most, last-mos
 use Rattle.meaning.specs.Knapsacks.{MayPick, Selection, Fits, orderOf, BestPicks}
 use Rattle.meaning.specs.Sums.{Reached, ReachedWithin}
 use Rattle.meaning.specs.Blocks.{Makes, Laid, WaysFor, blockOrder}
-use Rattle.meaning.proofs.Tests.{_implies_, implied, implies-intro, below, below-out, below-in, Within, all, all-out, within-each, within-weight}
+use Rattle.meaning.proofs.Tests.{_implies_, implied, implies-intro, below, below-out, below-in}
+use Rattle.meaning.proofs.Tests.{Within, all, all-out, within-each, within-weight}
 use Rattle.meaning.proofs.Members.{every-out, member, member-out, no-repeats, no-repeats-out, same, same-out, same-refl}
 
 -- ---- the orders of choice
@@ -120,7 +121,8 @@ limits-right limited j i = leb i (length (j .copies))
 limits-right free j i = eqb i (labels j) && every (leb 1) (j .weights)
 
 -- such a selection is within them
-pub limits-hold : (k : Knapsack) (j : Job) (i c : ℕ) (q : List ℕ) → T (limits-right k j i) → Selection k j i q → total (j .weights) q ≤ c → Within (limits k j i c) q
+pub limits-hold : (k : Knapsack) (j : Job) (i c : ℕ) (q : List ℕ) → T (limits-right k j i) → Selection k j i q → total (j .weights) q ≤ c
+    → Within (limits k j i c) q
 unfolding limits limits-right labels MayPick
 limits-hold once j i c q t s h =
     let l : length {A = ℕ} (replicate i 1) ≡ i = length-replicate i 1 in
@@ -207,10 +209,18 @@ module _ (k : Knapsack) (j : Job) (p : List ℕ) where
       let (w, t₂) = and-yes (fitting j (j .budget) p) (limits-right k j (labels j) && best-chosen) t₁ in
       let (right, c) = and-yes (limits-right k j (labels j)) best-chosen t₂ in
       let fits : Fits k j (labels j) (j .budget) p = record { selection = selection-out k j p s; weight = leb-yes w } in
-      let within : (q : List ℕ) → Fits k j (labels j) (j .budget) q → Within pick-limits q = λ q f. limits-hold k j (labels j) (j .budget) q right (f .selection) (f .weight) in
+      let within : (q : List ℕ) → Fits k j (labels j) (j .budget) q → Within pick-limits q =
+      λ q f. limits-hold k j (labels j) (j .budget) q right (f .selection) (f .weight) in
       record {
-        one-of = record { fits = fits; greatest = λ q f. leb-yes (as-good (orderOf k) (labels j) pick-limits (fitting j (j .budget)) (worth-no-less j) p c q (within q f) (yes-leb (f .weight))) };
-        settled = λ m h q b. well-settled (orderOf k) (labels j) pick-limits (fitting j (j .budget)) (worth-no-less j) p c q (within q (b .fits)) (yes-leb (b .fits .weight)) (yes-leb (b .greatest p fits)) m h;
+        one-of =
+            record {
+              fits = fits;
+              greatest = λ q f.
+                  leb-yes (as-good (orderOf k) (labels j) pick-limits (fitting j (j .budget)) (worth-no-less j) p c q (within q f) (yes-leb (f .weight)));
+            };
+        settled =
+            λ m h q b. well-settled (orderOf k) (labels j) pick-limits (fitting j (j .budget)) (worth-no-less j) p c q (within q (b .fits))
+            (yes-leb (b .fits .weight)) (yes-leb (b .greatest p fits)) m h;
       }
 
 -- ---- sums
@@ -230,7 +240,9 @@ module _ (j : Job) where
   misses-out t within h o =
       let q : List ℕ = o .picks in
       let fits : total (j .weights) q ≤ j .budget = omega (arith, o .weight) in
-      eqb-no (all-out once-limits (λ q′. not (eqb (total (j .weights) q′) t)) h q (limits-hold once j (labels j) (j .budget) q tt (o .selection) fits)) (o .weight)
+      eqb-no
+      (all-out once-limits (λ q′. not (eqb (total (j .weights) q′) t)) h q (limits-hold once j (labels j) (j .budget) q tt (o .selection) fits))
+      (o .weight)
 
   pub reached-by : (p : List ℕ) (t : ℕ) → T (isSelection once j p) → total (j .weights) p ≡ t → Reached j (labels j) t
   reached-by p t s e = record { picks = p; selection = selection-out once j p s; weight = e }
@@ -332,8 +344,16 @@ module _ (j : Job) (p : List ℕ) where
       let (right, c) = and-yes (limits-right free j (labels j)) fewest-chosen t₁ in
       let makes : Makes j (labels j) (j .budget) p = makes-out j (j .budget) p m in
       record {
-        one-of = record { makes = makes; least = λ q n. leb-yes (as-good blockOrder (labels j) (block-limits j (j .budget)) (exact j (j .budget)) no-more-blocks p c q (makes-within j (j .budget) q right n) (yes-eqb (n .sums-to))) };
-        settled = λ i h q b. well-settled blockOrder (labels j) (block-limits j (j .budget)) (exact j (j .budget)) no-more-blocks p c q (makes-within j (j .budget) q right (b .makes)) (yes-eqb (b .makes .sums-to)) (yes-leb (b .least p makes)) i h;
+        one-of =
+            record {
+              makes = makes;
+              least = λ q n.
+                  let within = makes-within j (j .budget) q right n in
+                  leb-yes (as-good blockOrder (labels j) (block-limits j (j .budget)) (exact j (j .budget)) no-more-blocks p c q within (yes-eqb (n .sums-to)));
+            };
+        settled =
+            λ i h q b. well-settled blockOrder (labels j) (block-limits j (j .budget)) (exact j (j .budget)) no-more-blocks p c q
+            (makes-within j (j .budget) q right (b .makes)) (yes-eqb (b .makes .sums-to)) (yes-leb (b .least p makes)) i h;
       }
 
   pub laid-makes : T isLaid → Makes j (labels j) (j .budget) p
@@ -362,7 +382,8 @@ module _ (j : Job) (a : ℕ) (ps : List (List ℕ)) where
         those = ps;
         distinct = names-distinct same (λ q. q) (block-limits j a) (exact j a) ps same-out same-refl l;
         no-others = λ q m. makes-out j a q (every-out (isMaking j a) ps t q m);
-        them-all = λ q m. named same (λ q′. q′) (block-limits j a) (exact j a) ps same-out same-refl l q (makes-within j a q right m) (yes-eqb (m .sums-to));
+        them-all =
+            λ q m. named same (λ q′. q′) (block-limits j a) (exact j a) ps same-out same-refl l q (makes-within j a q right m) (yes-eqb (m .sums-to));
         size = refl;
       }
 

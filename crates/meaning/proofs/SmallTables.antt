@@ -17,7 +17,9 @@ use Rattle.meaning.specs.Blocks.{FewestRow, MadeOf, WaysRow, tooMany}
 use Rattle.meaning.specs.Certificates.{someCount}
 use Rattle.meaning.proofs.Tests.{_implies_, all, all-out, below, below-out, implied}
 use Rattle.meaning.proofs.Steps.{best-by}
-use Rattle.meaning.proofs.Small.{areWays, block-limits, exact, fitting, isMaking, isSelection, limits-hold, limits-right, makes-out, makes-within, misses, misses-out, once-limits, reached-by, selects, selects-out, unmade, unmade-out, ways-out, limits}
+use Rattle.meaning.proofs.Small.{areWays, block-limits, exact, fitting, isMaking, isSelection, limits-hold}
+use Rattle.meaning.proofs.Small.{limits-right, makes-out, makes-within, misses, misses-out, once-limits, reached-by}
+use Rattle.meaning.proofs.Small.{selects, selects-out, unmade, unmade-out, ways-out, limits}
 
 -- ---- some list of counts
 
@@ -93,7 +95,8 @@ module _ (k : Knapsack) (j : Job) (cells : List ℕ) where
   unfolding isFullTable isFullRow FullTable
   full-table-out t i c hi hc =
       best-out k j i c (at cells (cellNumber j i c))
-      (below-out (suc (j .budget)) (λ c′. isBest k j i c′ (at cells (cellNumber j i c′))) (below-out (suc (labels j)) isFullRow t i (suc-le-suc hi)) c (suc-le-suc hc))
+      (below-out (suc (j .budget)) (λ c′. isBest k j i c′ (at cells (cellNumber j i c′)))
+      (below-out (suc (labels j)) isFullRow t i (suc-le-suc hi)) c (suc-le-suc hc))
 
 -- ---- kind 4
 
@@ -131,9 +134,13 @@ module _ (j : Job) (words : List ℕ) where
   pub bit-table-out : T isBitTable → BitTable j words
   unfolding isBitTable
   bit-table-out h =
-      let (bits, narrow) = and-yes (below (64 * (j .budget / 64 + 1)) (λ t. isSet t || isUnset t)) (below (j .budget / 64 + 1) (λ m. ltb (at words m) (2 ^ 64))) h in
+      let (bits, narrow) =
+      and-yes (below (64 * (j .budget / 64 + 1)) (λ t. isSet t || isUnset t)) (below (j .budget / 64 + 1) (λ m. ltb (at words m) (2 ^ 64))) h in
       record {
-        set = λ t l. elim (or-yes (isSet t) (isUnset t) (below-out (64 * (j .budget / 64 + 1)) (λ t′. isSet t′ || isUnset t′) bits t l)) [ inl a ↦ set-out t a | inr b ↦ unset-out t b ];
+        set =
+            λ t l.
+            elim (or-yes (isSet t) (isUnset t) (below-out (64 * (j .budget / 64 + 1)) (λ t′. isSet t′ || isUnset t′) bits t l))
+            [ inl a ↦ set-out t a | inr b ↦ unset-out t b ];
         narrow = λ m l. ltb-yes (below-out (j .budget / 64 + 1) (λ m′. ltb (at words m′) (2 ^ 64)) narrow m l);
       }
 
@@ -180,7 +187,8 @@ module _ (j : Job) (cells : List ℕ) where
   pub fewest-row-out : T isFewestRow → FewestRow j cells
   unfolding isFewestRow FewestRow
   fewest-row-out t a h =
-      elim (or-yes (isLeast j a (at cells a)) (isNone j a (at cells a)) (below-out (suc (j .budget)) (λ a′. isLeast j a′ (at cells a′) || isNone j a′ (at cells a′)) t a (suc-le-suc h)))
+      elim (or-yes (isLeast j a (at cells a)) (isNone j a (at cells a))
+      (below-out (suc (j .budget)) (λ a′. isLeast j a′ (at cells a′) || isNone j a′ (at cells a′)) t a (suc-le-suc h)))
       [ inl s ↦ least-out j a (at cells a) s | inr n ↦ none-out j a (at cells a) n ]
 
 -- ---- kind 6
@@ -202,5 +210,7 @@ module _ (j : Job) (words : List ℕ) (lists : List (List (List ℕ))) where
   pub ways-row-out : T isWaysRow → WaysRow j words
   unfolding isWaysRow WaysRow
   ways-row-out t a h =
-      let (w, e) = and-yes (areWays j a (ways-of a)) (eqb (at words a) (min (length (ways-of a)) tooMany)) (below-out (suc (j .budget)) isWaysCell t a (suc-le-suc h)) in
+      let (w, e) =
+      and-yes (areWays j a (ways-of a)) (eqb (at words a) (min (length (ways-of a)) tooMany))
+      (below-out (suc (j .budget)) isWaysCell t a (suc-le-suc h)) in
       record { many = length (ways-of a); how-many = ways-out j a (ways-of a) w; lesser = eqb-yes e }

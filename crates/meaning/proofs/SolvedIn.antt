@@ -38,9 +38,13 @@ kept k j lent ok =
     let rules = rulesOf k in
     let c = is-cleared room k j lent (ok .no-refusal) in
     let (n, b) = and-yes (leb (labels j) (rules .label-bound)) (leb (j .budget) (rules .budget-bound)) (c .keeps .bounds) in
-    let (wv, _) = and-yes ((rules .weight-rule) (j .weights) && eachWithin (rules .value-floor) mostValue (j .values)) (eachWithin leastCopies mostCopies (j .copies)) (c .keeps .numbers) in
+    let (wv, _) =
+    and-yes ((rules .weight-rule) (j .weights) && eachWithin (rules .value-floor) mostValue (j .values))
+    (eachWithin leastCopies mostCopies (j .copies)) (c .keeps .numbers) in
     let (w, _) = and-yes ((rules .weight-rule) (j .weights)) (eachWithin (rules .value-floor) mostValue (j .values)) wv in
-    let (cw, p) = and-yes (leb (room .cells) (length (lent .cells)) && leb (room .words) (length (lent .words))) (leb (room .picks) (length (lent .picks))) (c .roomy) in
+    let (cw, p) =
+    and-yes (leb (room .cells) (length (lent .cells)) && leb (room .words) (length (lent .words))) (leb (room .picks) (length (lent .picks)))
+    (c .roomy) in
     let (cs, ws) = and-yes (leb (room .cells) (length (lent .cells))) (leb (room .words) (length (lent .words))) cw in
     record {
       few = leb-yes n;
@@ -138,7 +142,8 @@ module _ (k : Kind) (j : Job) (a : Answer) where
 -- ---- no second choice is left: the answer, and what the slices hold
 
 module _ (j : Job) (a a′ : Answer) where
-  pub one-in-cells : (cells picks c c′ p p′ : List ℕ) → SolvedInCells j cells picks a c p → SolvedInCells j cells picks a′ c′ p′ → (a ≡ a′) × (c ≡ c′) × (p ≡ p′)
+  pub one-in-cells : (cells picks c c′ p p′ : List ℕ) → SolvedInCells j cells picks a c p → SolvedInCells j cells picks a′ c′ p′
+      → (a ≡ a′) × (c ≡ c′) × (p ≡ p′)
   unfolding SolvedInCells lentOf
   one-in-cells cells picks c c′ p p′ x y =
       let one = no-second-choice j (lentOf cells [] picks) (lentOf c [] p) (lentOf c′ [] p′) a a′ (x []) (y []) in

@@ -74,7 +74,8 @@ module _ (k : Knapsack) (j : Job) (i c : ℕ) where
       (total-with (j .values) (r .picks) x i (r .best .fits .selection .one-each) ∙ omega (arith, r .value))
       (λ q f.
       let (p, y, whole, may′, heavy′, f′) = fits-less q f in
-      let worth : total (j .values) q ≡ total (j .values) p + v * y = ap (total (j .values)) whole ∙ total-with (j .values) p y i (f′ .selection .one-each) in
+      let worth : total (j .values) q ≡ total (j .values) p + v * y =
+      ap (total (j .values)) whole ∙ total-with (j .values) p y i (f′ .selection .one-each) in
       omega (arith, above y may′ heavy′, none-better (rows (c - w * y) (omega arith)) p f′))
 
 -- of no labels the best value is 0

@@ -45,7 +45,8 @@ tally-le f g [] h = zero-le
 tally-le f g (x ∷ xs) h = omega (arith, one-le (f x) (g x) (h x), tally-le f g xs h)
 
 -- and fewer, where some member passes g alone
-pub tally-lt : (f g : ℕ → Bool) (xs : List ℕ) → ((x : ℕ) → T (f x) → T (g x)) → (a : ℕ) → List·Memᴰ a xs → T (g a) → (T (f a) → ⊥) → tally f xs < tally g xs
+pub tally-lt : (f g : ℕ → Bool) (xs : List ℕ) → ((x : ℕ) → T (f x) → T (g x)) → (a : ℕ) → List·Memᴰ a xs → T (g a) → (T (f a) → ⊥)
+    → tally f xs < tally g xs
 unfolding tally
 tally-lt f g [] h a m yes′ no′ = absurd (List·Memᴰ·not-nil m)
 tally-lt f g (x ∷ xs) h a m yes′ no′ =
@@ -94,7 +95,8 @@ tally-counts f (x ∷ xs) d = go (f x) refl (tally-counts f xs (d .1))
     }
 
 -- lists without repetition and with the same members have the same tallies
-pub tally-same : (f : ℕ → Bool) (xs ys : List ℕ) → Distinct xs → Distinct ys → ((a : ℕ) → List·Memᴰ a xs → List·Memᴰ a ys) → ((a : ℕ) → List·Memᴰ a ys → List·Memᴰ a xs) → tally f xs ≡ tally f ys
+pub tally-same : (f : ℕ → Bool) (xs ys : List ℕ) → Distinct xs → Distinct ys → ((a : ℕ) → List·Memᴰ a xs → List·Memᴰ a ys)
+    → ((a : ℕ) → List·Memᴰ a ys → List·Memᴰ a xs) → tally f xs ≡ tally f ys
 tally-same f xs ys d e there back =
     counted-unique (tally-counts f xs d)
     (counted-iff (tally-counts f ys e) (λ a h. (back a (h .0), h .1)) (λ a h. (there a (h .0), h .1)))
@@ -118,7 +120,8 @@ tally-step f k = tally-append f (upTo k) (k ∷ []) ∙ omega arith
 pub tally-each : (f g : ℕ → Bool) (k : ℕ) → ((i : ℕ) → i < k → T (f i) → T (g i)) → tally f (upTo k) ≤ tally g (upTo k)
 unfolding upTo tally
 tally-each f g zero h = zero-le
-tally-each f g (suc k) h = omega (arith, tally-step f k, tally-step g k, tally-each f g k (λ i l. h i (omega arith)), one-le (f k) (g k) (h k (le-refl (suc k))))
+tally-each f g (suc k) h =
+    omega (arith, tally-step f k, tally-step g k, tally-each f g k (λ i l. h i (omega arith)), one-le (f k) (g k) (h k (le-refl (suc k))))
 
 -- where each of the first k numbers passes, k do
 pub tally-all : (f : ℕ → Bool) (k : ℕ) → ((i : ℕ) → i < k → T (f i)) → tally f (upTo k) ≡ k

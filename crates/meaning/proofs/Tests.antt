@@ -49,7 +49,8 @@ below (suc n) f = f n && below n f
 pub below-out : (n : ℕ) (f : ℕ → Bool) → T (below n f) → (i : ℕ) → i < n → T (f i)
 unfolding below
 below-out zero f t i h = absurd (not-suc-le-zero h)
-below-out (suc n) f t i h = let (here, rest) = and-yes (f n) (below n f) t in below-more (λ (x : ℕ). T (f x)) n (below-out n f rest) here i (omega arith)
+below-out (suc n) f t i h =
+    let (here, rest) = and-yes (f n) (below n f) t in below-more (λ (x : ℕ). T (f x)) n (below-out n f rest) here i (omega arith)
 
 pub below-in : (n : ℕ) (f : ℕ → Bool) → ((i : ℕ) → i < n → T (f i)) → T (below n f)
 unfolding below

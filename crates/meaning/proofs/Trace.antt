@@ -56,22 +56,26 @@ module _ (k : Knapsack) (least : orderOf k ≡ last-least) (j : Job) (i c : ℕ)
           let (p′, y, whole-q, mayq, heavyq, f′) = fits-less k j i c q (bq .fits) in
           let short : length p′ ≡ i = f′ .selection .one-each in
           let q-best : total (j .values) q ≡ b = omega (arith, worth, best .greatest q (bq .fits), bq .greatest (p ++ (x ∷ [])) (best .fits)) in
-          let q-worth : total (j .values) p′ + v * y ≡ b = sym (total-with (j .values) p′ y i short) ∙ ap (total (j .values)) (sym whole-q) ∙ q-best in
+          let q-worth : total (j .values) p′ + v * y ≡ b =
+          sym (total-with (j .values) p′ y i short) ∙ ap (total (j .values)) (sym whole-q) ∙ q-best in
           let x-last : at (p ++ (x ∷ [])) i ≡ x = getD-at p x [] 0 i long in
           let y-last : at q i ≡ y = ap (λ (l : List ℕ). at l i) whole-q ∙ getD-at p′ y [] 0 i short in
           elim (decLe i m) [
             | yes ge ↦
                 let here : m ≡ i = omega arith in
                 let (r, br) = row y heavyq in
-                let no-fewer : x ≤ y = elim (decLe x y) [ yes le ↦ le | no gt ↦ absurd (omega (arith, none-better br p′ f′, fewer y (omega arith) mayq heavyq r br)) ] in
+                let no-fewer : x ≤ y =
+                elim (decLe x y) [ yes le ↦ le | no gt ↦ absurd (omega (arith, none-better br p′ f′, fewer y (omega arith) mayq heavyq r br)) ] in
                 subst (λ (z : ℕ). at (p ++ (x ∷ [])) z ≤ at q z) (sym here) (omega arith)
             | no lt ↦
                 let m′ : m < i = omega arith in
                 let same : y ≡ x = sym y-last ∙ a i (le-refl (suc i)) m′ ∙ x-last in
                 let f″ : Fits k j i (c - w * x) p′ = subst (λ (z : ℕ). Fits k j i (c - w * z) p′) same f′ in
                 let equal : total (j .values) p′ ≡ total (j .values) p = omega (arith, ap (λ (z : ℕ). v * z) same) in
-                let best′ : Best k j i (c - w * x) p′ = record { fits = f″; greatest = λ q′ g. le-trans (t .one-of .greatest q′ g) (le-of-eq (sym equal)) } in
-                let in-q : (n : ℕ) → n < i → at q n ≡ at p′ n = λ n hn. ap (λ (l : List ℕ). at l n) whole-q ∙ List·getD-append p′ (y ∷ []) 0 n (omega arith) in
+                let best′ : Best k j i (c - w * x) p′ =
+                record { fits = f″; greatest = λ q′ g. le-trans (t .one-of .greatest q′ g) (le-of-eq (sym equal)) } in
+                let in-q : (n : ℕ) → n < i → at q n ≡ at p′ n =
+                λ n hn. ap (λ (l : List ℕ). at l n) whole-q ∙ List·getD-append p′ (y ∷ []) 0 n (omega arith) in
                 let in-p : (n : ℕ) → n < i → at (p ++ (x ∷ [])) n ≡ at p n = λ n hn. List·getD-append p (x ∷ []) 0 n (omega (arith, long)) in
                 let agree : (n : ℕ) → n < i → m < n → at p′ n ≡ at p n = λ n hn later. sym (in-q n hn) ∙ a n (omega arith) later ∙ in-p n hn in
                 let under : at p m ≤ at p′ m = t′ .settled m m′ p′ best′ agree in
@@ -83,7 +87,8 @@ pub picks-none : (k : Knapsack) (j : Job) (c : ℕ) → BestPicks k j 0 c []
 unfolding BestPicks
 picks-none k j c =
     only-choice (orderOf k) 0 (Best k j 0 c) []
-    (subst (λ (p : List ℕ). Best k j 0 c p) (empty-of (best-none k j c .picks) (best-none k j c .best .fits .selection .one-each)) (best-none k j c .best))
+    (subst (λ (p : List ℕ). Best k j 0 c p)
+    (empty-of (best-none k j c .picks) (best-none k j c .best .fits .selection .one-each)) (best-none k j c .best))
     (λ q b. empty-of q (b .fits .selection .one-each))
 
 -- the chosen picks are worth the best value

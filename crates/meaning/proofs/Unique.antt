@@ -1,10 +1,9 @@
 -- No second choice is left: two answers that meet a promise for one input are the same, and so is what they leave in the lent slices.
 -- Assumes nothing.
-use mathlib.Core.Path.{_∙_, _≡_, ap, ap₂, refl, sym}
+use mathlib.Core.Path.{_∙_, _≡_, ap, refl, sym}
 use mathlib.Core.Option.{Option, none, some}
 use Prim.Native.Nat.{suc, zero, ℕ}
-use native.Mathlib.Omega.{arith}
-use mathlib.Core.Bool.{Bool, false, true}
+use mathlib.Core.Bool.{false, true}
 use mathlib.Core.List.{List, _++_}
 use lib.Dec.{eqb}
 use lib.ListN.{drop, length}
@@ -14,22 +13,19 @@ use Rattle.meaning.specs.declared.Verdict.{Verdict}
 use Rattle.meaning.specs.declared.Verdict.the-variants as Judges
 use Rattle.meaning.specs.declared.Written.{Written}
 use Rattle.meaning.specs.declared.Written.the-variants as Reports
-use Rattle.meaning.specs.Lists.{if, total}
+use Rattle.meaning.specs.Lists.{if}
 use Rattle.meaning.specs.Slices.{Holds}
-use Rattle.meaning.specs.Job.{Job, Kind, Knapsack, block-ways, fewest-blocks, kindOf, packing, labels, sharing, subset-sums}
+use Rattle.meaning.specs.Job.{Job, Kind, Knapsack, kindOf}
 use Rattle.meaning.specs.Lent.{Lent, Room, roomFor}
 use Rattle.meaning.specs.Refusals.{kindRefusal}
 use Rattle.meaning.specs.Bytes.{JobRead, readJob, readable, unreadable}
-use Rattle.meaning.specs.Knapsacks.{Best, BestPicks, orderOf}
-use Rattle.meaning.specs.Sums.{TotalCount, YesOrNo}
-use Rattle.meaning.specs.Blocks.{Fewest, Laid, blockOrder}
-use Rattle.meaning.specs.Answers.{Which, is-refusal, is-knapsack, is-sums, is-blocks, is-ways, is-shares, AnswerNumbers, answerNumbers, VerdictNumbers, verdictNumbers, WrittenNumbers, writtenNumbers}
-use Rattle.meaning.specs.Solved.{Answered, Built, Gives, WaysGiven, Outcome, Packed, Solved, SolvedAs, SolvedBytes, SolvedLists, SolvedRead, SumOrNone, Summed, TableHolds, TurnedDown, a-sum, no-such-sum, waysAnswer}
+use Rattle.meaning.specs.Answers.{Which, is-refusal, is-knapsack, is-sums, is-blocks, is-ways, is-shares}
+use Rattle.meaning.specs.Answers.{AnswerNumbers, answerNumbers, VerdictNumbers, verdictNumbers, WrittenNumbers, writtenNumbers}
+use Rattle.meaning.specs.Solved.{Answered, Outcome, Solved, SolvedAs, SolvedBytes, SolvedLists, SolvedRead, TableHolds, TurnedDown}
 use Rattle.meaning.specs.Certificates.{Checked}
 use Rattle.meaning.specs.Writer.{Writes, WritesBytes, WritesRead, WritesAs}
 use Rattle.meaning.specs.Host.{firstNumber, secondNumber, SolvedHost, WritesHost}
-use Rattle.meaning.proofs.Counting.{counted-unique}
-use Rattle.meaning.proofs.OneOfEach.{OneTable, Sized, chosen-unique, table-unique, tells-unique, ways-unique}
+use Rattle.meaning.proofs.EachKind.{OneTable, Sized, gives-unique, table-unique}
 
 -- ---- the numbers and the case settle the answer itself
 
@@ -72,58 +68,6 @@ written-numbers-unique (Reports.Bytes n) (Reports.Refused r) e = let c : true �
 written-numbers-unique (Reports.Refused r) (Reports.Bytes n) e = let c : false ≡ true = ap (λ (s : WrittenNumbers). s .done) e in cc
 written-numbers-unique (Reports.Refused r) (Reports.Refused r′) e = ap (λ (s : WrittenNumbers). Reports.Refused (s .refusal)) e
 
--- ---- what each kind says and writes
-
-packed-unique : {k : Knapsack} {j : Job} {s s′ : AnswerNumbers} {p p′ : List ℕ} → Packed k j s p → Packed k j s′ p′ → (p ≡ p′) × (s ≡ s′)
-unfolding BestPicks
-packed-unique {k} {j} {s} {s′} {p} {p′} a b =
-    let same : p ≡ p′ = chosen-unique (orderOf k) (labels j) (Best k j (labels j) (j .budget)) p p′ (a .picked) (b .picked)
-    (a .picked .one-of .fits .selection .one-each) (b .picked .one-of .fits .selection .one-each) in
-    (same, a .numbers ∙ ap (λ (x : List ℕ). answerNumbers (Says.Knapsack (total (j .values) x) (total (j .weights) x))) same ∙ sym (b .numbers))
-
-same-bit : (x y : Bool) → _≡_ {A = ℕ} (if x 1 0) (if y 1 0) → x ≡ y
-unfolding if
-same-bit true true e = refl
-same-bit true false e = absurd (omega arith)
-same-bit false true e = absurd (omega arith)
-same-bit false false e = refl
-
-summed-unique : {j : Job} {s s′ : AnswerNumbers} {p p′ : List ℕ} → Summed j s p → Summed j s′ p′ → (p ≡ p′) × (s ≡ s′)
-unfolding YesOrNo TotalCount
-summed-unique a b =
-    let e : a .yes ≡ b .yes = same-bit (a .yes) (b .yes) (tells-unique (a .tells) (b .tells)) in
-    let f : a .totals ≡ b .totals = counted-unique (a .how-many) (b .how-many) in
-    (a .none-written ∙ sym (b .none-written), a .numbers ∙ ap₂ (λ (y : Bool) (n : ℕ). answerNumbers (Says.Sums y n)) e f ∙ sym (b .numbers))
-
--- a sum, or none: one of them, where there is one choice at most
-sum-or-none-unique : {Exact Choice : List ℕ → Type 0} {answer : List ℕ → Answer} {s s′ : AnswerNumbers} {p p′ : List ℕ} → ((q r : List ℕ) → Choice q → Choice r → q ≡ r)
-    → SumOrNone Exact Choice answer s p → SumOrNone Exact Choice answer s′ p′ → (p ≡ p′) × (s ≡ s′)
-sum-or-none-unique {answer = answer} {p = p} {p′ = p′} one (a-sum m c e) (a-sum m′ c′ e′) =
-    let same : p ≡ p′ = one p p′ c c′ in
-    (same, e ∙ ap (λ (x : List ℕ). answerNumbers (answer x)) same ∙ sym e′)
-sum-or-none-unique {p = p} one (a-sum m c e) (no-such-sum n e′ z) = absurd (n p m)
-sum-or-none-unique {p′ = p′} one (no-such-sum n e z) (a-sum m c e′) = absurd (n p′ m)
-sum-or-none-unique one (no-such-sum n e z) (no-such-sum n′ e′ z′) = (z ∙ sym z′, e ∙ sym e′)
-
-laid-unique : (j : Job) (a : ℕ) (p q : List ℕ) → Laid j a p → Laid j a q → p ≡ q
-unfolding Laid
-laid-unique j a p q l l′ = chosen-unique blockOrder (labels j) (Fewest j (labels j) a) p q l l′ (l .one-of .makes .one-each) (l′ .one-of .makes .one-each)
-
-ways-given-unique : {j : Job} {s s′ : AnswerNumbers} {p p′ : List ℕ} → WaysGiven j s p → WaysGiven j s′ p′ → (p ≡ p′) × (s ≡ s′)
-ways-given-unique {j} a b = (
-  a .none-written ∙ sym (b .none-written),
-  a .numbers ∙ ap (λ (w : ℕ). answerNumbers (waysAnswer w)) (ways-unique j (labels j) (j .budget) (a .ways) (b .ways) (a .how-many) (b .how-many)) ∙ sym (b .numbers),
-)
-
--- each kind says one thing and writes one list
-pub gives-unique : (k : Kind) (j : Job) (s s′ : AnswerNumbers) (p p′ : List ℕ) → Gives k j s p → Gives k j s′ p′ → (p ≡ p′) × (s ≡ s′)
-unfolding Gives Built
-gives-unique (packing k) j s s′ p p′ a b = packed-unique a b
-gives-unique subset-sums j s s′ p p′ a b = summed-unique a b
-gives-unique fewest-blocks j s s′ p p′ a b = sum-or-none-unique (laid-unique j (j .budget)) a b
-gives-unique block-ways j s s′ p p′ a b = ways-given-unique a b
-gives-unique sharing j s s′ p p′ a b = (a .given ∙ sym (b .given), a .numbers ∙ sym (b .numbers))
-
 -- ---- the planner
 
 -- one answer, and one content of the lent slices
@@ -134,11 +78,13 @@ pub record One (a a′ : Answer) (t t′ : Lent) : Type 0 where
 as-one : {a a′ : Answer} {t t′ : Lent} → (answerNumbers a ≡ answerNumbers a′) × (t ≡ t′) → One a a′ t t′
 as-one e = record { answer = answer-numbers-unique (e .0); left = e .1 }
 
-sized : {room : Room} {table : Lent → Type 0} {k : Kind} {j : Job} {before t : Lent} {s : AnswerNumbers} → (a : Answered room table k j before s t) → Sized room (a .content)
+sized : {room : Room} {table : Lent → Type 0} {k : Kind} {j : Job} {before t : Lent} {s : AnswerNumbers} → (a : Answered room table k j before s t)
+    → Sized room (a .content)
 sized a = record { cells = a .cells-needed; words = a .words-needed }
 
 -- what stood in the lent slices has no influence: two calls on an accepted job, whatever the slices held before, say the same and write the same
-pub no-influence : {room : Room} {table : Lent → Type 0} (k : Kind) (j : Job) (before before′ t t′ : Lent) (s s′ : AnswerNumbers) → OneTable room table
+pub no-influence : {room : Room} {table : Lent → Type 0} (k : Kind) (j : Job) (before before′ t t′ : Lent) (s s′ : AnswerNumbers)
+    → OneTable room table
     → (a : Answered room table k j before s t) (b : Answered room table k j before′ s′ t′) → (s ≡ s′) × (a .content ≡ b .content)
 unfolding OneTable
 no-influence k j before before′ t t′ s s′ one-table a b =
@@ -192,7 +138,8 @@ pub no-second-choice : (j : Job) (before t t′ : Lent) (a a′ : Answer) → So
 unfolding Solved
 no-second-choice j before t t′ a a′ x y = lists-unique roomFor TableHolds table-unique j before t t′ a a′ x y
 
-pub no-second-choice-bytes : (bytes : List ℕ) (before t t′ : Lent) (a a′ : Answer) → SolvedBytes bytes before a t → SolvedBytes bytes before a′ t′ → One a a′ t t′
+pub no-second-choice-bytes : (bytes : List ℕ) (before t t′ : Lent) (a a′ : Answer) → SolvedBytes bytes before a t → SolvedBytes bytes before a′ t′
+    → One a a′ t t′
 unfolding SolvedBytes
 no-second-choice-bytes bytes before t t′ a a′ x y = read-unique roomFor TableHolds table-unique (readJob bytes) before t t′ a a′ x y
 
@@ -211,7 +158,8 @@ pub record OneWriting (a a′ : Written) (after after′ : List ℕ) : Type 0 wh
 
 writes-as-unique : {r n : ℕ} {certB before after after′ : List ℕ} {a a′ : Written}
     → WritesAs r n certB before a after → WritesAs r n certB before a′ after′ → OneWriting a a′ after after′
-writes-as-unique {a = a} {a′ = a′} x y = record { answer = written-numbers-unique a a′ (x .numbers ∙ sym (y .numbers)); left = holds-unique _ _ _ _ _ refl (x .leaves) (y .leaves) }
+writes-as-unique {a = a} {a′ = a′} x y =
+    record { answer = written-numbers-unique a a′ (x .numbers ∙ sym (y .numbers)); left = holds-unique _ _ _ _ _ refl (x .leaves) (y .leaves) }
 
 pub no-second-writing : (j : Job) (picks cells before after after′ : List ℕ) (a a′ : Written)
     → Writes j picks cells before a after → Writes j picks cells before a′ after′ → OneWriting a a′ after after′
@@ -257,7 +205,8 @@ pub record OneWritingCall (r r′ bytes bytes′ : ℕ) (after after′ : List �
   pub left : after ≡ after′
 
 pub one-host-writing : (jobB picks cells before after after′ : List ℕ) (r r′ bytes bytes′ : ℕ)
-    → WritesHost jobB picks cells before r bytes after → WritesHost jobB picks cells before r′ bytes′ after′ → OneWritingCall r r′ bytes bytes′ after after′
+    → WritesHost jobB picks cells before r bytes after → WritesHost jobB picks cells before r′ bytes′ after′
+    → OneWritingCall r r′ bytes bytes′ after after′
 one-host-writing jobB picks cells before after after′ r r′ bytes bytes′ x y =
     let one = no-second-writing-bytes jobB picks cells before after after′ (x .answer) (y .answer) (x .writes) (y .writes) in
     let wrote : writtenNumbers (x .answer) ≡ writtenNumbers (y .answer) = ap writtenNumbers (one .answer) in

@@ -6,7 +6,8 @@ use Prim.Native.Nat.{ℕ, zero, suc, _<_}
 use native.Mathlib.Decide.{decLe, decLt}
 use native.Mathlib.Nat.{le-antisymm, not-suc-le-zero, le-of-suc-le-suc}
 use native.Mathlib.Omega.{arith}
-use mathlib.Core.List.{List, [], _∷_, map, List·Memᴰ, List·Memᴰ·head, List·Memᴰ·not-nil, List·Memᴰ·eq-of-singleton, List·Memᴰ·append-cases, Memᴰ·append-left, Memᴰ·append-right, map-append}
+use mathlib.Core.List.{List, [], _∷_, map, List·Memᴰ, List·Memᴰ·head}
+use mathlib.Core.List.{List·Memᴰ·not-nil, List·Memᴰ·eq-of-singleton, List·Memᴰ·append-cases, Memᴰ·append-left, Memᴰ·append-right, map-append}
 use lib.ListN.{length, length-append, length-map, List·getD-append}
 use lib.Seq.{getD-at}
 use Rattle.meaning.specs.Lists.{at, upTo}

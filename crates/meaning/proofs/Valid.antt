@@ -2,7 +2,8 @@
 -- Assumes nothing.
 use mathlib.Core.Path.{_≡_, _∙_, refl}
 use Prim.Native.Nat.{_*_, _+_, _<_, _≤_, suc, zero, zero-le, ℕ}
-use native.Mathlib.Nat.{le-of-eq, le-of-suc-le-suc, le-trans, not-suc-le-zero, mul-add, mul-le-mul, mul-le-mul-left, mul-le-mul-right, one-mul, suc-inj}
+use native.Mathlib.Nat.{le-of-eq, le-of-suc-le-suc, le-trans, not-suc-le-zero, mul-add}
+use native.Mathlib.Nat.{mul-le-mul, mul-le-mul-left, mul-le-mul-right, one-mul, suc-inj}
 use native.Mathlib.Omega.{arith}
 use mathlib.Core.Bool.{Bool, _&&_, false, not, true}
 use mathlib.Core.List.{List, [], _∷_}
@@ -13,7 +14,8 @@ use Rattle.meaning.specs.Lists.{at, every, if, total}
 use Rattle.meaning.specs.Job.{Job, Knapsack, packing, labels, Kind, free, jobOf}
 use Rattle.meaning.specs.Lent.{cellCount, Lent, Room}
 use Rattle.meaning.specs.Bounds.{leastCopies, mostBudget, mostCopies, mostLabels, mostValue}
-use Rattle.meaning.specs.Refusals.{Rules, ascendingFrom, boundsFit, eachWithin, hasCopies, jobRefusal, knapsackRules, leastValue, listsFit, numbersFit, positive, rulesOf, claimsFit, kindRefusal, roomFits}
+use Rattle.meaning.specs.Refusals.{Rules, ascendingFrom, boundsFit, eachWithin, hasCopies, jobRefusal, knapsackRules, leastValue}
+use Rattle.meaning.specs.Refusals.{listsFit, numbersFit, positive, rulesOf, claimsFit, kindRefusal, roomFits}
 use Rattle.meaning.specs.Knapsacks.{BestValue, MayPick}
 use Rattle.meaning.proofs.Steps.{best-by}
 use Rattle.meaning.proofs.Sections.{limit32}
@@ -73,7 +75,8 @@ unfolding listsFit boundsFit numbersFit rulesOf knapsackRules if
 is-valid k j later p =
     let (l, l′) = and-yes (eqb (length (j .values)) (labels j)) (eqb (length (j .copies)) (if (hasCopies k) (labels j) 0)) (p .lists) in
     let (n, c) = and-yes (leb (labels j) mostLabels) (leb (j .budget) mostBudget) (p .bounds) in
-    let (wv, cs) = and-yes (positive (j .weights) && eachWithin (leastValue k) mostValue (j .values)) (eachWithin leastCopies mostCopies (j .copies)) (p .numbers) in
+    let (wv, cs) =
+    and-yes (positive (j .weights) && eachWithin (leastValue k) mostValue (j .values)) (eachWithin leastCopies mostCopies (j .copies)) (p .numbers) in
     let (w, v) = and-yes (positive (j .weights)) (eachWithin (leastValue k) mostValue (j .values)) wv in
     record {
       few = leb-yes n;
@@ -185,4 +188,4 @@ value-reached =
     best-by (mostBudget ∷ [])
     (record { selection = record { one-each = refl; allowed = λ m h. tt }; weight = omega (arith, one-mul mostBudget) })
     (omega arith)
-    (λ q f. le-trans (worth-bound 1 (1 ∷ []) (65_535 ∷ []) q refl tt tt) (mul-le-mul-left 65_535 (f .weight)))
+    (λ q f. le-trans (worth-bound 1 (1 ∷ []) (mostValue ∷ []) q refl tt tt) (mul-le-mul-left mostValue (f .weight)))

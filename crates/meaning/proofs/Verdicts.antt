@@ -20,8 +20,10 @@ use Rattle.meaning.specs.declared.Needed.the-variants.{Any, Exactly}
 use Rattle.meaning.specs.Lists.{if, total}
 use Rattle.meaning.specs.Job.{Job, labels}
 use Rattle.meaning.specs.Lent.{cellCount}
-use Rattle.meaning.specs.Bytes.{atEnd, isNeeded, numberAt, numbersIn, between, readSection, readable, sectionBytes, unreadable, wholeSection, withSection}
-use Rattle.meaning.specs.Certificates.{certifiedRefusal, certificateBroken, first, lowCell, misvalued, orElse, overPicked, overweight, unlessFound, unlessRefused, verdictOnCells, verdictOnCertificate, verdictOnJob}
+use Rattle.meaning.specs.Bytes.{atEnd, isNeeded, numberAt, numbersIn, between, readSection}
+use Rattle.meaning.specs.Bytes.{readable, sectionBytes, unreadable, wholeSection, withSection}
+use Rattle.meaning.specs.Certificates.{certifiedRefusal, certificateBroken, first, lowCell, misvalued, orElse, overPicked}
+use Rattle.meaning.specs.Certificates.{overweight, unlessFound, unlessRefused, verdictOnCells, verdictOnCertificate, verdictOnJob}
 use Rattle.meaning.specs.Demands.{listIn}
 use Rattle.meaning.proofs.Numbers.{section-whole, SectionFound, section-found, section-numbers}
 use Rattle.meaning.proofs.Sections.{All32, Stands, end-back, read-on, section-next, stands-first, limit32}
@@ -129,7 +131,8 @@ unfolding isNeeded
 needed-count n c e = eqb-true c n e
 
 -- whatever count is asked for, it is the same section
-section-any : (needed : Needed) (b : List ℕ) (p start count next : ℕ) → SectionFound needed b p start count next → readSection Any b p ≡ Part start count next
+section-any : (needed : Needed) (b : List ℕ) (p start count next : ℕ) → SectionFound needed b p start count next
+    → readSection Any b p ≡ Part start count next
 unfolding isNeeded wholeSection
 section-any needed b p start count next s =
     let within : p + 4 + 4 * numberAt b p ≤ length b = omega (arith, s .starts, s .found, s .ends, s .inside) in
@@ -153,28 +156,35 @@ read-and-seen j b v e =
     record {
       cells = cells;
       long = ap length list ∙ section-numbers b s c n (r .ends) (r .inside) ∙ needed-count (labels j) c (r .right);
-      judged = subst (λ (p : List ℕ). Seen j p cells v) (sym list) (was-seen j (numbersIn (between b s n)) cells v (past-end b n′ (verdictOnCells j (numbersIn (between b s n)) cells) v e₄));
+      judged =
+          subst (λ (p : List ℕ). Seen j p cells v) (sym list)
+          (was-seen j (numbersIn (between b s n)) cells v (past-end b n′ (verdictOnCells j (numbersIn (between b s n)) cells) v e₄));
     }
 
 -- ---- picks and cells that were written
 
 -- certificate bytes of picks and cells that are of the needed counts and of 32 bits are read as those
-pub verdict-written : (j : Job) (picks cells : List ℕ) → length picks ≡ labels j → length cells ≡ cellCount j → labels j < limit32 → cellCount j < limit32
+pub verdict-written : (j : Job) (picks cells : List ℕ) → length picks ≡ labels j → length cells ≡ cellCount j → labels j < limit32
+    → cellCount j < limit32
     → All32 picks → All32 cells → verdictOnCertificate j (sectionBytes picks ++ sectionBytes cells) ≡ verdictOnCells j picks cells
 unfolding verdictOnCertificate isNeeded
 verdict-written j picks cells lp lc np nc sp sc =
     let b : List ℕ = sectionBytes picks ++ sectionBytes cells in
-    let one : Stands b 0 (sectionBytes picks ++ (sectionBytes cells ++ [])) = subst (λ (l : List ℕ). Stands b 0 l) (simp append-nil) (stands-first b) in
+    let one : Stands b 0 (sectionBytes picks ++ (sectionBytes cells ++ [])) =
+    subst (λ (l : List ℕ). Stands b 0 l) (simp append-nil) (stands-first b) in
     let two = section-next b 0 picks _ one in
     let three = section-next b _ cells [] two in
-    read-on b 0 picks _ one (subst (λ (n : ℕ). n < limit32) (sym lp) np) (Exactly (labels j)) certificateBroken _ sp (eq-eqb (length picks) (labels j) lp)
-    ∙ read-on b _ cells [] two (subst (λ (n : ℕ). n < limit32) (sym lc) nc) (Exactly (cellCount j)) certificateBroken _ sc (eq-eqb (length cells) (cellCount j) lc)
+    read-on b 0 picks _ one (subst (λ (n : ℕ). n < limit32) (sym lp) np) (Exactly (labels j)) certificateBroken _ sp
+    (eq-eqb (length picks) (labels j) lp)
+    ∙ read-on b _ cells [] two (subst (λ (n : ℕ). n < limit32) (sym lc) nc) (Exactly (cellCount j)) certificateBroken _ sc
+    (eq-eqb (length cells) (cellCount j) lc)
     ∙ end-back b _ certificateBroken (verdictOnCells j picks cells) three
 
 -- and their list is the picks
 pub list-written : (picks cells : List ℕ) → length picks < limit32 → All32 picks → listIn (sectionBytes picks ++ cells) ≡ picks
 unfolding listIn isNeeded
-list-written picks cells many small = read-on (sectionBytes picks ++ cells) 0 picks cells (stands-first (sectionBytes picks ++ cells)) many Any _ _ small refl
+list-written picks cells many small =
+    read-on (sectionBytes picks ++ cells) 0 picks cells (stands-first (sectionBytes picks ++ cells)) many Any _ _ small refl
 
 -- ---- from the job bytes
 
@@ -184,7 +194,8 @@ unfolding verdictOnJob
 on-unreadable place certB v e = refused≢accepted e
 
 -- accepted for a job: it isn't refused, and its certificate is accepted
-pub on-readable : (j : Job) (certB : List ℕ) (v : ℕ) → verdictOnJob (readable j) certB ≡ Accepted v → (certifiedRefusal j 0 ≡ 0) × (verdictOnCertificate j certB ≡ Accepted v)
+pub on-readable : (j : Job) (certB : List ℕ) (v : ℕ) → verdictOnJob (readable j) certB ≡ Accepted v
+    → (certifiedRefusal j 0 ≡ 0) × (verdictOnCertificate j certB ≡ Accepted v)
 unfolding verdictOnJob
 on-readable j certB v e = past-refusal (certifiedRefusal j 0) (verdictOnCertificate j certB) v e
 

@@ -1,6 +1,6 @@
--- The versions that document 01 names, each shown not to keep the promise, by every door: a planner that refuses everything, answers 0 or writes no cells; and a
--- checker that accepts everything, or refuses everything. Each goes wrong on requests that aren't to be refused, and may do right on all others. (Held has the laws
--- over every job; by them totals, ways and spare can't be invented.)
+-- The versions that document 01 names, each shown not to keep the promise, by every door: a planner that refuses everything, answers 0 or writes no
+-- cells; and a checker that accepts everything, or refuses everything. Each goes wrong on requests that aren't to be refused, and may do right on all
+-- others. (Held has the laws over every job; by them totals, ways and spare can't be invented.)
 -- Assumes nothing.
 use mathlib.Core.Path.{_∙_, _≡_, ap, refl, subst, sym}
 use Prim.Native.Nat.{ℕ, _≤_}
@@ -8,37 +8,37 @@ use native.Mathlib.Nat.{le-refl}
 use native.Mathlib.Omega.{arith}
 use mathlib.Core.List.{List, [], _∷_, _++_}
 use lib.Dec.{lit≤}
-use lib.ListN.{List·getD-append, drop, length, replicate}
+use lib.ListN.{List·getD-append, drop, length}
 use Rattle.meaning.specs.declared.Answer.{Answer}
 use Rattle.meaning.specs.declared.Answer.the-variants as Says
 use Rattle.meaning.specs.declared.Verdict.{Verdict}
 use Rattle.meaning.specs.declared.Verdict.the-variants.{Accepted}
 use Rattle.meaning.specs.Lists.{at}
 use Rattle.meaning.specs.Slices.{Holds}
-use Rattle.meaning.specs.Job.{Job, Kind, Knapsack, block-ways, fewest-blocks, free, labels, limited, once, packing, sharing, subset-sums}
-use Rattle.meaning.specs.Lent.{Lent, cellCount, lentOf, roomFor, roomOf}
+use Rattle.meaning.specs.Job.{Job, Kind, Knapsack, labels, once, sharing}
+use Rattle.meaning.specs.Lent.{Lent, roomFor}
 use Rattle.meaning.specs.Bytes.{jobBytes, readJob, readable, sectionBytes}
 use Rattle.meaning.specs.Knapsacks.{BestPicks, Fits}
 use Rattle.meaning.specs.Answers.{AnswerNumbers, answerNumbers}
 use Rattle.meaning.specs.Solved.{Answered, Solved, SolvedBytes, TableHolds, Unrefused}
-use Rattle.meaning.specs.Host.{SolvedHost, firstNumber}
 use Rattle.meaning.specs.Certificates.{certificateCells}
+use Rattle.meaning.specs.Host.{SolvedHost, firstNumber}
 use Rattle.meaning.specs.Demands.{Accepts, BestList, Demand3, Sound, ValidJob, listIn}
 use Rattle.meaning.specs.Trials.{jobJ}
-use Rattle.meaning.proofs.OneOfEach.{table-unique}
+use Rattle.meaning.proofs.EachKind.{Late, not-said, numbered, table-left, table-unique, tableOf}
 use Rattle.meaning.proofs.Unique.{no-influence}
 use Rattle.meaning.proofs.Laws.{bytes-solved, unrefused-answered}
 use Rattle.meaning.proofs.FullTables.{best-of}
 use Rattle.meaning.proofs.Certified.{certified-once, counts-shown}
 use Rattle.meaning.proofs.Small.{picked, picked-out, selects, selects-out}
 use Rattle.meaning.proofs.Opens.{opens}
-use Rattle.meaning.proofs.Cases.{caseJ, tried}
-use Rattle.meaning.proofs.Held.{Late, not-said, refusals, refused-only, trial-says, tried-back, tried-goes}
+use Rattle.meaning.proofs.Cases.{caseJ, tried, filled, trial-facts}
+use Rattle.meaning.proofs.Held.{refused-only, trial-says, tried-back, tried-goes}
 
 -- ---- a version by any door
 
--- a door in its own words: what a call hands in and gets back, and what is promised of it; which job a call asks for, and the slices that the planner is lent
--- then; and of what comes back, that it is a refusal, and that the first number of an answer of kind k is 0
+-- a door in its own words: what a call hands in and gets back, and what is promised of it; which job a call asks for, and the slices that the planner
+-- is lent then; and of what comes back, that it is a refusal, and that the first number of an answer of kind k is 0
 pub record Door : Type 1 where
   pub Call : Type 0
   pub Given : Type 0
@@ -99,14 +99,6 @@ doorOf l = record {
   Answers0 = λ k g. l .Answers0 (g .0);
 }
 
--- where the table of kind k stands; kind 7 has none
-unfoldable pub tableOf : Kind → Lent → List ℕ
-tableOf (packing s) lent = lent .cells
-tableOf subset-sums lent = lent .words
-tableOf fewest-blocks lent = lent .cells
-tableOf block-ways lent = lent .words
-tableOf sharing lent = []
-
 -- what no version by such a door can do
 pub record LentShutOut (l : LentDoor) (k : Kind) : Type 0 where
   pub answers : ShutOut (doorOf l) k
@@ -114,23 +106,8 @@ pub record LentShutOut (l : LentDoor) (k : Kind) : Type 0 where
 
 -- ---- one law for every door: whoever keeps its promise shows the answer of the trial of kind k, which is no refusal, and whose first number isn't 0
 
--- what that answer says
-record Proper (s : AnswerNumbers) : Type 0 where
-  no-refusal : refusals (s .case) ≡ 0
-  not-0 : 1 ≤ firstNumber s
-
-tried-proper : (k : Kind) → Proper (answerNumbers (tried k .answer))
-unfolding opens refusals firstNumber
-tried-proper (packing once) = record { no-refusal = refl; not-0 = lit≤ tt }
-tried-proper (packing limited) = record { no-refusal = refl; not-0 = lit≤ tt }
-tried-proper (packing free) = record { no-refusal = refl; not-0 = lit≤ tt }
-tried-proper subset-sums = record { no-refusal = refl; not-0 = lit≤ tt }
-tried-proper fewest-blocks = record { no-refusal = refl; not-0 = lit≤ tt }
-tried-proper block-ways = record { no-refusal = refl; not-0 = lit≤ tt }
-tried-proper sharing = record { no-refusal = refl; not-0 = lit≤ tt }
-
 pub not-refused : (k : Kind) → ¬ Refusal (tried k .answer)
-not-refused k (r, e) = not-said r (tried k .answer) (tried-proper k .no-refusal) (sym (ap answerNumbers e))
+not-refused k (r, e) = not-said r (tried k .answer) (trial-facts k .no-refusal) (sym (ap answerNumbers e))
 
 -- an answer to a job and the slices as they are left, both in some way shown
 pub record SolvedAndShown (j : Job) (lent : Lent) (Shown : Answer → Lent → Type 0) : Type 0 where
@@ -156,9 +133,11 @@ module _ (d : Door) (Shown : Job → d .Given → Answer → Lent → Type 0)
   unfolding Never
   shut-out k c asks ok =
       let asked : Asked d k c = record { job = tried k .job; asks-for = asks; unrefused = ok } in
-      let shown : (v : Version d) → (left : Lent) × Shown (tried k .job) (v .gives c) (tried k .answer) left = λ v. tried-shown k c (v .gives c) asks ok (v .keeps c) in
+      let shown : (v : Version d) → (left : Lent) × Shown (tried k .job) (v .gives c) (tried k .answer) left =
+      λ v. tried-shown k c (v .gives c) asks ok (v .keeps c) in
       record {
-        refuses-everything = λ v all. let (left, s) = shown v in not-refused k (refusal-shown (tried k .job) (v .gives c) (tried k .answer) left s (all c asked));
+        refuses-everything =
+            λ v all. let (left, s) = shown v in not-refused k (refusal-shown (tried k .job) (v .gives c) (tried k .answer) left s (all c asked));
         refuses-late =
             λ v c′ a refused.
             let x = shows c′ (v .gives c′) (a .job) (a .asks-for) (v .keeps c′) in
@@ -169,84 +148,43 @@ module _ (d : Door) (Shown : Job → d .Given → Answer → Lent → Type 0)
 
 -- ---- the table: what is left in it doesn't depend on what stood there, so it can't be as it was on slices of 0 and on slices of 1
 
--- slices with just the room that the trial of kind k needs, and x in every place
-unfoldable filled : ℕ → Kind → Lent
-filled x k =
-    let room = roomFor k (tried k .job) in
-    lentOf (replicate (room .cells) x) (replicate (room .words) x) (replicate (room .picks) x)
-
-ok-filled : (x : ℕ) (k : Kind) → Unrefused k (tried k .job) (filled x k)
-unfolding opens filled
-ok-filled x (packing once) = record { of-kind = refl; no-refusal = refl }
-ok-filled x (packing limited) = record { of-kind = refl; no-refusal = refl }
-ok-filled x (packing free) = record { of-kind = refl; no-refusal = refl }
-ok-filled x subset-sums = record { of-kind = refl; no-refusal = refl }
-ok-filled x fewest-blocks = record { of-kind = refl; no-refusal = refl }
-ok-filled x block-ways = record { of-kind = refl; no-refusal = refl }
-ok-filled x sharing = record { of-kind = refl; no-refusal = refl }
-
-first-filled : (x : ℕ) (k : Kind) → ¬ (k ≡ sharing) → at (tableOf k (filled x k)) 0 ≡ x
-unfolding opens filled tableOf
-first-filled x (packing once) has = refl
-first-filled x (packing limited) has = refl
-first-filled x (packing free) has = refl
-first-filled x subset-sums has = refl
-first-filled x fewest-blocks has = refl
-first-filled x block-ways has = refl
-first-filled x sharing has = absurd (has refl)
-
 first-held : (new old now : List ℕ) → Holds new old now → 1 ≤ length new → at now 0 ≡ at new 0
 unfolding Holds
 first-held new old now h some = ap (λ (l : List ℕ). at l 0) h ∙ List·getD-append new (drop (length new) old) 0 0 some
 
--- the places that are needed for the table hold it, and there is one at least
-table-held : (k : Kind) {j : Job} {before after : Lent} {s : AnswerNumbers} (x : Answered (roomFor k j) (TableHolds k j) k j before s after)
-    → Holds (tableOf k (x .content)) (tableOf k before) (tableOf k after)
-unfolding tableOf Holds
-table-held (packing s) x = x .cells-hold
-table-held subset-sums x = x .words-hold
-table-held fewest-blocks x = x .cells-hold
-table-held block-ways x = x .words-hold
-table-held sharing x = refl
-
-table-needed : (k : Kind) {j : Job} {before after : Lent} {s : AnswerNumbers} (x : Answered (roomFor k j) (TableHolds k j) k j before s after)
-    → ¬ (k ≡ sharing) → 1 ≤ length (tableOf k (x .content))
-unfolding tableOf roomFor roomOf cellCount
-table-needed (packing once) x has = omega (arith, x .cells-needed)
-table-needed (packing limited) x has = omega (arith, x .cells-needed)
-table-needed (packing free) x has = omega (arith, x .cells-needed)
-table-needed subset-sums x has = omega (arith, x .words-needed)
-table-needed fewest-blocks x has = omega (arith, x .cells-needed)
-table-needed block-ways x has = omega (arith, x .words-needed)
-table-needed sharing x has = absurd (has refl)
-
 -- a table that is as it was has x in its first place
-as-it-was : (k : Kind) (has : ¬ (k ≡ sharing)) (x : ℕ) {left : Lent} {s : AnswerNumbers} (y : Answered (roomFor k (tried k .job)) (TableHolds k (tried k .job)) k (tried k .job) (filled x k) s left)
+as-it-was : (k : Kind) (has : ¬ (k ≡ sharing)) (x : ℕ) {left : Lent} {s : AnswerNumbers}
+    (y : Answered (roomFor k (tried k .job)) (TableHolds k (tried k .job)) k (tried k .job) (filled x k) s left)
     → tableOf k left ≡ tableOf k (filled x k) → at (tableOf k (y .content)) 0 ≡ x
-as-it-was k has x y kept = sym (first-held _ _ _ (table-held k y) (table-needed k y has)) ∙ ap (λ (l : List ℕ). at l 0) kept ∙ first-filled x k has
+as-it-was k has x y kept =
+    sym (first-held _ _ _ (table-left k y .held) (table-left k y .needed has)) ∙ ap (λ (l : List ℕ). at l 0) kept ∙ trial-facts k .first-filled has x
 
-not-both : (k : Kind) (has : ¬ (k ≡ sharing)) (left left′ : Lent) (a a′ : Answer) → Solved (tried k .job) (filled 0 k) a left → Solved (tried k .job) (filled 1 k) a′ left′
+not-both : (k : Kind) (has : ¬ (k ≡ sharing)) (left left′ : Lent) (a a′ : Answer) → Solved (tried k .job) (filled 0 k) a left
+    → Solved (tried k .job) (filled 1 k) a′ left′
     → tableOf k left ≡ tableOf k (filled 0 k) → ¬ (tableOf k left′ ≡ tableOf k (filled 1 k))
 not-both k has left left′ a a′ solved solved′ kept kept′ =
     let j = tried k .job in
-    let x = unrefused-answered k j (filled 0 k) left a (ok-filled 0 k) solved in
-    let y = unrefused-answered k j (filled 1 k) left′ a′ (ok-filled 1 k) solved′ in
+    let x = unrefused-answered k j (filled 0 k) left a (trial-facts k .unrefused 0) solved in
+    let y = unrefused-answered k j (filled 1 k) left′ a′ (trial-facts k .unrefused 1) solved′ in
     let same = no-influence k j (filled 0 k) (filled 1 k) left left′ (answerNumbers a) (answerNumbers a′) (table-unique k j) x y .1 in
     omega (arith, as-it-was k has 0 x kept, as-it-was k has 1 y kept′, ap (λ (c : Lent). at (tableOf k c) 0) same)
 
 -- both laws, for a door that gives the slices back, with a request that holds the trial of each kind
 module _ (l : LentDoor) (Shown : l .Reply → Answer → Type 0)
-    (shows : (r : l .Request) (before after : Lent) (x : l .Reply) (j : Job) → l .HoldsJob r j → l .Promise r before x after → (a : Answer) × Solved j before a after × Shown x a)
+    (shows : (r : l .Request) (before after : Lent) (x : l .Reply) (j : Job) → l .HoldsJob r j → l .Promise r before x after
+    → (a : Answer) × Solved j before a after × Shown x a)
     (refusal-shown : (x : l .Reply) (a : Answer) → Shown x a → l .Refuses x → Refusal a)
     (0-shown : (x : l .Reply) (a : Answer) → Shown x a → l .Answers0 x → First0 a)
     (ask : Kind → l .Request) (holds : (k : Kind) → l .HoldsJob (ask k) (tried k .job)) where
   by-answer : (k : Kind) → ShutOut (doorOf l) k
   by-answer k =
       shut-out (doorOf l) (λ j g a left. Shown (g .0) a)
-      (λ c g j asks kept. let (a, solved, shown) = shows (c .0) (c .1) (g .1) (g .0) j asks kept in record { answer = a; left = g .1; solved = solved; shown = shown })
+      (λ c g j asks kept.
+      let (a, solved, shown) = shows (c .0) (c .1) (g .1) (g .0) j asks kept in
+      record { answer = a; left = g .1; solved = solved; shown = shown })
       (λ j g a left. refusal-shown (g .0) a)
-      (λ k′ g left shown is-0. omega (arith, tried-proper k′ .not-0, 0-shown (g .0) (tried k′ .answer) shown is-0))
-      k (ask k, filled 0 k) (holds k) (ok-filled 0 k)
+      (λ k′ g left shown is-0. omega (arith, trial-facts k′ .not-0, 0-shown (g .0) (tried k′ .answer) shown is-0))
+      k (ask k, filled 0 k) (holds k) (trial-facts k .unrefused 0)
 
   -- a version on the trial of kind k, with slices of x
   module _ (v : Version (doorOf l)) (k : Kind) where
@@ -256,14 +194,15 @@ module _ (l : LentDoor) (Shown : l .Reply → Answer → Type 0)
     solves : (x : ℕ) → (a : Answer) × Solved (tried k .job) (filled x k) a (left-by x)
     unfolding left-by
     solves x =
-        let (a, solved, shown) = shows (ask k) (filled x k) (left-by x) (v .gives (ask k, filled x k) .0) (tried k .job) (holds k) (v .keeps (ask k, filled x k)) in
+        let (a, solved, shown) =
+        shows (ask k) (filled x k) (left-by x) (v .gives (ask k, filled x k) .0) (tried k .job) (holds k) (v .keeps (ask k, filled x k)) in
         (a, solved)
 
     writes : ¬ (k ≡ sharing) → ¬ ((c : doorOf l .Call) → Asked (doorOf l) k c → tableOf k (v .gives c .1) ≡ tableOf k (c .1))
     unfolding left-by
     writes has all =
         let kept : (x : ℕ) → tableOf k (left-by x) ≡ tableOf k (filled x k) =
-        λ x. all (ask k, filled x k) (record { job = tried k .job; asks-for = holds k; unrefused = ok-filled x k }) in
+        λ x. all (ask k, filled x k) (record { job = tried k .job; asks-for = holds k; unrefused = trial-facts k .unrefused x }) in
         not-both k has (left-by 0) (left-by 1) (solves 0 .0) (solves 1 .0) (solves 0 .1) (solves 1 .1) (kept 0) (kept 1)
 
   pub lent-shut-out : (k : Kind) → LentShutOut l k
@@ -274,7 +213,8 @@ module _ (l : LentDoor) (Shown : l .Reply → Answer → Type 0)
 
 -- a door whose reply is the answer itself
 abbrev pub answering : {Request : Type 0} → (Request → Lent → Answer → Lent → Type 0) → (Request → Job → Type 0) → LentDoor
-answering {Request} Promise HoldsJob = record { Request = Request; Reply = Answer; Promise = Promise; HoldsJob = HoldsJob; Refuses = Refusal; Answers0 = First0 }
+answering {Request} Promise HoldsJob =
+    record { Request = Request; Reply = Answer; Promise = Promise; HoldsJob = HoldsJob; Refuses = Refusal; Answers0 = First0 }
 
 module _ {Request : Type 0} (Promise : Request → Lent → Answer → Lent → Type 0) (HoldsJob : Request → Job → Type 0)
     (solves : (r : Request) (before after : Lent) (a : Answer) (j : Job) → HoldsJob r j → Promise r before a after → Solved j before a after)
@@ -293,7 +233,8 @@ ReadAs bytes j = readJob bytes ≡ readable j
 
 bytes-versions : (k : Kind) → LentShutOut (answering SolvedBytes ReadAs) k
 bytes-versions =
-    answering-versions SolvedBytes ReadAs (λ b before after a j reads kept. bytes-solved b j before after a reads kept) (λ k. jobBytes (tried k .job)) tried-back
+    answering-versions SolvedBytes ReadAs (λ b before after a j reads kept. bytes-solved b j before after a reads kept)
+    (λ k. jobBytes (tried k .job)) tried-back
 
 -- from C three numbers are given back; the first is a refusal's where it isn't 0
 pub record HostReply : Type 0 where
@@ -310,15 +251,6 @@ from-c = record {
   Refuses = λ x. ¬ (x .refusal ≡ 0);
   Answers0 = λ x. x .first ≡ 0;
 }
-
-numbered : (a : Answer) → ¬ (answerNumbers a .refusal ≡ 0) → Refusal a
-unfolding answerNumbers
-numbered (Says.Refused r) h = (r, refl)
-numbered (Says.Knapsack v w) h = absurd (h refl)
-numbered (Says.Sums y n) h = absurd (h refl)
-numbered (Says.Blocks b) h = absurd (h refl)
-numbered (Says.Ways w) h = absurd (h refl)
-numbered (Says.Shares x) h = absurd (h refl)
 
 host-versions : (k : Kind) → LentShutOut from-c k
 host-versions =
@@ -366,7 +298,8 @@ none-worth-most best = let three : 3 ≤ 0 = best .greatest (1 ∷ []) (best-J .
 
 -- one that looks at the list alone
 accepts-what-fits : (Check : List ℕ → List ℕ → Verdict → Type 0)
-    → ((jobB certB : List ℕ) (j : Job) (ok : ValidJob jobB j) → ListFits (ok .knapsack) j certB → (v : ℕ) × Check jobB certB (Accepted v)) → ¬ Demand3 Check
+    → ((jobB certB : List ℕ) (j : Job) (ok : ValidJob jobB j) → ListFits (ok .knapsack) j certB → (v : ℕ) × Check jobB certB (Accepted v))
+    → ¬ Demand3 Check
 unfolding valid-J
 accepts-what-fits Check all d =
     let (v, e) = all jobJ keepNone caseJ valid-J none-fits in

@@ -1,4 +1,5 @@
--- Wrong answers that the promises rule out: on all bytes that can't be read, by the writer, by the checker on one job, and from C. (Versions has those that document 01 names.)
+-- Wrong answers that the promises rule out: on all bytes that can't be read, by the writer, by the checker on one job, and from C. (Versions has
+-- those that document 01 names.)
 -- Assumes nothing.
 use mathlib.Core.Path.{_∙_, _≡_, ap, refl, sym}
 use Prim.Native.Nat.{ℕ}
@@ -21,7 +22,8 @@ use Rattle.meaning.specs.Bytes.{readJob, readable, unreadable}
 use Rattle.meaning.specs.Answers.{verdictNumbers, answerNumbers, writtenNumbers}
 use Rattle.meaning.specs.Solved.{SolvedBytes, SolvedRead, TurnedDown}
 use Rattle.meaning.specs.Certificates.{Checked, verdictOf}
-use Rattle.meaning.specs.Writer.{Writes, WritesAs, WritesBytes, WritesRead, bytesNeeded, certificate, newBytes, slicesFit, writerRefusal, writtenAs}
+use Rattle.meaning.specs.Writer.{Writes, WritesAs, WritesBytes, WritesRead, bytesNeeded}
+use Rattle.meaning.specs.Writer.{certificate, newBytes, slicesFit, writerRefusal, writtenAs}
 use Rattle.meaning.specs.Host.{WritesHost, refusalNumber, valueOrPlace}
 use Rattle.meaning.specs.Demands.{ValidJob}
 use Rattle.meaning.specs.Trials.{certJ, jobJ}
@@ -60,9 +62,10 @@ module _ (bytes : List ℕ) (place : ℕ) (unread : readJob bytes ≡ unreadable
     unfolding newBytes Holds
     unread-writes-nothing = writes-unread .leaves
 
--- ---- the writer on any job that it doesn't refuse: one that counts other bytes, writes others, or clears what lies past; and on one job one that writes none
+-- ---- the writer on any job that it doesn't refuse: one that counts or writes other bytes, or clears what lies past; and one that writes none
 
-module _ (j : Job) (picks cells before after : List ℕ) (a : Written) (ok : writerRefusal j picks cells before ≡ 0) (w : Writes j picks cells before a after) where
+module _ (j : Job) (picks cells before after : List ℕ) (a : Written) (ok : writerRefusal j picks cells before ≡ 0)
+    (w : Writes j picks cells before a after) where
   writes-all : WritesAs 0 (bytesNeeded j) (certificate j picks cells) before a after
   unfolding Writes
   writes-all = rw ok at w
@@ -127,7 +130,8 @@ module _ (entry : List ℕ → List ℕ → ℕ) (keeps : (jobB certB : List ℕ
   entry-accepts : (jobB : List ℕ) (j : Job) → ValidJob jobB j → ¬ ((certB : List ℕ) → ¬ (entry jobB certB ≡ 0))
   unfolding refusalNumber verdictNumbers
   entry-accepts jobB j ok none =
-      refuses-all Checked jobB j ok (λ certB v checked. none certB (keeps jobB certB ∙ ap refusalNumber (verdict-is jobB certB (Accepted v) checked))) meets-demand-3
+      refuses-all Checked jobB j ok
+      (λ certB v checked. none certB (keeps jobB certB ∙ ap refusalNumber (verdict-is jobB certB (Accepted v) checked))) meets-demand-3
 
 -- the second entry gives the value
 entry-gives-the-value : valueOrPlace (verdictOf jobJ (certJ (0 ∷ 0 ∷ 0 ∷ 9 ∷ 9 ∷ 3 ∷ []))) ≡ 3
@@ -139,7 +143,8 @@ entry-names-the-place : valueOrPlace (verdictOf jobJ (certJ (0 ∷ 9 ∷ 0 ∷ 0
 unfolding opens jobJ certJ valueOrPlace
 entry-names-the-place = refl
 
-entry-counts : (jobB : List ℕ) (j : Job) (picks cells before after : List ℕ) (r bytes : ℕ) → readJob jobB ≡ readable j → writerRefusal j picks cells before ≡ 0
+entry-counts : (jobB : List ℕ) (j : Job) (picks cells before after : List ℕ) (r bytes : ℕ) → readJob jobB ≡ readable j
+    → writerRefusal j picks cells before ≡ 0
     → WritesHost jobB picks cells before r bytes after → (r ≡ 0) × (bytes ≡ bytesNeeded j)
 unfolding WritesBytes WritesRead writtenNumbers
 entry-counts jobB j picks cells before after r bytes reads ok h =

@@ -1,5 +1,6 @@
--- The definitions that a reader must believe, one file for each subject of document 01. The contracts of the doors (planner, certificate, host) cite these and
--- nothing else of this project; the crates below them, and the program, have definitions of their own beside these, for what their functions leave.
+-- The definitions that a reader must believe, one file for each subject of document 01, its numbers first. The contracts of the doors (planner,
+-- certificate, host) cite these and nothing else of this project; the crates below them, and the program, have definitions of their own beside
+-- these, for what their functions leave.
 pub mod Bounds
 pub mod Lists
 pub mod Counting

@@ -1,4 +1,4 @@
--- Refusals 3 to 6 and 9: the rules of each kind, and the lowest number that applies.
+-- Refusals 3 to 6 and 9: the rules of each kind, over the numbers of Bounds; the tests, by refusal number; and the lowest number that applies.
 -- Bytes says which job bytes can't be read, which is refusal 1. 2, 7 and 8 are given in Solved; 2 for the checker and 11 to 15 in
 -- Certificates; the writer's 6 in Writer.
 -- That a number is one of 32 bits is said by the type of the slice, or by the bytes, that it comes from.

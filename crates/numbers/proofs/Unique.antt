@@ -6,7 +6,8 @@ use mathlib.Core.List.{List}
 use Rattle.numbers.specs.Placed.{HoldsAt, SectionWritten}
 
 -- `write_number`, and whatever else is written at a place
-pub holds-at-unique : (place : ℕ) (new before after after′ : List ℕ) → HoldsAt place new before after → HoldsAt place new before after′ → after ≡ after′
+pub holds-at-unique : (place : ℕ) (new before after after′ : List ℕ) → HoldsAt place new before after → HoldsAt place new before after′
+    → after ≡ after′
 unfolding HoldsAt
 holds-at-unique place new before after after′ h h′ = h ∙ sym h′
 

@@ -19,7 +19,8 @@ use Rattle.meaning.proofs.Tally.{tally-le, tally-lt, tally-all, tally-none, tal
 use Rattle.meaning.proofs.Ranks.{precedes-out, precedes-in, not-self}
 use Rattle.meaning.proofs.SharesSum.{sumOver, spare-few}
 use Rattle.rows.proofs.Stores.{by}
-use Rattle.shares.specs.Borders.{aheadOf, aheadIn, behindIn, Spans, Narrowed, countOf, behindOf, getsOf, NoLower, RunOut}
+use Rattle.shares.proofs.Starts.{remainder-within}
+use Rattle.shares.specs.Borders.{aheadOf, aheadIn, behindIn, Reaches, countOf, behindOf, getsOf, NoLower, RunOut}
 
 module _ (j : Job) where
   abbrev rem : ℕ → ℕ
@@ -81,7 +82,8 @@ module _ (j : Job) where
   -- sixth law: a test of two numbers that passes and fails with the code's
   same-test : (r border a b : ℕ) → (border ≤ r → a < b) → (r < border → b ≤ a) → aheadOf r border ≡ ltb a b
   unfolding aheadOf
-  same-test r border a b pass fail = by r border (λ l. lt-leb border r l ∙ sym (le-ltb a b (fail l))) (λ g. le-leb border r g ∙ sym (lt-ltb a b (pass g)))
+  same-test r border a b pass fail =
+      by r border (λ l. lt-leb border r l ∙ sym (le-ltb a b (fail l))) (λ g. le-leb border r g ∙ sym (lt-ltb a b (pass g)))
 
   -- ---- labels counted as a loop does: those at a border or before it, and those next behind it
 
@@ -93,7 +95,8 @@ module _ (j : Job) where
   unfolding behindOf upTo tally
   behind-none border = refl
 
-  pub behind-more : (border i seen rest : ℕ) → rest ≡ rem i → seen ≡ behindOf j border i → seen + boolByte (eqb (rest + 1) border) ≡ behindOf j border (i + 1)
+  pub behind-more : (border i seen rest : ℕ) → rest ≡ rem i → seen ≡ behindOf j border i
+      → seen + boolByte (eqb (rest + 1) border) ≡ behindOf j border (i + 1)
   unfolding behindOf
   behind-more border i seen rest e = tally-more (behindIn j border) i seen (eqb (rest + 1) border) (ap (λ (r : ℕ). eqb (r + 1) border) e)
 
@@ -107,7 +110,14 @@ module _ (j : Job) where
   unfolding upTo tally behindOf
   front-rank i zero h = refl
   front-rank i (suc k) h =
-      omega (arith, tally-step (λ m. precedes j m i) k, tally-step (aheadIn j (rem i + 1)) k, tally-step (behindIn j (rem i + 1)) k, front-rank i k (omega arith), front-step i k h)
+      omega (
+        arith,
+        tally-step (λ m. precedes j m i) k,
+        tally-step (aheadIn j (rem i + 1)) k,
+        tally-step (behindIn j (rem i + 1)) k,
+        front-rank i k (omega arith),
+        front-step i k h,
+      )
 
   rest-rank : (i k : ℕ) → i ≤ k → tally (λ m. precedes j m i) (upTo k) ≡ tally (aheadIn j (rem i + 1)) (upTo k) + behindOf j (rem i + 1) i
   rest-rank i zero h = let e : i ≡ 0 = omega arith in rw e (front-rank 0 0 (le-refl 0))
@@ -136,7 +146,8 @@ module _ (j : Job) where
   pub gets-served : (border left : ℕ) → RunOut j border left → (i seen : ℕ) → i < n → seen ≡ behindOf j border i
       → getsOf (rem i) border seen left ≡ ltb (rankOf j i) (spareOf j)
   unfolding getsOf if
-  gets-served border left out i seen h counted = by seen left (λ some. rw (lt-ltb seen left some) (one some)) (λ none. rw (le-ltb seen left none) (no-more none))
+  gets-served border left out i seen h counted =
+      by seen left (λ some. rw (lt-ltb seen left some) (one some)) (λ none. rw (le-ltb seen left none) (no-more none))
     where
       next : rem i + 1 ≡ border → rankOf j i ≡ countOf j border + seen
       next e = omega (arith, behind-rank border i e h)
@@ -164,31 +175,55 @@ module _ (j : Job) where
   -- where enough labels stand at a border or before it, the units don't run out below the next
   pub next-lowest : (border count : ℕ) → count ≡ countOf j border → spareOf j ≤ count → NoLower j (border + 1)
   unfolding countOf
-  next-lowest border count e h = record { enough = λ lower l. omega (arith, tally-le (aheadIn j border) (aheadIn j lower) (upTo n) (λ i t. lower-border lower border i (omega arith) t)) }
+  next-lowest border count e h = record {
+    enough = λ lower l. omega (arith, tally-le (aheadIn j border) (aheadIn j lower) (upTo n) (λ i t. lower-border lower border i (omega arith) t));
+  }
 
-  module _ (claimed least greatest : ℕ) (reach : Spans j claimed n least greatest) where
+  module _ (claimed least greatest : ℕ) (summed : claimed ≡ S) (pos : 0 < claimed) (reach : Reaches j n 0 claimed least greatest) where
+    least-or-more : (i : ℕ) → i < n → least ≤ rem i
+    least-or-more i h = reach .above i h (omega arith)
+
+    greatest-or-less : (i : ℕ) → i < n → rem i ≤ greatest
+    greatest-or-less i h = reach .below i h (omega (arith, remainder-within j i (omega arith)))
+
     -- not at the least remainder or below
-    pub not-at-least : 0 < S → NoLower j (least + 1)
+    pub not-at-least : NoLower j (least + 1)
     unfolding spareOf sumOver labels countOf
-    not-at-least pos = record { enough = λ lower l. omega (arith, spare-few j pos, tally-all (aheadIn j lower) n (λ i h. ahead-in lower i (omega (arith, reach .above i h)))) }
+    not-at-least = record {
+      enough =
+          λ lower l. omega (arith, spare-few j (omega arith), tally-all (aheadIn j lower) n (λ i h. ahead-in lower i (omega (arith, least-or-more i h))));
+    }
 
     -- past the greatest stands none
     pub none-found : 0 ≡ countOf j (greatest + 1)
     unfolding countOf
-    none-found = sym (tally-none (aheadIn j (greatest + 1)) n (λ i h t. omega (arith, reach .below i h, ahead-out (greatest + 1) i t)))
+    none-found = sym (tally-none (aheadIn j (greatest + 1)) n (λ i h t. omega (arith, greatest-or-less i h, ahead-out (greatest + 1) i t)))
 
-    pub some-span : 0 < S → 0 < spareOf j → least < greatest + 1
+    pub some-span : 0 < spareOf j → least < greatest + 1
     unfolding spareOf sumOver labels
-    some-span pos some = let one : 0 < n = omega (arith, spare-few j pos) in omega (arith, reach .above 0 one, reach .below 0 one)
+    some-span some = let one : 0 < n = omega (arith, spare-few j (omega arith)) in omega (arith, least-or-more 0 one, greatest-or-less 0 one)
 
   -- where no label stands between two numbers, the ends of the halving may be moved past them
-  module _ (low high least greatest : ℕ) (near : Narrowed j n low high least greatest) where
+  module _ (low high least greatest : ℕ) (near : Reaches j n low high least greatest) where
+    -- who stands at the low border or before it has a remainder that isn't below the least
+    least-ahead : (lower i : ℕ) → i < n → lower ≤ least → T (aheadIn j low i) → T (aheadIn j lower i)
+    least-ahead lower i h l t = ahead-in lower i (omega (arith, near .above i h (ahead-out low i t)))
+
+    -- who has a remainder above the greatest stands at the high border or before it
+    above-ahead : (border i : ℕ) → i < n → greatest < border → T (aheadIn j border i) → T (aheadIn j high i)
+    above-ahead border i h l t = ahead-in high i (by (rem i) high (λ k. absurd (omega (arith, near .below i h k, ahead-out border i t))) (λ g. g))
+
     pub low-up : NoLower j (low + 1) → NoLower j (least + 1)
     unfolding countOf
     low-up lowest = record {
       enough = λ lower l.
           by lower (low + 1) (lowest .enough lower)
-          (λ g. omega (arith, lowest .enough low (omega arith), tally-each (aheadIn j low) (aheadIn j lower) n (λ i h t. ahead-in lower i (omega (arith, near .above i h (ahead-out low i t))))));
+          (λ g.
+          omega (
+            arith,
+            lowest .enough low (omega arith),
+            tally-each (aheadIn j low) (aheadIn j lower) n (λ i h t. least-ahead lower i h (omega arith) t),
+          ));
     }
 
     pub high-down : countOf j high ≡ countOf j (greatest + 1)
@@ -197,20 +232,28 @@ module _ (j : Job) where
         omega (
           arith,
           tally-le (aheadIn j high) (aheadIn j (greatest + 1)) (upTo n) (λ i t. lower-border (greatest + 1) high i (omega (arith, near .within)) t),
-          tally-each (aheadIn j (greatest + 1)) (aheadIn j high) n (λ i h t. ahead-in high i (by (rem i) high (λ l. absurd (omega (arith, near .below i h l, ahead-out (greatest + 1) i t))) (λ g. g))),
+          tally-each (aheadIn j (greatest + 1)) (aheadIn j high) n (λ i h t. above-ahead (greatest + 1) i h (omega arith) t),
         )
 
     pub still-some : countOf j high < spareOf j → NoLower j (low + 1) → least < greatest + 1
     unfolding countOf
     still-some few lowest =
         by greatest least
-        (λ l. absurd (omega (arith, lowest .enough low (omega arith), tally-each (aheadIn j low) (aheadIn j high) n (λ i h t. ahead-in high i (by (rem i) high (λ k. absurd (omega (arith, near .below i h k, near .above i h (ahead-out low i t)))) (λ g. g))))))
+        (λ l.
+        absurd (omega (
+          arith,
+          lowest .enough low (omega arith),
+          tally-each (aheadIn j low) (aheadIn j high) n (λ i h t. above-ahead least i h l (least-ahead least i h (le-refl least) t)),
+        )))
         (λ g. omega arith)
 
   -- when the halving ends, they run out at the high border
-  module _ (low high found spare : ℕ) (units : spare ≡ spareOf j) (counted : found ≡ countOf j high) (fits : found ≤ spare) (lowest : NoLower j (low + 1)) where
+  module _ (low high found spare : ℕ) (units : spare ≡ spareOf j) (counted : found ≡ countOf j high) (fits : found ≤ spare)
+      (lowest : NoLower j (low + 1)) where
     pub none-between : high ≤ low + 1 → RunOut j high (spare - found)
     none-between h = record { whole = omega arith; no-lower = record { enough = λ lower l. lowest .enough lower (omega arith) } }
 
     pub just-enough : spare ≤ found → RunOut j high (spare - found)
-    just-enough h = record { whole = omega arith; no-lower = record { enough = λ lower l. next-lowest high found counted (omega arith) .enough lower (omega arith) } }
+    just-enough h =
+        let next = next-lowest high found counted (omega arith) in
+        record { whole = omega arith; no-lower = record { enough = λ lower l. next .enough lower (omega arith) } }

@@ -30,7 +30,8 @@ module _ (j : Job) (picks : List ℕ) (ok : Unrefused sharing j (lentOf [] [] pi
   ready = let k = kept sharing j (lentOf [] [] picks) ok in record { few = k .few; claims = ltb-yes (k .claimed); room = k .picks-room }
 
   -- the shares over the first places, and the spare
-  pub shared : (found : List ℕ) (n spare : ℕ) → n ≡ labels j → found ≡ sharesOf j → spare ≡ spareOf j → SolvedInPicks j picks (Says.Shares spare) (found ++ drop n picks)
+  pub shared : (found : List ℕ) (n spare : ℕ) → n ≡ labels j → found ≡ sharesOf j → spare ≡ spareOf j
+      → SolvedInPicks j picks (Says.Shares spare) (found ++ drop n picks)
   unfolding roomFor roomOf Gives TableHolds sharesOf
   shared found n spare every given rest =
       solved-in-picks sharing j (Says.Shares spare) picks (found ++ drop n picks) found ok refl refl

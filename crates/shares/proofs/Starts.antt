@@ -20,7 +20,7 @@ use Rattle.meaning.proofs.Loops.{sum-more, sum-done}
 use Rattle.meaning.proofs.SharesSum.{sumOver, starts-within, shares-sum}
 use Rattle.meaning.proofs.Tally.{one-or-none}
 use Rattle.rows.proofs.Stores.{by}
-use Rattle.shares.specs.Borders.{Started, Spans, Narrowed}
+use Rattle.shares.specs.Borders.{Started, Reaches}
 
 -- ---- tests and lists
 
@@ -42,7 +42,8 @@ member-within xs i h = omega (arith, sum-more xs i h, front-within xs (suc i))
 
 -- a list that holds a rule's number at each place
 made-of : (f : ℕ → ℕ) (n : ℕ) (xs : List ℕ) → length xs ≡ n → ((i : ℕ) → i < n → at xs i ≡ f i) → xs ≡ map f (upTo n)
-made-of f n xs long each = ext-getD 0 xs (map f (upTo n)) (long ∙ sym (made-length f n)) (λ i h. each i (omega arith) ∙ sym (made-at f n i (omega arith)))
+made-of f n xs long each =
+    ext-getD 0 xs (map f (upTo n)) (long ∙ sym (made-length f n)) (λ i h. each i (omega arith) ∙ sym (made-at f n i (omega arith)))
 
 -- ---- starts
 
@@ -54,15 +55,16 @@ start-within budget claim claimed h = div-le-of-le-mul claimed (omega (arith, mu
 pub whole : (product start claimed : ℕ) → start ≡ product / claimed → start * claimed + product % claimed ≡ product
 whole product start claimed e = ap (λ (x : ℕ). x * claimed + product % claimed) e ∙ div-add-mod' product claimed
 
--- the product of C and claim i over S
-module _ (j : Job) (i product claim claimed : ℕ) (made : product ≡ j .budget * claim) (read : claim ≡ at (j .weights) i) (summed : claimed ≡ sum (j .weights)) where
-  pub kept-start : product / claimed ≡ startOf j i
-  unfolding startOf
-  kept-start = rw (made, read, summed)
+-- the product of C and claim i over S: its whole part, and what it leaves
+pub over-claimed : (j : Job) (i product claim claimed : ℕ) → product ≡ j .budget * claim → claim ≡ at (j .weights) i → claimed ≡ sum (j .weights)
+    → (product / claimed ≡ startOf j i) × (product % claimed ≡ remainderOf j i)
+unfolding startOf remainderOf
+over-claimed j i product claim claimed made read summed = (rw (made, read, summed), rw (made, read, summed))
 
-  pub kept-remainder : product % claimed ≡ remainderOf j i
-  unfolding remainderOf
-  kept-remainder = rw (made, read, summed)
+-- what `remainder_at` asks of a label whose start is kept
+pub start-kept : (j : Job) (claimed : ℕ) (starts : List ℕ) (i : ℕ) → Started j claimed starts → i < length starts
+    → ((claimed ≡ sum (j .weights)) × (i < labels j)) × (at starts i ≡ startOf j i)
+start-kept j claimed starts i s h = let inside : i < labels j = omega (arith, s .long) in ((s .summed, inside), s .each i inside)
 
 module _ (j : Job) where
   -- every start
@@ -115,43 +117,44 @@ pub remainder-within : (j : Job) (i : ℕ) → 0 < sum (j .weights) → remainde
 unfolding remainderOf
 remainder-within j i pos = mod-lt (j .budget * at (j .weights) i) pos
 
--- of no label they reach anywhere
-pub spans-none : (j : Job) (claimed least : ℕ) → 0 < claimed → Spans j claimed 0 least 0
-spans-none j claimed least pos = record { above = λ i h. absurd (omega arith); below = λ i h. absurd (omega arith); within = pos }
-
--- one label more
-pub spans-more : (j : Job) (claimed i least greatest rest : ℕ) → rest ≡ remainderOf j i → rest < claimed → Spans j claimed i least greatest → Spans j claimed (i + 1) (min least rest) (max greatest rest)
-spans-more j claimed i least greatest rest e h d = record {
-  above = λ k l. by k i (λ b. omega (arith, d .above k b)) (λ b. let here : k ≡ i = omega arith in omega (arith, ap (remainderOf j) here));
-  below = λ k l. by k i (λ b. omega (arith, d .below k b)) (λ b. let here : k ≡ i = omega arith in omega (arith, ap (remainderOf j) here));
-  within = omega (arith, d .within);
-}
-
--- ---- the same of the remainders between two numbers
+-- ---- how far the remainders between two numbers reach
 
 -- one more for the least, and one more for the greatest
-lowered-least : (least rest low : ℕ) → low ≤ least → let l = if (ltb rest low) least (min least rest) in (low ≤ l) × (l ≤ least) × (low ≤ rest → l ≤ rest)
+lowered-least : (least rest low : ℕ) → low ≤ least
+    → let l = if (ltb rest low) least (min least rest) in (low ≤ l) × (l ≤ least) × (low ≤ rest → l ≤ rest)
 unfolding if
 lowered-least least rest low h =
-    by rest low (λ under. rw (lt-ltb rest low under) (h, omega arith, λ g. absurd (omega arith))) (λ over. rw (le-ltb rest low over) (omega arith, omega arith, λ g. omega arith))
+    by rest low (λ under. rw (lt-ltb rest low under) (h, omega arith, λ g. absurd (omega arith)))
+    (λ over. rw (le-ltb rest low over) (omega arith, omega arith, λ g. omega arith))
 
 raised-greatest : (greatest rest high : ℕ) → greatest < high
     → let g = if (ltb rest high) (max greatest rest) greatest in (g < high) × (greatest ≤ g) × (rest < high → rest ≤ g)
 unfolding if
 raised-greatest greatest rest high h =
-    by rest high (λ under. rw (lt-ltb rest high under) (omega arith, omega arith, λ g. omega arith)) (λ over. rw (le-ltb rest high over) (h, omega arith, λ g. absurd (omega arith)))
+    by rest high (λ under. rw (lt-ltb rest high under) (omega arith, omega arith, λ g. omega arith))
+    (λ over. rw (le-ltb rest high over) (h, omega arith, λ g. absurd (omega arith)))
 
-pub narrowed-none : (j : Job) (low high : ℕ) → low < high → Narrowed j 0 low high high low
-narrowed-none j low high h = record { not-below = omega arith; within = h; above = λ i l. absurd (omega arith); below = λ i l. absurd (omega arith) }
+-- of no label they reach anywhere
+pub reaches-none : (j : Job) (low high : ℕ) → low < high → Reaches j 0 low high high low
+reaches-none j low high h = record { not-below = omega arith; within = h; above = λ i l. absurd (omega arith); below = λ i l. absurd (omega arith) }
 
-pub narrowed-more : (j : Job) (i low high least greatest rest : ℕ) → rest ≡ remainderOf j i → Narrowed j i low high least greatest
-    → Narrowed j (i + 1) low high (if (ltb rest low) least (min least rest)) (if (ltb rest high) (max greatest rest) greatest)
-narrowed-more j i low high least greatest rest e d =
+-- one label more
+pub reaches-more : (j : Job) (i low high least greatest rest : ℕ) → rest ≡ remainderOf j i → Reaches j i low high least greatest
+    → Reaches j (i + 1) low high (if (ltb rest low) least (min least rest)) (if (ltb rest high) (max greatest rest) greatest)
+reaches-more j i low high least greatest rest e d =
     let (from, less, covers) = lowered-least least rest low (d .not-below) in
     let (to, more, covered) = raised-greatest greatest rest high (d .within) in
+    let same : (k : ℕ) → k < i + 1 → i ≤ k → remainderOf j k ≡ rest = λ k l b. let here : k ≡ i = omega arith in ap (remainderOf j) here ∙ sym e in
     record {
       not-below = from;
       within = to;
-      above = λ k l g. by k i (λ b. omega (arith, d .above k b g, less)) (λ b. let here : k ≡ i = omega arith in let same = ap (remainderOf j) here in omega (arith, same, covers (omega (arith, same))));
-      below = λ k l g. by k i (λ b. omega (arith, d .below k b g, more)) (λ b. let here : k ≡ i = omega arith in let same = ap (remainderOf j) here in omega (arith, same, covered (omega (arith, same))));
+      above = λ k l g. by k i (λ b. omega (arith, d .above k b g, less)) (λ b. omega (arith, same k l b, covers (omega (arith, same k l b))));
+      below = λ k l g. by k i (λ b. omega (arith, d .below k b g, more)) (λ b. omega (arith, same k l b, covered (omega (arith, same k l b))));
     }
+
+-- one more of all remainders, from 0 on and below S
+pub reaches-all : (j : Job) (i claimed least greatest rest : ℕ) → rest ≡ remainderOf j i → rest < claimed → Reaches j i 0 claimed least greatest
+    → Reaches j (i + 1) 0 claimed (min least rest) (max greatest rest)
+unfolding if
+reaches-all j i claimed least greatest rest e h d =
+    rw (le-ltb rest 0 (omega arith), lt-ltb rest claimed h) at (reaches-more j i 0 claimed least greatest rest e d)

@@ -3,12 +3,17 @@
 use mathlib.Core.Path.{_≡_}
 use Prim.Native.Nat.{ℕ, _+_, _≤_, _<_}
 use mathlib.Core.Bool.{Bool}
-use mathlib.Core.List.{List}
+use mathlib.Core.List.{List, [], _∷_}
 use lib.Dec.{leb, ltb, eqb}
 use lib.ListN.{length}
 use Rattle.meaning.specs.Lists.{at, sum, upTo, if, tally}
 use Rattle.meaning.specs.Job.{Job, labels}
 use Rattle.meaning.specs.Shares.{startOf, remainderOf, spareOf}
+use Rattle.numbers.specs.TwoSlices.{weightsFrom}
+
+-- the job of kind 7 with this budget and these claims
+abbrev pub claimsJob : ℕ → List ℕ → List ℕ → Job
+claimsJob budget weights wbytes = weightsFrom 7 (budget ∷ []) weights wbytes
 
 -- what a border is found by: `claimed` is S, which is positive, and `starts` holds each label's start
 pub record Started (j : Job) (claimed : ℕ) (starts : List ℕ) : Type 0 where
@@ -17,18 +22,18 @@ pub record Started (j : Job) (claimed : ℕ) (starts : List ℕ) : Type 0 where
   pub long : length starts ≡ labels j
   pub each : (i : ℕ) → i < labels j → at starts i ≡ startOf j i
 
--- the remainders of the first n labels reach from `least` to `greatest`, which is below S as they all are
-pub record Spans (j : Job) (claimed n least greatest : ℕ) : Type 0 where
-  pub above : (i : ℕ) → i < n → least ≤ remainderOf j i
-  pub below : (i : ℕ) → i < n → remainderOf j i ≤ greatest
-  pub within : greatest < claimed
-
 -- of the remainders of the first n labels, those that are not below `low` and below `high` reach from `least` to `greatest`
-pub record Narrowed (j : Job) (n low high least greatest : ℕ) : Type 0 where
+pub record Reaches (j : Job) (n low high least greatest : ℕ) : Type 0 where
   pub not-below : low ≤ least
   pub within : greatest < high
   pub above : (i : ℕ) → i < n → low ≤ remainderOf j i → least ≤ remainderOf j i
   pub below : (i : ℕ) → i < n → remainderOf j i < high → remainderOf j i ≤ greatest
+
+-- what the starts leave: `spare` units, and remainders from `least` to `greatest`, all below S
+pub record Leaves (j : Job) (claimed : ℕ) (starts : List ℕ) (spare least greatest : ℕ) : Type 0 where
+  pub started : Started j claimed starts
+  pub units : spare ≡ spareOf j
+  pub reach : Reaches j (labels j) 0 claimed least greatest
 
 -- a label with this remainder stands at a border or before it. A border is a remainder too, and the larger goes first
 unfoldable pub aheadOf : ℕ → ℕ → Bool

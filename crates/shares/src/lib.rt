@@ -14,7 +14,7 @@ ghost use Rattle.meaning.specs.Shares.{startOf, remainderOf, spareOf, sharesOf}
 ghost use Rattle.meaning.specs.Solved.{Unrefused};
 ghost use Rattle.meaning.specs.SolvedIn.{SolvedInPicks};
 ghost use Rattle.numbers.specs.TwoSlices.{listFrom, weightsFrom};
-ghost use Rattle.shares.specs.Borders.{Started, Spans, Narrowed, aheadOf, countOf, getsOf, RunOut};
+ghost use Rattle.shares.specs.Borders.{claimsJob, Started, Reaches, Leaves, aheadOf, countOf, getsOf, RunOut};
 
 // ---- the starts
 
@@ -87,7 +87,8 @@ fn write_starts(
 ) -> Leavings
     requires { ⌜ (claimed ≡ sum (listFrom (now weights) (now wbytes))) × (0 < claimed) ⌝ }
     requires { ⌜ length (now shares) ≡ length (listFrom (now weights) (now wbytes)) ⌝ }
-    ensures { λ r. ⌜ Started (weightsFrom 7 (budget ∷ []) (now (weights .entry)) (now (wbytes .entry))) claimed (now (shares .exit)) × ((r .spare ≡ spareOf (weightsFrom 7 (budget ∷ []) (now (weights .entry)) (now (wbytes .entry)))) × Spans (weightsFrom 7 (budget ∷ []) (now (weights .entry)) (now (wbytes .entry))) claimed (length (now (shares .exit))) (r .least) (r .greatest)) ⌝ }
+    ensures { λ r. ⌜ Leaves (claimsJob budget (now (weights .entry)) (now (wbytes .entry)))
+        claimed (now (shares .exit)) (r .spare) (r .least) (r .greatest) ⌝ }
 {
     let mut spare = budget;
     let mut least = claimed;
@@ -121,8 +122,8 @@ fn remainder_at(
     start: u32,
 ) -> u64
     requires { ⌜ (claimed ≡ sum (listFrom (now weights) (now wbytes))) × (i < length (listFrom (now weights) (now wbytes))) ⌝ }
-    requires { ⌜ start ≡ startOf (weightsFrom 7 (budget ∷ []) (now weights) (now wbytes)) i ⌝ }
-    ensures { λ r. ⌜ r ≡ remainderOf (weightsFrom 7 (budget ∷ []) (now (weights .entry)) (now (wbytes .entry))) i ⌝ }
+    requires { ⌜ start ≡ startOf (claimsJob budget (now weights) (now wbytes)) i ⌝ }
+    ensures { λ r. ⌜ r ≡ remainderOf (claimsJob budget (now (weights .entry)) (now (wbytes .entry))) i ⌝ }
 {
     let claim = numbers::item(weights, wbytes, i);
     remainder(wide_product(budget, claim), start, claimed)
@@ -146,8 +147,8 @@ fn count_ahead(
     starts: &[u32],
     border: u64,
 ) -> usize
-    requires { ⌜ Started (weightsFrom 7 (budget ∷ []) (now weights) (now wbytes)) claimed (now starts) ⌝ }
-    ensures { λ r. ⌜ r ≡ countOf (weightsFrom 7 (budget ∷ []) (now (weights .entry)) (now (wbytes .entry))) border ⌝ }
+    requires { ⌜ Started (claimsJob budget (now weights) (now wbytes)) claimed (now starts) ⌝ }
+    ensures { λ r. ⌜ r ≡ countOf (claimsJob budget (now (weights .entry)) (now (wbytes .entry))) border ⌝ }
 {
     let mut count: usize = 0;
     let mut i = 0;
@@ -197,8 +198,9 @@ fn reach_between(
     low: u64,
     high: u64,
 ) -> Reach
-    requires { ⌜ Started (weightsFrom 7 (budget ∷ []) (now weights) (now wbytes)) claimed (now starts) × (low < high) ⌝ }
-    ensures { λ r. ⌜ Narrowed (weightsFrom 7 (budget ∷ []) (now (weights .entry)) (now (wbytes .entry))) (length (now (starts .entry))) low high (r .least) (r .greatest) ⌝ }
+    requires { ⌜ Started (claimsJob budget (now weights) (now wbytes)) claimed (now starts) × (low < high) ⌝ }
+    ensures { λ r. ⌜ Reaches (claimsJob budget (now (weights .entry)) (now (wbytes .entry)))
+        (length (now (starts .entry))) low high (r .least) (r .greatest) ⌝ }
 {
     let mut least = high;
     let mut greatest = low;
@@ -228,9 +230,10 @@ fn find_border(
     starts: &[u32],
     leavings: Leavings,
 ) -> Border
-    requires { ⌜ Started (weightsFrom 7 (budget ∷ []) (now weights) (now wbytes)) claimed (now starts) ⌝ }
-    requires { ⌜ (leavings .spare ≡ spareOf (weightsFrom 7 (budget ∷ []) (now weights) (now wbytes))) × ((0 < leavings .spare) × Spans (weightsFrom 7 (budget ∷ []) (now weights) (now wbytes)) claimed (length (now starts)) (leavings .least) (leavings .greatest)) ⌝ }
-    ensures { λ r. ⌜ RunOut (weightsFrom 7 (budget ∷ []) (now (weights .entry)) (now (wbytes .entry))) (r .remainder) (r .left) ⌝ }
+    requires { ⌜ Leaves (claimsJob budget (now weights) (now wbytes))
+        claimed (now starts) (leavings .spare) (leavings .least) (leavings .greatest) ⌝ }
+    requires { ⌜ 0 < leavings .spare ⌝ }
+    ensures { λ r. ⌜ RunOut (claimsJob budget (now (weights .entry)) (now (wbytes .entry))) (r .remainder) (r .left) ⌝ }
 {
     let units = leavings.spare as usize;
     let mut low = leavings.least;
@@ -286,9 +289,9 @@ fn give(
     border: u64,
     left: usize,
 )
-    requires { ⌜ Started (weightsFrom 7 (budget ∷ []) (now weights) (now wbytes)) claimed (now shares) ⌝ }
-    requires { ⌜ RunOut (weightsFrom 7 (budget ∷ []) (now weights) (now wbytes)) border left ⌝ }
-    ensures { λ _. ⌜ now (shares .exit) ≡ sharesOf (weightsFrom 7 (budget ∷ []) (now (weights .entry)) (now (wbytes .entry))) ⌝ }
+    requires { ⌜ Started (claimsJob budget (now weights) (now wbytes)) claimed (now shares) ⌝ }
+    requires { ⌜ RunOut (claimsJob budget (now weights) (now wbytes)) border left ⌝ }
+    ensures { λ _. ⌜ now (shares .exit) ≡ sharesOf (claimsJob budget (now (weights .entry)) (now (wbytes .entry))) ⌝ }
 {
     let mut seen: usize = 0;
     let mut i = 0;
@@ -308,7 +311,8 @@ fn give(
 fn share(budget: u32, weights: &[u32], wbytes: &[u8], shares: &mut [u32]) -> u32
     requires { ⌜ (length (listFrom (now weights) (now wbytes)) ≤ mostClaims) × (0 < sum (listFrom (now weights) (now wbytes))) ⌝ }
     requires { ⌜ length (now shares) ≡ length (listFrom (now weights) (now wbytes)) ⌝ }
-    ensures { λ r. ⌜ (now (shares .exit) ≡ sharesOf (weightsFrom 7 (budget ∷ []) (now (weights .entry)) (now (wbytes .entry)))) × (r ≡ spareOf (weightsFrom 7 (budget ∷ []) (now (weights .entry)) (now (wbytes .entry)))) ⌝ }
+    ensures { λ r. ⌜ (now (shares .exit) ≡ sharesOf (claimsJob budget (now (weights .entry)) (now (wbytes .entry))))
+        × (r ≡ spareOf (claimsJob budget (now (weights .entry)) (now (wbytes .entry)))) ⌝ }
 {
     let claimed = claims_sum(weights, wbytes);
     let leavings = write_starts(budget, weights, wbytes, claimed, shares);

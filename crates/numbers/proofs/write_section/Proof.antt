@@ -1,12 +1,12 @@
 -- `numbers::write_section` meets its contract. The loop's invariant: after the count, the slice holds the numbers passed, and elsewhere
 -- what it held when the loop began. The measure is how many numbers are left.
 -- Assumes nothing.
-use Prim.Native.Nat.{_-_, _≤_}
+use Prim.Native.Nat.{_+_, _*_, _-_, _≤_}
 use mathlib.Core.Path.{_≡_, refl, _∙_}
 use native.Mathlib.Omega.{arith}
 use borrow.Author.Needs.{needs}
 use lib.ListN.{length, take}
-use Rattle.meaning.specs.Bytes.{bytesOfAll}
+use Rattle.meaning.specs.Bytes.{bytesOfAll, sectionBytes}
 use Rattle.meaning.proofs.Numbers.{section-long}
 use Rattle.numbers.specs.Placed.{HoldsAt}
 use Rattle.numbers.proofs.Placed.{nothing}
@@ -21,6 +21,20 @@ Inv-loop out₀ p numbers start i₀ out i =
 abbrev μ-loop : tie.MeasureT-loop
 μ-loop out₀ p numbers start i₀ out i = length numbers - i
 
+-- the call that writes the count, from the loop's head; the function's entry, from that call; and the loop's head, from the call that writes number i
+abbrev counted : tie.At-loop Inv-loop μ-loop → tie.After-write-number Inv-loop μ-loop
+counted c = c .before .before .before
+
+abbrev entry : tie.After-write-number Inv-loop μ-loop → tie.Start Inv-loop μ-loop
+entry c = c .before .before .before .before
+
+abbrev head : tie.After-write-number2 Inv-loop μ-loop → tie.At-loop Inv-loop μ-loop
+head c = c .before .before .before .before
+
+-- how many bytes are written in all
+long : (s : tie.Start Inv-loop μ-loop) → length (sectionBytes (s .args .numbers .now)) ≡ 4 + 4 * length (s .args .numbers .now)
+long s = section-long (s .args .numbers .now)
+
 cast-write-number : tie.Need-cast-write-number Inv-loop μ-loop
 cast-write-number c = omega arith
 
@@ -28,7 +42,7 @@ write-number-requires : tie.Need-write-number-requires Inv-loop μ-loop
 write-number-requires c κs = omega (arith, section-long (c .before .before .before .args .numbers .now))
 
 add-start : tie.Need-add-start Inv-loop μ-loop
-add-start c = omega (arith, section-long (c .before .before .before .before .before .before .args .numbers .now))
+add-start c = omega (arith, long (entry (c .before .before)))
 
 loop-holds : tie.Need-loop-holds Inv-loop μ-loop
 unfolding bytesOfAll
@@ -48,9 +62,8 @@ shared-slice-read-write-number c = omega arith
 
 write-number-requires-2 : tie.Need-write-number-requires-2 Inv-loop μ-loop
 write-number-requires-2 c κs =
-    let counted = c .before .before .before .before .before .before in
-    let args = counted .before .before .before .before .args in
-    omega (arith, counted .write-number .kept, section-long (args .numbers .now))
+    let first = counted (c .before .before .before) in
+    omega (arith, first .write-number .kept, long (entry first))
 
 add-i : tie.Need-add-i Inv-loop μ-loop
 add-i c = omega arith
@@ -60,14 +73,13 @@ loop-less c = omega arith
 
 loop-again : tie.Need-loop-again Inv-loop μ-loop
 loop-again c =
-    let at-loop = c .before .before .before .before .before .before in
-    let counted = at-loop .before .before .before in
-    let args = counted .before .before .before .before .args in (
+    let number = c .before .before in
+    let at-i = head number in
+    let first = counted at-i in (
       omega arith,
-      c .before .before .write-number2 .kept .0 ∙ at-loop .loop .inv .1,
-      turn _ _ _ _ _ (at-loop .loop .i) (omega arith)
-          (omega (arith, counted .write-number .kept, section-long (args .numbers .now)))
-          (at-loop .loop .inv .2) (c .before .before .write-number2 .ensures),
+      number .write-number2 .kept .0 ∙ at-i .loop .inv .1,
+      turn _ _ _ _ _ (at-i .loop .i) (omega arith) (omega (arith, first .write-number .kept, long (entry first)))
+          (at-i .loop .inv .2) (number .write-number2 .ensures),
     )
 
 mul-result : tie.Need-mul-result Inv-loop μ-loop
@@ -77,17 +89,17 @@ add-result : tie.Need-add-result Inv-loop μ-loop
 add-result c = omega arith
 
 same-length : tie.Need-same-length Inv-loop μ-loop
-same-length c = c .before .loop .inv .1 ∙ c .before .before .before .before .write-number .kept .0
+same-length c = c .before .loop .inv .1 ∙ counted (c .before) .write-number .kept .0
 
 returns : tie.Need-returns Inv-loop μ-loop
 returns c =
-    let counted = c .before .before .before .before in
-    let entry = counted .before .before .before .before in
+    let first = counted (c .before) in
+    let s = entry first in
     record {
       written =
-          whole _ _ _ _ _ (c .before .loop .i) (omega arith) (entry .pre .0)
-          (counted .write-number .ensures) (c .before .loop .inv .2);
-      ends = omega (arith, section-long (entry .args .numbers .now));
+          whole _ _ _ _ _ (c .before .loop .i) (omega arith) (s .pre .0)
+          (first .write-number .ensures) (c .before .loop .inv .2);
+      ends = omega (arith, long s);
     }
 
 pub write-section-spec : {M : Type 1} → statement M

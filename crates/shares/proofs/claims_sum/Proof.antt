@@ -1,8 +1,9 @@
 -- `claims_sum` gives S, the sum of the claims.
 -- Assumes nothing.
 use mathlib.Core.Path.{_≡_}
-use Prim.Native.Nat.{_*_, _-_, _≤_}
+use Prim.Native.Nat.{ℕ, _*_, _-_, _≤_}
 use native.Mathlib.Omega.{arith}
+use mathlib.Core.List.{List}
 use lib.ListN.{take}
 use borrow.Author.Needs.{needs}
 use Rattle.meaning.specs.Lists.{sum}
@@ -17,6 +18,14 @@ Inv-loop weights wbytes n sum₀ i₀ acc i = (i ≤ n) × (acc ≡ sum (take i 
 
 abbrev μ-loop : tie.MeasureT-loop
 μ-loop weights wbytes n sum₀ i₀ sum i = n - i
+
+-- the function's entry, from the loop's head
+abbrev entry : tie.At-loop Inv-loop μ-loop → tie.Start Inv-loop μ-loop
+entry c = c .before .before .before .before
+
+-- the claims
+abbrev claims : tie.Start Inv-loop μ-loop → List ℕ
+claims s = listFrom (s .args .weights .now) (s .args .wbytes .now)
 
 list-length-requires : tie.Need-list-length-requires Inv-loop μ-loop
 list-length-requires c κs = search needs
@@ -43,15 +52,15 @@ loop-less c = search needs
 
 loop-again : tie.Need-loop-again Inv-loop μ-loop
 loop-again c =
-    let l = c .before .before .loop in
-    let a = c .before .before .before .before .before .before .args in
-    (omega arith, rw (c .item .ensures) (sum-step (listFrom (a .weights .now) (a .wbytes .now)) (l .sum) (l .i) (omega (arith, c .before .before .before .list-length .ensures)) (l .inv .1)), omega arith)
+    let head = c .before .before in
+    let l = head .loop in
+    let inside = head .before .list-length .ensures in
+    (omega arith, rw (c .item .ensures) (sum-step (claims (entry head)) (l .sum) (l .i) (omega (arith, inside)) (l .inv .1)), omega arith)
 
 returns : tie.Need-returns Inv-loop μ-loop
 returns c =
-    let l = c .before .loop in
-    let a = c .before .before .before .before .before .args in
-    sum-done (listFrom (a .weights .now) (a .wbytes .now)) (l .sum) (l .i) (omega (arith, c .before .before .list-length .ensures)) (l .inv .1)
+    let head = c .before in
+    sum-done (claims (entry head)) (head .loop .sum) (head .loop .i) (omega (arith, head .before .list-length .ensures)) (head .loop .inv .1)
 
 pub claims-sum-spec : {M : Type 1} → statement M
 claims-sum-spec =

@@ -22,7 +22,8 @@ ahead-requires c κs = search needs
 
 returns : tie.Need-returns
 unfolding getsOf
-returns c = let a = c .before .args in c .ahead .ensures ∙ ap (λ (x : ℕ). aheadOf (a .remainder + x) (a .border)) (one-or-none (ltb (a .seen) (a .left)))
+returns c =
+    let a = c .before .args in c .ahead .ensures ∙ ap (λ (x : ℕ). aheadOf (a .remainder + x) (a .border)) (one-or-none (ltb (a .seen) (a .left)))
 
 pub gets-spec : {M : Type 1} → statement M
 gets-spec = tie.close (tie.spec cast-counted add-counted ahead-requires returns)

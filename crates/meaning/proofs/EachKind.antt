@@ -1,0 +1,193 @@
+-- What is shown kind by kind. Each match over the kinds that a proof of meaning needs stands here, or in Cases for the kind's trial, so that a new
+-- kind adds its lines to these two files; and so does each match over the cases of an answer but for `unsay` and `unsaid` (Unique).
+-- Assumes nothing.
+use mathlib.Core.Path.{_∙_, _≡_, ap, refl, sym}
+use mathlib.Core.Option.{Option·some-injective, some}
+use Prim.Native.Nat.{_+_, _<_, _≤_, suc, zero, ℕ}
+use native.Mathlib.Nat.{not-suc-le-zero}
+use native.Mathlib.Omega.{arith}
+use mathlib.Core.Bool.{Bool, _&&_, false, true}
+use mathlib.Core.List.{List, [], _∷_}
+use lib.Dec.{T, eqb, ltb}
+use lib.ListN.{getElem?, length}
+use mir.Facts.{and-yes, eqb-yes}
+use borrow.Author.Tests.{ltb-false}
+use Rattle.meaning.specs.declared.Answer.{Answer}
+use Rattle.meaning.specs.declared.Answer.the-variants as Says
+use Rattle.meaning.specs.Lists.{at, if, sum, total}
+use Rattle.meaning.specs.Slices.{Holds}
+use Rattle.meaning.specs.Job.{Job, Kind, Knapsack, allKinds, block-ways, fewest-blocks, free}
+use Rattle.meaning.specs.Job.{kindOf, labels, limited, once, packing, sharing, subset-sums}
+use Rattle.meaning.specs.Lent.{Lent, Room, cellCount, roomFor, roomOf}
+use Rattle.meaning.specs.Knapsacks.{ValueTable}
+use Rattle.meaning.specs.Blocks.{FewestRow, Makes, WaysFor, WaysRow, tooMany}
+use Rattle.meaning.specs.Shares.{spareOf}
+use Rattle.meaning.specs.Answers.{AnswerNumbers, Which, is-blocks, is-knapsack, is-refusal, is-shares, is-sums, is-ways, answerNumbers}
+use Rattle.meaning.specs.Solved.{Answered, Built, Gives, TableHolds, a-sum, no-such-sum, waysAnswer}
+use Rattle.meaning.proofs.OneOfEach.{same-list, rows-unique, row-unique, bits-table-unique, least-shown-unique, ways-shown-unique}
+use Rattle.meaning.proofs.OneOfEach.{packed-unique, summed-unique, sum-or-none-unique, laid-unique, ways-given-unique}
+
+-- ---- the number
+
+-- the number of each kind
+unfoldable pub numberOf : Kind → ℕ
+numberOf (packing once) = 1
+numberOf (packing limited) = 2
+numberOf (packing free) = 3
+numberOf subset-sums = 4
+numberOf fewest-blocks = 5
+numberOf block-ways = 6
+numberOf sharing = 7
+
+-- the kinds of a list have the numbers m, m + 1, ..
+unfoldable inOrder : ℕ → List Kind → Bool
+inOrder m [] = true
+inOrder m (k ∷ ks) = eqb (numberOf k) m && inOrder (suc m) ks
+
+in-order-at : (m : ℕ) (ks : List Kind) (i : ℕ) (k : Kind) → T (inOrder m ks) → getElem? ks i ≡ some k → i + m ≡ numberOf k
+unfolding inOrder
+in-order-at m [] i k t e = let z : _≡_ {A = ℕ} 0 1 = cc in absurd (omega arith)
+in-order-at m (x ∷ ks) zero k t e =
+    let first : numberOf x ≡ m = eqb-yes (and-yes (eqb (numberOf x) m) (inOrder (suc m) ks) t .0) in
+    let same : numberOf x ≡ numberOf k = ap numberOf (Option·some-injective x k e) in
+    omega arith
+in-order-at m (x ∷ ks) (suc i) k t e =
+    let rest : i + suc m ≡ numberOf k = in-order-at (suc m) ks i k (and-yes (eqb (numberOf x) m) (inOrder (suc m) ks) t .1) e in
+    omega arith
+
+-- a kind has one number
+pub kind-number : (m : ℕ) (k : Kind) → kindOf m ≡ some k → m ≡ numberOf k
+unfolding kindOf allKinds inOrder numberOf
+kind-number zero k e = let z : _≡_ {A = ℕ} 0 1 = cc in absurd (omega arith)
+kind-number (suc m) k e = let at-m : m + 1 ≡ numberOf k = in-order-at 1 allKinds m k tt e in omega (arith, at-m)
+
+-- ---- a table leaves one content of the needed cells and words
+
+-- the needed places and no more
+pub record Sized (room : Room) (s : Lent) : Type 0 where
+  pub cells : length (s .cells) ≡ room .cells
+  pub words : length (s .words) ≡ room .words
+
+-- a table in a room that leaves one content of them
+unfoldable pub OneTable : Room → (Lent → Type 0) → Type 0
+OneTable room table = (s t : Lent) → table s → table t → Sized room s → Sized room t → (s .cells ≡ t .cells) × (s .words ≡ t .words)
+
+-- two tables hold the same in each needed place
+record SamePlaces (room : Room) (s t : Lent) : Type 0 where
+  cells : (m : ℕ) → m < room .cells → at (s .cells) m ≡ at (t .cells) m
+  words : (m : ℕ) → m < room .words → at (s .words) m ≡ at (t .words) m
+
+none-needed : (s t : List ℕ) (m : ℕ) → m < 0 → at s m ≡ at t m
+none-needed s t m h = absurd (not-suc-le-zero h)
+
+same-places : (k : Kind) (j : Job) (s t : Lent) → TableHolds k j s → TableHolds k j t → SamePlaces (roomFor k j) s t
+unfolding TableHolds ValueTable FewestRow WaysRow roomFor roomOf
+same-places (packing once) j s t a b = record { cells = rows-unique once j (s .cells) (t .cells) a b; words = none-needed (s .words) (t .words) }
+same-places (packing limited) j s t a b =
+    record { cells = rows-unique limited j (s .cells) (t .cells) a b; words = none-needed (s .words) (t .words) }
+same-places (packing free) j s t a b = record { cells = row-unique free j (s .cells) (t .cells) a b; words = none-needed (s .words) (t .words) }
+same-places subset-sums j s t a b = record { cells = none-needed (s .cells) (t .cells); words = bits-table-unique j (s .words) (t .words) a b }
+same-places fewest-blocks j s t a b = record {
+  cells = λ m h. least-shown-unique (a m (omega arith)) (b m (omega arith));
+  words = none-needed (s .words) (t .words);
+}
+same-places block-ways j s t a b = record {
+  cells = none-needed (s .cells) (t .cells);
+  words = λ m h. ways-shown-unique (a m (omega arith)) (b m (omega arith));
+}
+same-places sharing j s t a b = record { cells = none-needed (s .cells) (t .cells); words = none-needed (s .words) (t .words) }
+
+-- each kind's table leaves one content
+pub table-unique : (k : Kind) (j : Job) → OneTable (roomFor k j) (TableHolds k j)
+unfolding OneTable
+table-unique k j s t a b u v =
+    let same = same-places k j s t a b in (
+      same-list (roomFor k j .cells) (s .cells) (t .cells) (u .cells) (v .cells) (same .cells),
+      same-list (roomFor k j .words) (s .words) (t .words) (u .words) (v .words) (same .words),
+    )
+
+-- ---- where a table stands
+
+-- where the table of kind k stands; kind 7 has none
+unfoldable pub tableOf : Kind → Lent → List ℕ
+tableOf (packing s) lent = lent .cells
+tableOf subset-sums lent = lent .words
+tableOf fewest-blocks lent = lent .cells
+tableOf block-ways lent = lent .words
+tableOf sharing lent = []
+
+-- the places that are needed for the table hold it, and there is one at least
+pub record TableLeft (k : Kind) (content before after : Lent) : Type 0 where
+  pub held : Holds (tableOf k content) (tableOf k before) (tableOf k after)
+  pub needed : ¬ (k ≡ sharing) → 1 ≤ length (tableOf k content)
+
+pub table-left : (k : Kind) {j : Job} {before after : Lent} {s : AnswerNumbers} (x : Answered (roomFor k j) (TableHolds k j) k j before s after)
+    → TableLeft k (x .content) before after
+unfolding tableOf Holds roomFor roomOf cellCount
+table-left (packing once) x = record { held = x .cells-hold; needed = λ has. omega (arith, x .cells-needed) }
+table-left (packing limited) x = record { held = x .cells-hold; needed = λ has. omega (arith, x .cells-needed) }
+table-left (packing free) x = record { held = x .cells-hold; needed = λ has. omega (arith, x .cells-needed) }
+table-left subset-sums x = record { held = x .words-hold; needed = λ has. omega (arith, x .words-needed) }
+table-left fewest-blocks x = record { held = x .cells-hold; needed = λ has. omega (arith, x .cells-needed) }
+table-left block-ways x = record { held = x .words-hold; needed = λ has. omega (arith, x .words-needed) }
+table-left sharing x = record { held = refl; needed = λ has. absurd (has refl) }
+
+-- ---- what a kind says and writes
+
+-- each kind says one thing and writes one list
+pub gives-unique : (k : Kind) (j : Job) (s s′ : AnswerNumbers) (p p′ : List ℕ) → Gives k j s p → Gives k j s′ p′ → (p ≡ p′) × (s ≡ s′)
+unfolding Gives Built
+gives-unique (packing k) j s s′ p p′ a b = packed-unique a b
+gives-unique subset-sums j s s′ p p′ a b = summed-unique a b
+gives-unique fewest-blocks j s s′ p p′ a b = sum-or-none-unique (laid-unique j (j .budget)) a b
+gives-unique block-ways j s s′ p p′ a b = ways-given-unique a b
+gives-unique sharing j s s′ p p′ a b = (a .given ∙ sym (b .given), a .numbers ∙ sym (b .numbers))
+
+-- ---- a refusal, of a job that none of 2 to 6 and 9 meets: 'exactly when'
+
+-- 7 where no list of blocks sums to C, 8 where the ways are too many to count, and no other
+unfoldable pub Late : Kind → Job → ℕ → Type 0
+Late (packing s) j r = ⊥
+Late subset-sums j r = ⊥
+Late fewest-blocks j r = (r ≡ 7) × ((q : List ℕ) → ¬ Makes j (labels j) (j .budget) q)
+Late block-ways j r = (r ≡ 8) × ((w : ℕ) × WaysFor j (labels j) (j .budget) w × (tooMany ≤ w))
+Late sharing j r = ⊥
+
+-- 1 for a refusal, 0 for any other case
+unfoldable pub refusals : Which → ℕ
+refusals is-refusal = 1
+refusals is-knapsack = 0
+refusals is-sums = 0
+refusals is-blocks = 0
+refusals is-ways = 0
+refusals is-shares = 0
+
+-- no other case says what a refusal says
+pub not-said : (r : ℕ) (a : Answer) → refusals (answerNumbers a .case) ≡ 0 → ¬ (answerNumbers (Says.Refused r) ≡ answerNumbers a)
+unfolding answerNumbers refusals
+not-said r a other e = let z : 1 ≡ refusals (answerNumbers a .case) = ap (λ (s : AnswerNumbers). refusals (s .case)) e in omega arith
+
+late-ways : (j : Job) (w r : ℕ) → WaysFor j (labels j) (j .budget) w → (b : Bool) → ltb w tooMany ≡ b
+    → answerNumbers (Says.Refused r) ≡ answerNumbers (if b (Says.Ways w) (Says.Refused 8)) → Late block-ways j r
+unfolding if Late answerNumbers refusals
+late-ways j w r ways true h e = absurd (not-said r (Says.Ways w) refl e)
+late-ways j w r ways false h e = (ap (λ (s : AnswerNumbers). s .refusal) e, (w, ways, omega (arith, ltb-false, h)))
+
+pub late : (k : Kind) (j : Job) (r : ℕ) (p : List ℕ) → Gives k j (answerNumbers (Says.Refused r)) p → Late k j r
+unfolding Gives Built waysAnswer Late answerNumbers refusals
+late (packing s) j r p g = not-said r (Says.Knapsack (total (j .values) p) (total (j .weights) p)) refl (g .numbers)
+late subset-sums j r p g = not-said r (Says.Sums (g .yes) (g .totals)) refl (g .numbers)
+late fewest-blocks j r p (a-sum makes laid e) = absurd (not-said r (Says.Blocks (sum p)) refl e)
+late fewest-blocks j r p (no-such-sum none e written) = (ap (λ (s : AnswerNumbers). s .refusal) e, none)
+late block-ways j r p g = late-ways j (g .ways) r (g .how-many) (ltb (g .ways) tooMany) refl (g .numbers)
+late sharing j r p g = not-said r (Says.Shares (spareOf j)) refl (g .numbers)
+
+-- a refusal is told by its number
+pub numbered : (a : Answer) → ¬ (answerNumbers a .refusal ≡ 0) → (r : ℕ) × (a ≡ Says.Refused r)
+unfolding answerNumbers
+numbered (Says.Refused r) h = (r, refl)
+numbered (Says.Knapsack v w) h = absurd (h refl)
+numbered (Says.Sums y n) h = absurd (h refl)
+numbered (Says.Blocks b) h = absurd (h refl)
+numbered (Says.Ways w) h = absurd (h refl)
+numbered (Says.Shares x) h = absurd (h refl)
