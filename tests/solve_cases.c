@@ -127,10 +127,10 @@ static void try_sizes(uint32_t kind) {
     try_bound(&job, kind == KIND_SHARES ? 9 : 0);
 }
 
-/* A number of the job at its bound and, where there are such, past it; it is the least again at the end, and the most. */
+/* A number of the job one past its bound, where there is such a one, and then at it. */
 static void try_least(struct job *job, uint32_t *number, uint32_t least) {
-    *number = least - (least > 0);
-    try_bound(job, least > 0 ? 5 : 0);
+    *number = least - 1;
+    if (least > 0) try_bound(job, 5);
     *number = least;
     try_bound(job, 0);
 }
