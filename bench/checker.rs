@@ -1,4 +1,5 @@
 //! The checker in Rust, from job bytes and certificate bytes to a verdict, with two ways to look for a cell that breaks rule 14.
+use crate::bounds::{full_table, LAST_CHECKED_KIND};
 use crate::request::{number, section, Job};
 use std::iter::zip;
 
@@ -19,7 +20,7 @@ pub fn check(bytes: &[u8], certificate: &[u8], job: &mut Job, search: impl Fn(&R
     if job.read(bytes).is_none() {
         return (1, 0);
     }
-    if job.kind != 1 {
+    if !(1..=LAST_CHECKED_KIND).contains(&job.kind) {
         return (2, 0);
     }
     match job.rule_broken() {
@@ -33,7 +34,7 @@ fn judge(job: &Job, mut certificate: &[u8], search: impl Fn(&Rows) -> Option<usi
     let n = job.weights.len();
     let picks = section(&mut certificate)?;
     let cells = section(&mut certificate)?;
-    if !certificate.is_empty() || picks.len() != 4 * n || cells.len() != 4 * (n + 1) * job.width() {
+    if !certificate.is_empty() || picks.len() != 4 * n || cells.len() != 4 * full_table(n, job.budget) {
         return None;
     }
     let picks = || picks.chunks_exact(4).map(number);

@@ -1,4 +1,5 @@
 //! The jobs that are timed, drawn from a fixed seed, so that a run can be repeated.
+use crate::bounds::{copies_used, values_used, COPIES, LEAST_VALUE_ANY, MOST_VALUE, SHARES};
 use crate::request;
 
 /// Numbers from a small xorshift.
@@ -73,9 +74,9 @@ impl Job {
 pub fn labels(kind: u32, n: usize, budget: u32, heaviest: u32) -> Job {
     let mut draw = Draw::new(0x5eed_1a8e_15ca_1e5d);
     let weights = draw.list(n, 1, heaviest);
-    let values = draw.list(if kind < 4 { n } else { 0 }, 1, 65_535);
-    let copies = draw.list(if kind == 2 { n } else { 0 }, 1, 20);
-    let copied = if kind == 2 { ", copies to 20" } else { "" };
+    let values = draw.list(values_used(kind, n), LEAST_VALUE_ANY, MOST_VALUE);
+    let copies = draw.list(copies_used(kind, n), 1, 20);
+    let copied = if kind == COPIES { ", copies to 20" } else { "" };
     let name = format!("labels, C {}, weights to {}{copied}", said(budget as usize), said(heaviest as usize));
     Job::new(&name, kind, budget, &weights, &values, &copies)
 }
@@ -97,6 +98,6 @@ pub fn sizes(kind: u32, n: usize, budget: u32, greatest: u32) -> [Job; 3] {
 pub fn claims(n: usize) -> [Job; 3] {
     const BUDGET: u32 = 2_718_281_828;
     let mut draw = Draw::new(0xc1a1_3ed0_5a7e_b0a7);
-    let job = |name: &str, claims: &[u32]| Job::new(&format!("claims, {name}"), 7, BUDGET, claims, &[], &[]);
+    let job = |name: &str, claims: &[u32]| Job::new(&format!("claims, {name}"), SHARES, BUDGET, claims, &[], &[]);
     [job("random of 32 bits", &draw.list(n, 0, u32::MAX)), job("1 to 10", &draw.list(n, 1, 10)), job("all equal", &vec![10; n])]
 }

@@ -1,5 +1,6 @@
 //! Times the proved library beside Rust, and prints Markdown tables. bench/README.md says what is measured and how to read it.
 mod agree;
+mod bounds;
 mod checker;
 mod jobs;
 mod ours;
@@ -8,6 +9,7 @@ mod request;
 mod strong;
 mod timing;
 
+use bounds::{ANY, COPIES, FEWEST, LAST_KIND, MOST_SIZES, ONCE, SUMS, WAYS};
 use jobs::Job;
 use request::answered;
 use timing::{race, Side, Table, Times};
@@ -17,6 +19,10 @@ const GOAL: f64 = 1.05;
 
 fn main() {
     let part = std::env::args().nth(1);
+    if !part.as_deref().is_none_or(is_part) {
+        eprintln!("usage: bench/run [1..{LAST_KIND} | check | growth]");
+        std::process::exit(2);
+    }
     agree::compare();
     if part.as_deref() != Some("growth") {
         ratios(part.as_deref());
@@ -26,19 +32,24 @@ fn main() {
     }
 }
 
+/// A kind, the checker or the growth.
+fn is_part(part: &str) -> bool {
+    part == "check" || part == "growth" || part.parse().is_ok_and(|kind| (1..=LAST_KIND).contains(&kind))
+}
+
 /// The library against Rust: all kinds and the checker, or one of them.
 fn ratios(part: Option<&str>) {
     println!("\n| Job | Ours | Plain Rust | Ratio | Strong Rust | Ratio |\n|---|---|---|---|---|---|");
     let asked = |name: &str| part.is_none_or(|part| part == name);
     let mut ratios = Vec::new();
-    for kind in 1..=7 {
+    for kind in 1..=LAST_KIND {
         if asked(&kind.to_string()) {
             let sides = if strong::KINDS.contains(&kind) { 3 } else { 2 };
             ratios.extend(jobs_of(kind).iter().map(|job| line(&job.name, &solved(job, sides))));
         }
     }
     if asked("check") {
-        ratios.extend(labels_jobs(1).iter().map(|job| line(&job.name.replace("kind 1", "checker"), &checked(job, 3))));
+        ratios.extend(labels_jobs(ONCE).iter().map(|job| line(&job.name.replace("kind 1", "checker"), &checked(job, 3))));
     }
     let above = ratios.iter().filter(|&&ratio| ratio > GOAL).count();
     println!("\n{above} of {} ratios to plain Rust are above {GOAL}.", ratios.len());
@@ -51,9 +62,9 @@ fn labels_jobs(kind: u32) -> Vec<Job> {
 
 fn jobs_of(kind: u32) -> Vec<Job> {
     match kind {
-        3 => labels_jobs(3).into_iter().chain([jobs::labels(3, 1_000, 60_000, 16), jobs::labels(3, 50, 500, 16)]).collect(),
-        1..=4 => labels_jobs(kind),
-        5 | 6 => jobs::sizes(kind, 64, 60_000, 3_000).into_iter().chain(jobs::sizes(kind, 64, 500, 400)).collect(),
+        ANY => labels_jobs(ANY).into_iter().chain([jobs::labels(ANY, 1_000, 60_000, 16), jobs::labels(ANY, 50, 500, 16)]).collect(),
+        ONCE | COPIES | SUMS => labels_jobs(kind),
+        FEWEST | WAYS => jobs::sizes(kind, MOST_SIZES, 60_000, 3_000).into_iter().chain(jobs::sizes(kind, MOST_SIZES, 500, 400)).collect(),
         _ => jobs::claims(1_000).into_iter().chain(jobs::claims(50)).collect(),
     }
 }
@@ -119,14 +130,20 @@ fn growth() {
     let alone = |job: &Job| time(solved(job, 1).best[0]);
     let judged = |job: &Job| time(checked(job, 1).best[0]);
     let row = |name: &str, times: [String; 4]| println!("| {name} | {} |", times.join(" | "));
-    for kind in 1..=4 {
+    for kind in [ONCE, COPIES, ANY, SUMS] {
         row(&format!("kind {kind}, to 1,000 labels and C 60,000"), sizes.map(|(n, c)| alone(&jobs::labels(kind, 500 * n, 30_000 * c, 3_000))));
     }
-    for kind in 5..=6 {
-        let middle = |n, c| alone(&jobs::sizes(kind, 32 * n, 30_000 * c, 3_000)[1]);
-        row(&format!("kind {kind}, to 64 sizes and C 60,000"), sizes.map(|(n, c)| middle(n, c)));
+    for kind in [FEWEST, WAYS] {
+        let random = |n, c| {
+            let [_, random, _] = jobs::sizes(kind, MOST_SIZES / 2 * n, 30_000 * c, 3_000);
+            alone(&random)
+        };
+        row(&format!("kind {kind}, to {MOST_SIZES} sizes and C 60,000"), sizes.map(|(n, c)| random(n, c)));
     }
-    row("checker, to 1,000 labels and C 60,000", sizes.map(|(n, c)| judged(&jobs::labels(1, 500 * n, 30_000 * c, 3_000))));
-    let shared = |n| alone(&jobs::claims(n)[0]);
+    row("checker, to 1,000 labels and C 60,000", sizes.map(|(n, c)| judged(&jobs::labels(ONCE, 500 * n, 30_000 * c, 3_000))));
+    let shared = |n| {
+        let [random, ..] = jobs::claims(n);
+        alone(&random)
+    };
     println!("\nKind 7, random claims: {} for 500, {} for 1,000; it doesn't grow with C.", shared(500), shared(1_000));
 }

@@ -1,4 +1,5 @@
 //! The proved library, by the entries of include/quabnester.h.
+use crate::bounds::certificate_bytes;
 use crate::request::{answered, Answer, Lent};
 
 extern "C" {
@@ -51,7 +52,7 @@ pub fn solve(job: &[u8], lent: Lent) -> Answer {
 
 /// The certificate of what a kind 1 answer left; none where it is refused.
 pub fn write(job: &[u8], picks: &[u32], cells: &[u32]) -> Option<Vec<u8>> {
-    let mut out = vec![0; 8 + 4 * picks.len() + 4 * cells.len()];
+    let mut out = vec![0; certificate_bytes(picks.len(), cells.len())];
     let mut written = 0;
     let refusal = unsafe {
         quabnester_write(job.as_ptr(), job.len(), picks.as_ptr(), picks.len(), cells.as_ptr(), cells.len(), out.as_mut_ptr(), out.len(), &mut written)

@@ -1,4 +1,5 @@
 //! The planner in plain Rust, from job bytes to answer, with the contract of include/quabnester.h.
+use crate::bounds::{words_of_bits, ANY, COPIES, FEWEST, FULL, LAST_KIND, NO_WAY, ONCE, SHARES, SUMS, WAYS};
 use crate::request::{answered, refused, Answer, Job, Lent};
 use std::cmp::Reverse;
 use std::iter::zip;
@@ -13,12 +14,12 @@ pub struct Scratch {
 
 pub fn solve(bytes: &[u8], lent: Lent, scratch: &mut Scratch) -> Answer {
     unless_refused(bytes, lent, scratch, |scratch, lent| match scratch.job.kind {
-        1 => once(&scratch.job, lent),
-        2 => copies(&scratch.job, lent, raise_down),
-        3 => any_number(&scratch.job, lent),
-        4 => totals(&scratch.job, lent.words),
-        5 => fewest_blocks(&scratch.job, lent),
-        6 => ways(&scratch.job, lent.words),
+        ONCE => once(&scratch.job, lent),
+        COPIES => copies(&scratch.job, lent, add_one),
+        ANY => any_number(&scratch.job, lent),
+        SUMS => totals(&scratch.job, lent.words),
+        FEWEST => fewest_blocks(&scratch.job, lent),
+        WAYS => ways(&scratch.job, lent.words),
         _ => shares(scratch, lent.picks, |order, remainders, _| {
             order.sort_unstable_by_key(|&i| (Reverse(remainders[i as usize]), i));
         }),
@@ -38,12 +39,12 @@ fn turned_down(bytes: &[u8], lent: &Lent, job: &mut Job) -> Option<u32> {
     if job.read(bytes).is_none() {
         return Some(1);
     }
-    if !(1..=7).contains(&job.kind) {
+    if !(1..=LAST_KIND).contains(&job.kind) {
         return Some(2);
     }
     match job.rule_broken() {
         0 if job.lacks_room(lent) => Some(6),
-        0 if job.kind == 7 && job.weights.iter().all(|&claim| claim == 0) => Some(9),
+        0 if job.kind == SHARES && job.weights.iter().all(|&claim| claim == 0) => Some(9),
         0 => None,
         refusal => Some(refusal),
     }
@@ -86,14 +87,14 @@ fn once_back(job: &Job, lent: Lent) -> Answer {
 
 /// One more of a label, in place, from the greatest budget down. Inlined into the loop over parts it takes a quarter more.
 #[inline(never)]
-fn raise_down(row: &mut [u32], w: usize, v: u32) {
+fn add_one(row: &mut [u32], w: usize, v: u32) {
     for c in (w..row.len()).rev() {
         row[c] = row[c].max(row[c - w] + v);
     }
 }
 
 /// Kind 2: the first copy from row to row, the others in parts of 2, 4, 8 and so on, in place, by the pass that is given.
-pub fn copies(job: &Job, lent: Lent, raise: impl Fn(&mut [u32], usize, u32)) -> Answer {
+pub fn copies(job: &Job, lent: Lent, add: impl Fn(&mut [u32], usize, u32)) -> Answer {
     let width = job.width();
     lent.cells[..width].fill(0);
     for (i, &limit) in job.copies.iter().enumerate() {
@@ -108,7 +109,7 @@ pub fn copies(job: &Job, lent: Lent, raise: impl Fn(&mut [u32], usize, u32)) -> 
         let mut held = 1;
         while held < most {
             let part = (held + 1).min(most - held);
-            raise(after, (w * part) as usize, v * part);
+            add(after, (w * part) as usize, v * part);
             held += part;
         }
     }
@@ -139,12 +140,17 @@ fn any_number(job: &Job, lent: Lent) -> Answer {
     let row = &mut lent.cells[..job.width()];
     row.fill(0);
     for (&w, &v) in zip(&job.weights, &job.values) {
-        let w = w as usize;
-        for c in w..row.len() {
-            row[c] = row[c].max(row[c - w] + v);
-        }
+        add_any_number(row, w as usize, v);
     }
     any_along(job, row, lent.picks)
+}
+
+/// Any number of a label, in place.
+#[inline(always)]
+fn add_any_number(row: &mut [u32], w: usize, v: u32) {
+    for c in w..row.len() {
+        row[c] = row[c].max(row[c - w] + v);
+    }
 }
 
 /// The picks of kind 3: of each label, from the first on, as many as lead on.
@@ -164,7 +170,7 @@ pub fn any_along(job: &Job, row: &[u32], picks: &mut [u32]) -> Answer {
 /// Kind 4: the totals as bits, a label by shifts of whole words and of bits.
 fn totals(job: &Job, words: &mut [u64]) -> Answer {
     let last = job.budget as usize;
-    let words = &mut words[..last / 64 + 1];
+    let words = &mut words[..words_of_bits(job.budget)];
     words.fill(0);
     words[0] = 1;
     for &w in &job.weights {
@@ -195,7 +201,7 @@ fn add_label(words: &mut [u64], w: usize) {
 /// Kind 5: one row in place.
 fn fewest_blocks(job: &Job, lent: Lent) -> Answer {
     let row = &mut lent.cells[..job.width()];
-    row.fill(u32::MAX);
+    row.fill(NO_WAY);
     row[0] = 0;
     for &w in &job.weights {
         let w = w as usize;
@@ -210,7 +216,7 @@ fn fewest_blocks(job: &Job, lent: Lent) -> Answer {
 pub fn blocks_back(job: &Job, row: &[u32], picks: &mut [u32]) -> Answer {
     let mut a = row.len() - 1;
     let blocks = row[a];
-    if blocks == u32::MAX {
+    if blocks == NO_WAY {
         return refused(7);
     }
     for (pick, &w) in zip(&mut picks[..job.weights.len()], &job.weights).rev() {
@@ -236,7 +242,7 @@ fn ways(job: &Job, words: &mut [u64]) -> Answer {
         }
     }
     match row[row.len() - 1] {
-        u64::MAX => refused(8),
+        FULL => refused(8),
         ways => answered(0, ways, 0),
     }
 }

@@ -1,4 +1,5 @@
 //! A job as a good engineer reads it: bytes decoded once a call, and the refusals that come before anything is written.
+use crate::bounds;
 
 /// The slices that a call is lent.
 pub struct Lent<'a> {
@@ -69,35 +70,29 @@ impl Job {
         bytes.is_empty().then_some(())
     }
 
-    /// The cells of a row: one for each budget from 0 to C.
+    /// The cells of a row.
     pub fn width(&self) -> usize {
-        self.budget as usize + 1
+        bounds::row(self.budget)
     }
 
-    /// The lowest of 3 to 5 that applies, or 0, for a kind from 1 to 7.
+    /// The lowest of 3 to 5 that applies, or 0, for a kind that there is.
     pub fn rule_broken(&self) -> u32 {
         let n = self.weights.len();
-        let values = if self.kind <= 3 { n } else { 0 };
-        let copies = if self.kind == 2 { n } else { 0 };
-        if self.values.len() != values || self.copies.len() != copies {
+        if self.values.len() != bounds::values_used(self.kind, n) || self.copies.len() != bounds::copies_used(self.kind, n) {
             return 3;
         }
-        let (most_labels, most_budget) = match self.kind {
-            1..=4 => (1_024, 65_535),
-            5 | 6 => (64, 65_535),
-            _ => (1_024, u32::MAX),
-        };
+        let (most_labels, most_budget) = bounds::most_of(self.kind);
         if n > most_labels || self.budget > most_budget {
             return 4;
         }
         let weights_right = match self.kind {
-            1..=4 => !self.weights.contains(&0),
-            5 | 6 => self.weights.first() != Some(&0) && self.weights.is_sorted_by(|a, b| a < b),
+            kind if bounds::are_labels(kind) => !self.weights.contains(&0),
+            kind if bounds::are_sizes(kind) => self.weights.first() != Some(&0) && self.weights.is_sorted_by(|a, b| a < b),
             _ => true,
         };
-        let least_value = if self.kind == 3 { 1 } else { 0 };
-        let values_right = self.values.iter().all(|v| (least_value..=65_535).contains(v));
-        let copies_right = self.copies.iter().all(|&k| k <= 65_535);
+        let least_value = bounds::least_value(self.kind);
+        let values_right = self.values.iter().all(|v| (least_value..=bounds::MOST_VALUE).contains(v));
+        let copies_right = self.copies.iter().all(|k| (bounds::LEAST_COPIES..=bounds::MOST_COPIES).contains(k));
         if weights_right && values_right && copies_right {
             0
         } else {
@@ -105,16 +100,9 @@ impl Job {
         }
     }
 
-    /// How many cells, words and picks are needed, for a kind from 1 to 7.
+    /// How many cells, words and picks are needed, for a kind that there is.
     pub fn room(&self) -> [usize; 3] {
-        let n = self.weights.len();
-        match self.kind {
-            1 | 2 => [(n + 1) * self.width(), 0, n],
-            3 | 5 => [self.width(), 0, n],
-            4 => [0, self.budget as usize / 64 + 1, 0],
-            6 => [0, self.width(), 0],
-            _ => [0, 0, n],
-        }
+        bounds::room(self.kind, self.weights.len(), self.budget)
     }
 
     /// Whether a slice that is needed is too short.

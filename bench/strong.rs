@@ -1,5 +1,6 @@
 //! Kinds 2, 3 and 5 in Rust that is written for vectors, as the proved code is, so that a ratio doesn't speak of a missed vector loop; and kind 7
 //! by a selection in place of a sort.
+use crate::bounds::{ANY, COPIES, FEWEST, NO_WAY, SHARES};
 use crate::plain::{any_along, blocks_back, copies, shares, unless_refused, Scratch};
 use crate::request::{Answer, Job, Lent};
 use std::cell::Cell;
@@ -7,14 +8,14 @@ use std::cmp::Reverse;
 use std::iter::zip;
 
 /// The kinds that have a second Rust.
-pub const KINDS: [u32; 4] = [2, 3, 5, 7];
+pub const KINDS: [u32; 4] = [COPIES, ANY, FEWEST, SHARES];
 
 /// One of these kinds.
 pub fn solve(bytes: &[u8], lent: Lent, scratch: &mut Scratch) -> Answer {
     unless_refused(bytes, lent, scratch, |scratch, lent| match scratch.job.kind {
-        2 => copies(&scratch.job, lent, |row, w, v| raise_down(row, w as u16, v)),
-        3 => any_number(&scratch.job, lent),
-        5 => fewest_blocks(&scratch.job, lent),
+        COPIES => copies(&scratch.job, lent, |row, w, v| add_one(row, w as u16, v)),
+        ANY => any_number(&scratch.job, lent),
+        FEWEST => fewest_blocks(&scratch.job, lent),
         _ => shares(scratch, lent.picks, |order, remainders, spare| {
             if spare > 0 {
                 order.select_nth_unstable_by_key(spare - 1, |&i| (Reverse(remainders[i as usize]), i));
@@ -38,7 +39,7 @@ fn in_stretches(row: &mut [u32], w: usize, rule: impl Fn(u32, u32) -> u32) {
 
 /// One more of a label, in place, from the greatest budget down. Over cells, and with a weight of 16 bits, the compiler sees that what is read
 /// lies below what is written, and the loop runs in vectors.
-fn raise_down(row: &mut [u32], w: u16, v: u32) {
+fn add_one(row: &mut [u32], w: u16, v: u32) {
     let row = Cell::from_mut(row).as_slice_of_cells();
     let Some(high) = row.get(usize::from(w)..) else { return };
     for (cell, with) in zip(high, row).rev() {
@@ -53,7 +54,7 @@ fn any_number(job: &Job, lent: Lent) -> Answer {
     for (&w, &v) in zip(&job.weights, &job.values) {
         let (mut w, mut v) = (w as usize, v);
         while w < 16 {
-            raise_down(row, w as u16, v);
+            add_one(row, w as u16, v);
             (w, v) = (2 * w, 2 * v);
         }
         in_stretches(row, w, |cell, before| cell.max(before + v));
@@ -64,7 +65,7 @@ fn any_number(job: &Job, lent: Lent) -> Answer {
 /// Kind 5, in stretches of one size; light sizes in one go.
 fn fewest_blocks(job: &Job, lent: Lent) -> Answer {
     let row = &mut lent.cells[..job.width()];
-    row.fill(u32::MAX);
+    row.fill(NO_WAY);
     row[0] = 0;
     for &w in &job.weights {
         let w = w as usize;

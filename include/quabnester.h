@@ -2,9 +2,9 @@
  *
  * What is said below of an entry's numbers and of the slices that it is lent is proved of the code that is called
  * (crates/host, docs/STATEMENTS.md), for a caller who keeps the duties. What is said of C itself is not, since no proof
- * sees C: null pointers are tried by tests/empty.c, and threads rest on there being nothing that calls share. 'Document
- * 01' has the words behind each promise. tests/example.c is a worked call: it solves a job, writes its certificate and has
- * that checked.
+ * sees C: null pointers are tried by tests/empty.c, and threads rest on there being nothing that calls share. Nor are this
+ * header's own constants and functions: tests/header.c holds them to the library. 'Document 01' has the words behind each
+ * promise. tests/example.c is a worked call: it solves a job, writes its certificate and has that checked.
  *
  * THE CALLER'S DUTIES. Nothing is assumed of what the slices hold: any bytes, any numbers. C itself asks this much:
  * - A slice is a pointer and a length in elements. It points at so many elements, aligned for their type, and
@@ -18,29 +18,15 @@
  * JOB BYTES. Five sections in this order, each after its count: kinds, budgets, weights, values, copies. A count and
  * every number is 32 bits, lowest byte first, on any machine and at any address. The first two counts are 1. A list that
  * the kind doesn't use has count 0. Labels are numbered from 0; n is the count of weights, C is the budget.
+ * quabnester_job_bytes says how many bytes that are.
  *
- * CERTIFICATE BYTES, for kind 1. Two sections in the same form: n picks, then (n+1)(C+1) cells.
- *     bytes 0 to 3                         n
- *     4n bytes                             the picks: 1 for a label that is kept, 0 for one that isn't
- *     4 bytes                              (n+1)(C+1)
- *     4(n+1)(C+1) bytes                    the cells: cell i(C+1)+c claims a value that the first i labels can't beat
+ * CERTIFICATE BYTES, for kind 1. Two sections in the same form: the picks, then the cells.
+ *     a count                              n
+ *     n numbers                            the picks: 1 for a label that is kept, 0 for one that isn't
+ *     a count                              as many as quabnester_cells_needed says
+ *     so many numbers                      the cells: cell i(C+1)+c claims a value that the first i labels can't beat
  *                                          with budget c
- * That is 8 + 4n + 4(n+1)(C+1) bytes in all.
- *
- * REFUSAL NUMBERS. An entry returns 0, or the lowest number that applies. 0 is returned exactly where none does.
- *      1  the job bytes can't be read: a count or section runs past the end, the first or second count isn't 1, or
- *         bytes are left over
- *      2  the kind isn't one of 1 to 7 (to solve) or isn't 1 (to write and to check)
- *      3  a list that the kind uses hasn't n numbers, or one that it doesn't use isn't empty
- *      4  n or C is above its bound: n 1,024 and C 65,535 in kinds 1 to 4; n 64 and C 65,535 in kinds 5 and 6; n 1,024
- *         in kind 7
- *      5  a number is outside its rule: a weight is 0 (kinds 1 to 4); a value is above 65,535, or 0 in kind 3; a copies
- *         number is above 65,535; block sizes (kinds 5, 6) aren't strictly ascending from 1 or more
- *      6  a slice that is needed is too short
- *      7  kind 5: no list of blocks sums to C
- *      8  kind 6: there are 2^64 - 1 ways or more
- *      9  kind 7: the claims sum to 0
- *     11 to 15  the certificate, see quabnester_check
+ * quabnester_certificate_bytes says how many bytes that are.
  */
 #ifndef QUABNESTER_H
 #define QUABNESTER_H
@@ -51,6 +37,168 @@
 #ifdef __cplusplus
 extern "C" {
 #endif
+
+/* ---- VERSION, of this header and of the library that it comes with. The first number goes up where a call that was
+ * answered is refused or gets another answer, the second where one is answered that was refused, or an entry is added, and
+ * the third where no promise has changed. */
+
+#define QUABNESTER_VERSION_MAJOR 1
+#define QUABNESTER_VERSION_MINOR 0
+#define QUABNESTER_VERSION_PATCH 0
+
+/* As one number, which grows with each version, and as text: "1.0.0" and the like. */
+#define QUABNESTER_VERSION_NUMBER                                                                                          \
+    (QUABNESTER_VERSION_MAJOR * 1000000 + QUABNESTER_VERSION_MINOR * 1000 + QUABNESTER_VERSION_PATCH)
+#define QUABNESTER_VERSION_STRING                                                                                          \
+    QUABNESTER_TEXT_(QUABNESTER_VERSION_MAJOR)                                                                             \
+    "." QUABNESTER_TEXT_(QUABNESTER_VERSION_MINOR) "." QUABNESTER_TEXT_(QUABNESTER_VERSION_PATCH)
+#define QUABNESTER_TEXT_(number) QUABNESTER_AS_IT_STANDS_(number)
+#define QUABNESTER_AS_IT_STANDS_(words) #words
+
+/* ---- KINDS of job. What each answers is said at quabnester_solve. */
+
+#define QUABNESTER_KIND_ONCE 1   /* each label at most once */
+#define QUABNESTER_KIND_COPIES 2 /* label i at most copies[i] times */
+#define QUABNESTER_KIND_ANY 3    /* any number of each */
+#define QUABNESTER_KIND_SUMS 4   /* can some labels weigh exactly C? */
+#define QUABNESTER_KIND_FEWEST 5 /* fewest blocks that sum to C */
+#define QUABNESTER_KIND_WAYS 6   /* ways to sum to C */
+#define QUABNESTER_KIND_SHARES 7 /* C shared by claims */
+
+#define QUABNESTER_LAST_KIND QUABNESTER_KIND_SHARES           /* the kinds to solve are 1 to this one */
+#define QUABNESTER_LAST_CERTIFICATE_KIND QUABNESTER_KIND_ONCE /* those with certificates are 1 to this one */
+
+/* ---- BOUNDS. n and C may be 0, save that the claims of kind 7 have to sum to more. A weight, a size or a claim may be as
+ * great as 32 bits allow, and a claim may be 0. Two bounds that are equal today are still two rules. */
+
+#define QUABNESTER_MOST_LABELS 1024        /* n in kinds 1 to 4 */
+#define QUABNESTER_MOST_SIZES 64           /* n in kinds 5 and 6 */
+#define QUABNESTER_MOST_CLAIMS 1024        /* n in kind 7 */
+#define QUABNESTER_MOST_BUDGET 65535       /* C in kinds 1 to 6 */
+#define QUABNESTER_MOST_SHARED 4294967295u /* C in kind 7: any 32-bit number */
+#define QUABNESTER_LEAST_WEIGHT 1          /* in kinds 1 to 4 */
+#define QUABNESTER_LEAST_SIZE 1            /* in kinds 5 and 6; each size is greater than the one before it */
+#define QUABNESTER_LEAST_VALUE 0           /* in kinds 1 and 2 */
+#define QUABNESTER_LEAST_VALUE_ANY 1       /* in kind 3 */
+#define QUABNESTER_MOST_VALUE 65535
+#define QUABNESTER_LEAST_COPIES 0
+#define QUABNESTER_MOST_COPIES 65535
+
+/* ---- MARKS in a table that was left. */
+
+#define QUABNESTER_NO_WAY 4294967295u           /* a cell of kind 5: there is no way */
+#define QUABNESTER_TOO_MANY_WAYS (~(uint64_t)0) /* a word of kind 6: so many ways, 2^64 - 1, or more */
+
+/* ---- REFUSAL NUMBERS. An entry returns 0, or the lowest number that applies. 0 is returned exactly where none does. */
+
+#define QUABNESTER_NOT_REFUSED 0
+
+/* the job bytes can't be read: a count or section runs past the end, the first or second count isn't 1, or bytes are left
+ * over */
+#define QUABNESTER_REFUSED_BYTES 1
+/* the kind isn't one of 1 to the last (to solve), or to the last that has certificates (to write and to check) */
+#define QUABNESTER_REFUSED_KIND 2
+/* a list that the kind uses hasn't n numbers, or one that it doesn't use isn't empty */
+#define QUABNESTER_REFUSED_LENGTHS 3
+/* n or C is above its bound */
+#define QUABNESTER_REFUSED_BOUND 4
+/* a number is outside its rule: a weight, value or copies number is below its least or above its most; or block sizes
+ * aren't strictly ascending from the least one or more */
+#define QUABNESTER_REFUSED_RULE 5
+/* a slice that is needed is too short */
+#define QUABNESTER_REFUSED_ROOM 6
+/* kind 5: no list of blocks sums to C */
+#define QUABNESTER_REFUSED_NO_SUM 7
+/* kind 6: there are 2^64 - 1 ways or more */
+#define QUABNESTER_REFUSED_TOO_MANY 8
+/* kind 7: the claims sum to 0 */
+#define QUABNESTER_REFUSED_NO_CLAIMS 9
+
+/* Those of the certificate, in this order, with K(i,c) for cell i(C+1)+c: */
+
+/* the certificate's bytes are cut short or left over, or a count isn't the needed one */
+#define QUABNESTER_REFUSED_SECTIONS 11
+/* a pick is neither 0 nor 1. Place: the first such label */
+#define QUABNESTER_REFUSED_PICK 12
+/* the picks weigh more than C */
+#define QUABNESTER_REFUSED_WEIGHT 13
+/* for some i from 1 to n and c from 0 to C, K(i,c) is below K(i-1,c); or label i-1 weighs w, at most c, and K(i,c) is below
+ * K(i-1,c-w) plus its value. Place: the number of the first such cell */
+#define QUABNESTER_REFUSED_CELL 14
+/* K(n,C) isn't the picks' value */
+#define QUABNESTER_REFUSED_VALUE 15
+
+/* ---- ROOM: how much a job needs, by its kind, n and C, so that no host writes a formula. Each gives 0 where there is no
+ * such kind, or n or C is above its bound: such a job is refused with 2 or 4, whatever it is lent. No number that is made
+ * on the way leaves 64 bits. */
+
+/* The most labels, sizes or claims of a kind, and its greatest budget. */
+static inline uint32_t quabnester_most_labels(uint32_t kind) {
+    switch (kind) {
+    case QUABNESTER_KIND_ONCE:
+    case QUABNESTER_KIND_COPIES:
+    case QUABNESTER_KIND_ANY:
+    case QUABNESTER_KIND_SUMS: return QUABNESTER_MOST_LABELS;
+    case QUABNESTER_KIND_FEWEST:
+    case QUABNESTER_KIND_WAYS: return QUABNESTER_MOST_SIZES;
+    case QUABNESTER_KIND_SHARES: return QUABNESTER_MOST_CLAIMS;
+    default: return 0;
+    }
+}
+
+static inline uint32_t quabnester_most_budget(uint32_t kind) {
+    if (kind < 1 || kind > QUABNESTER_LAST_KIND) return 0;
+    if (kind == QUABNESTER_KIND_SHARES) return QUABNESTER_MOST_SHARED;
+    return QUABNESTER_MOST_BUDGET;
+}
+
+/* Whether there is such a kind, and n and C are within its bounds: 1 or 0. */
+static inline int quabnester_within_bounds(uint32_t kind, uint64_t n, uint64_t budget) {
+    if (kind < 1 || kind > QUABNESTER_LAST_KIND) return 0;
+    return n <= quabnester_most_labels(kind) && budget <= quabnester_most_budget(kind);
+}
+
+/* The places that quabnester_solve needs of cells, of words and of picks. quabnester_write needs as many cells and picks,
+ * and a certificate has so many. */
+static inline uint64_t quabnester_cells_needed(uint32_t kind, uint64_t n, uint64_t budget) {
+    if (!quabnester_within_bounds(kind, n, budget)) return 0;
+    switch (kind) {
+    case QUABNESTER_KIND_ONCE:
+    case QUABNESTER_KIND_COPIES: return (n + 1) * (budget + 1);
+    case QUABNESTER_KIND_ANY:
+    case QUABNESTER_KIND_FEWEST: return budget + 1;
+    default: return 0;
+    }
+}
+
+static inline uint64_t quabnester_words_needed(uint32_t kind, uint64_t n, uint64_t budget) {
+    if (!quabnester_within_bounds(kind, n, budget)) return 0;
+    switch (kind) {
+    case QUABNESTER_KIND_SUMS: return budget / 64 + 1;
+    case QUABNESTER_KIND_WAYS: return budget + 1;
+    default: return 0;
+    }
+}
+
+static inline uint64_t quabnester_picks_needed(uint32_t kind, uint64_t n, uint64_t budget) {
+    if (!quabnester_within_bounds(kind, n, budget)) return 0;
+    return kind == QUABNESTER_KIND_SUMS || kind == QUABNESTER_KIND_WAYS ? 0 : n;
+}
+
+/* The bytes of a certificate: two counts, n picks and the cells. 0 for a kind that has none, too. */
+static inline uint64_t quabnester_certificate_bytes(uint32_t kind, uint64_t n, uint64_t budget) {
+    if (kind > QUABNESTER_LAST_CERTIFICATE_KIND || !quabnester_within_bounds(kind, n, budget)) return 0;
+    return 4 * (2 + quabnester_picks_needed(kind, n, budget) + quabnester_cells_needed(kind, n, budget));
+}
+
+/* The bytes of a job with so many weights, values and copies numbers: five counts, a kind, a budget and the lists. 0 where
+ * a list is longer than its count could say. */
+static inline uint64_t quabnester_job_bytes(uint64_t weights, uint64_t values, uint64_t copies) {
+    if (weights >> 32 || values >> 32 || copies >> 32) return 0;
+    return 4 * (5 + 1 + 1 + weights + values + copies);
+}
+
+/* ---- ENTRIES */
 
 /* Solves a job. Returns 0 or a refusal number, 1 to 9.
  *
@@ -71,13 +219,13 @@ extern "C" {
  * last size's count is as great as it can be, then the one before it. Kind 7: spare units go one each to the largest
  * remainders, of equal ones to the lower label first.
  *
- *   kind  table needed          what it holds after the call
- *   1, 2  (n+1)(C+1) cells      cell i(C+1)+c: the best value of the first i labels with budget c
- *   3     C+1 cells             cell c: the best value with budget c
- *   4     C/64 + 1 words        bit t % 64 of word t/64 is set where total t is reached and at most C, other bits are 0
- *   5     C+1 cells             cell a: the fewest blocks for a, or 4,294,967,295 where there is no way
- *   6     C+1 words             word a: the ways for a, but at most 2^64 - 1
- *   7     none
+ *   kind  what the table holds after the call, in as many places as are needed (ROOM)
+ *   1, 2  cell i(C+1)+c: the best value of the first i labels with budget c
+ *   3     cell c: the best value with budget c
+ *   4     bit t % 64 of word t/64 is set where total t is reached and at most C, other bits are 0
+ *   5     cell a: the fewest blocks for a, or QUABNESTER_NO_WAY
+ *   6     word a: the ways for a, but at most QUABNESTER_TOO_MANY_WAYS
+ *   7     there is none
  *
  * What stood in the slices before has no influence. Slices may be longer; places past the needed ones, and slices that
  * the kind doesn't use, keep what they held. On a refusal *first and *second are 0, and no slice is written; save that 7
@@ -87,23 +235,16 @@ uint32_t quabnester_solve(const uint8_t *job, size_t job_len, uint32_t *cells, s
 
 /* Writes a certificate of a kind 1 job from picks and cells. Returns 0 or a refusal number, 1 to 6.
  *
- * Refuses with 6 where picks_len is below n, cells_len is below (n+1)(C+1) or out_len is below 8 + 4n + 4(n+1)(C+1).
- * Otherwise the first n picks and the first (n+1)(C+1) cells are copied to out in the form above, *written is how many
- * bytes that are, and bytes past them keep what they held. It copies and doesn't judge. Given picks and cells as
- * quabnester_solve left them for this job, what it writes is accepted by quabnester_check.
+ * Refuses with 6 where picks_len is below quabnester_picks_needed, cells_len is below quabnester_cells_needed or out_len is
+ * below quabnester_certificate_bytes. Otherwise so many of the first picks and of the first cells are copied to out in the
+ * form above, *written is how many bytes that are, and bytes past them keep what they held. It copies and doesn't judge.
+ * Given picks and cells as quabnester_solve left them for this job, what it writes is accepted by quabnester_check.
  * On a refusal *written is 0 and out keeps what it held. */
 uint32_t quabnester_write(const uint8_t *job, size_t job_len, const uint32_t *picks, size_t picks_len,
                           const uint32_t *cells, size_t cells_len, uint8_t *out, size_t out_len, uint64_t *written);
 
 /* Judges a certificate of a kind 1 job, whoever made it. Returns 0 for accepted or a refusal number: 1 to 5 for the job,
- * then, in this order, with K(i,c) for cell i(C+1)+c,
- *
- *     11  the certificate's bytes are cut short or left over, or a count isn't the needed one
- *     12  a pick is neither 0 nor 1. Place: the first such label
- *     13  the picks weigh more than C
- *     14  for some i from 1 to n and c from 0 to C, K(i,c) is below K(i-1,c); or label i-1 weighs w, at most c, and
- *         K(i,c) is below K(i-1,c-w) plus its value. Place: the number of the first such cell
- *     15  K(n,C) isn't the picks' value
+ * then, in this order, 11 to 15 for the certificate.
  *
  * Cells may be any 32-bit numbers, sums are not cut, and row 0 needn't be 0. Accepted means that the picks are allowed
  * and fit, and that no selection within the budget is worth more. For a valid job and any picks there is a certificate

@@ -1,17 +1,62 @@
-/* The bounds of document 01, each in one place: a request that moves a bound changes it here alone. */
+/* What document 01 says in numbers, each in one place: a request that moves a bound changes it here alone. Written from the document and
+ * not from include/quabnester.h; header.c holds that to these. Buffers and loops of the tests take their sizes from here. */
 #ifndef BOUNDS_H
 #define BOUNDS_H
 
+#include <stdint.h>
+
 enum {
-    LAST_KIND = 7,         /* the solver's kinds are 1 to this one */
-    LAST_CHECKED_KIND = 1, /* those of the checker and the writer */
-    MOST_LABELS = 1024,    /* n in kinds 1 to 4 */
-    MOST_SIZES = 64,       /* n in kinds 5 and 6 */
-    MOST_CLAIMS = 1024,    /* n in kind 7: another rule, though the number is that of the labels */
-    MOST_BUDGET = 65535,   /* C in kinds 1 to 6; in kind 7 it is any 32-bit number */
+    KIND_ONCE = 1,                /* each label at most once */
+    KIND_COPIES,                  /* label i at most copies[i] times */
+    KIND_ANY,                     /* any number of each */
+    KIND_SUMS,                    /* can some labels weigh exactly C? */
+    KIND_FEWEST,                  /* fewest blocks that sum to exactly C */
+    KIND_WAYS,                    /* ways to make exactly C */
+    KIND_SHARES,                  /* share C by claims */
+    LAST_KIND = KIND_SHARES,      /* the solver's kinds are 1 to this one */
+    LAST_CHECKED_KIND = KIND_ONCE /* those of the checker and the writer */
+};
+
+/* ---- bounds on the numbers; weights, sizes and claims have no greatest one */
+
+enum {
+    MOST_LABELS = 1024,  /* n in kinds 1 to 4 */
+    MOST_SIZES = 64,     /* n in kinds 5 and 6 */
+    MOST_CLAIMS = 1024,  /* n in kind 7: another rule, though the number is that of the labels */
+    MOST_BUDGET = 65535, /* C in kinds 1 to 6 */
+    LEAST_WEIGHT = 1,    /* in kinds 1 to 4 */
+    LEAST_SIZE = 1,      /* in kinds 5 and 6 */
+    LEAST_VALUE = 0,     /* in kinds 1 and 2 */
+    LEAST_VALUE_ANY = 1, /* in kind 3 */
     MOST_VALUE = 65535,
     LEAST_COPIES = 0,
     MOST_COPIES = 65535
 };
+#define MOST_SHARED UINT32_MAX /* C in kind 7 */
+
+/* ---- the lent table */
+
+enum { WORD_BITS = 64 };     /* in a word of kind 4 */
+#define NO_WAY UINT32_MAX    /* a cell of kind 5: there is no way */
+#define FULL UINT64_MAX      /* a cell of kind 6: so many ways or more */
+#define MOST_WAYS (FULL - 1) /* that are still exact */
+
+/* Rooms that have to be known when this is compiled: plain_room of plain.c has those of every kind. */
+#define ROW(budget) ((budget) + 1)
+#define FULL_TABLE(n, budget) (((n) + 1) * ROW(budget))
+#define CERTIFICATE(picks, cells) (8 + 4 * (picks) + 4 * (cells)) /* in bytes */
+
+/* ---- refusals */
+
+enum { LAST_SOLVER_REFUSAL = 9, LAST_REFUSAL = 15 };
+
+/* ---- the program's buffers, which stay where a bound moves */
+
+enum { PROGRAM_CELLS = 8192, PROGRAM_WORDS = 1024, PROGRAM_PICKS = 1024 };
+
+/* ---- what follows: the longest list that any kind may have */
+
+#define GREATER(a, b) ((a) > (b) ? (a) : (b))
+enum { MOST_IN_LIST = GREATER(GREATER(MOST_LABELS, MOST_SIZES), MOST_CLAIMS) };
 
 #endif

@@ -83,8 +83,8 @@ const struct plain_answer *expected_of(const struct bytes *job, const struct pla
         printf("a job of the tests needs more than %d cells of the second program\n", PLAIN_CELLS);
         exit(1);
     }
-    if (read.kind == 7) plain_share(&read, &answer);
-    if (read.kind != 7) plain_table(&read, &answer);
+    if (read.kind == KIND_SHARES) plain_share(&read, &answer);
+    if (read.kind != KIND_SHARES) plain_table(&read, &answer);
     if (!plain_try(&read, &tried)) return &answer;
     agree(&answer, &tried);
     answer.as_good = tried.as_good;
@@ -145,8 +145,8 @@ void write_out(struct written *written, const struct bytes *job, const uint32_t 
                size_t cells_len, size_t out_len) {
     lend(&written->out, out_len, 1, job->length);
     written->bytes = job->length + 1;
-    written->refused = quabnester_write(job->at, job->length, picks, picks_len, cells, cells_len, written->out.slice, out_len,
-                                        &written->bytes);
+    written->refused =
+        quabnester_write(job->at, job->length, picks, picks_len, cells, cells_len, written->out.slice, out_len, &written->bytes);
 }
 
 /* ---- the checker */

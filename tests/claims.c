@@ -7,12 +7,12 @@
 #include <stdio.h>
 #include <string.h>
 
-enum { TABLES = 20000, MOST_N = 4, MOST_C = 10, MOST_CELLS = (MOST_N + 1) * (MOST_C + 1) };
+enum { TABLES = 20000, MOST_N = 4, MOST_C = 10, MOST_CELLS = FULL_TABLE(MOST_N, MOST_C) }; /* small, so that each verdict comes up */
 
 static struct job job;
 static struct bytes bytes, certificate;
 static uint32_t picks[MOST_N], cells[MOST_CELLS];
-static unsigned long verdicts[16], above;
+static unsigned long verdicts[LAST_REFUSAL + 1], above;
 
 static uint32_t greater(uint32_t a, uint32_t b) {
     return a < b ? b : a;
@@ -20,7 +20,7 @@ static uint32_t greater(uint32_t a, uint32_t b) {
 
 /* The least that cell m may claim, given the row before it. */
 static uint32_t least_claim(uint32_t m) {
-    uint32_t width = job.budget + 1, i = m / width, c = m % width, w;
+    uint32_t width = ROW(job.budget), i = m / width, c = m % width, w;
     if (i == 0) return 0;
     w = job.weights.at[i - 1];
     return w <= c ? greater(cells[m - width], cells[m - width - w] + job.values.at[i - 1]) : cells[m - width];
@@ -28,11 +28,11 @@ static uint32_t least_claim(uint32_t m) {
 
 /* Claims that keep rule 14; one in `in` is higher than it has to be. Answers whether some are. */
 static int claim_all(struct draw *draw, uint32_t in) {
-    uint32_t m, count = cells_of(&job);
+    uint32_t m, count = claims_of(&job);
     int any = 0;
     for (m = 0; m < count; m++) {
         cells[m] = least_claim(m);
-        if (m % (job.budget + 1) != job.budget && chance(draw, in)) {
+        if (m % ROW(job.budget) != job.budget && chance(draw, in)) {
             cells[m] += drawn(draw, 1, 4);
             any = 1;
         }
@@ -41,7 +41,7 @@ static int claim_all(struct draw *draw, uint32_t in) {
 }
 
 static void spoil_claims(struct draw *draw) {
-    uint32_t *cell = cells + drawn(draw, 0, cells_of(&job) - 1);
+    uint32_t *cell = cells + drawn(draw, 0, claims_of(&job) - 1);
     if (chance(draw, 8)) *cell = UINT32_MAX - drawn(draw, 0, 3);
     else if (chance(draw, 3)) *cell += 1;
     else if (*cell > 0) *cell -= 1;
@@ -49,7 +49,7 @@ static void spoil_claims(struct draw *draw) {
 
 /* The list that the second program finds best, or any. */
 static void draw_picks(struct draw *draw) {
-    static const struct plain_room room = {MOST_CELLS, 0, MOST_N};
+    struct plain_room room = room_of(&job);
     uint32_t i, n = job.weights.count, label;
     int any = chance(draw, 4);
     memcpy(picks, expected_of(&bytes, &room)->picks, n * sizeof picks[0]);
@@ -71,24 +71,24 @@ static void try_table(uint64_t number) {
     uint32_t verdict;
     int higher;
     about("claims", number);
-    draw_job(&draw, 1, MOST_N, MOST_C, &job);
+    draw_job(&draw, KIND_ONCE, MOST_N, MOST_C, &job);
     put_job(&bytes, &job);
     higher = claim_all(&draw, chance(&draw, 2) ? 1000 : drawn(&draw, 2, 30));
     draw_picks(&draw);
     while (chance(&draw, 3)) spoil_claims(&draw);
-    if (chance(&draw, 3)) cells[cells_of(&job) - 1] = value_of_picks();
+    if (chance(&draw, 3)) cells[claims_of(&job) - 1] = value_of_picks();
     put_certificate(&certificate, &job, picks, cells);
     verdict = judged(&bytes, certificate.at, certificate.length);
-    verdicts[verdict < 16 ? verdict : 1]++;
+    verdicts[verdict <= LAST_REFUSAL ? verdict : 1]++;
     above += verdict == 0 && higher;
 }
 
 void part_claims(void) {
     static const int numbers[] = {0, 12, 13, 14, 15};
     uint64_t number;
-    int k;
+    size_t k;
     for (number = 0; number < TABLES; number++) try_table(number);
-    for (k = 0; k < 5; k++) {
+    for (k = 0; k < sizeof numbers / sizeof numbers[0]; k++) {
         about("claims with verdict", (uint64_t)numbers[k]);
         holds("that it came up", verdicts[numbers[k]] > 0);
     }

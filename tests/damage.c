@@ -6,12 +6,12 @@
 #include "tell.h"
 #include <stdio.h>
 
-enum { PAIRS = 14, WAYS = 5 };
+enum { PAIRS = 14, WAYS = 5, MOST_N = 4, MOST_C = 12 }; /* small, so that every byte can be changed */
 
 static struct job job;
 static struct bytes bytes, certificate;
 static struct plain_room room;
-static unsigned long tried, verdicts[16], solved_with[10];
+static unsigned long tried, verdicts[LAST_REFUSAL + 1], solved_with[LAST_SOLVER_REFUSAL + 1];
 
 static uint8_t changed(uint8_t byte, int way) {
     switch (way) {
@@ -26,7 +26,7 @@ static uint8_t changed(uint8_t byte, int way) {
 /* The checker on the bytes as they are. */
 static void try_check(void) {
     uint32_t verdict = judged(&bytes, certificate.at, certificate.length);
-    verdicts[verdict < 16 ? verdict : 0]++;
+    verdicts[verdict <= LAST_REFUSAL ? verdict : 0]++;
     tried++;
 }
 
@@ -70,12 +70,10 @@ static void damage(struct bytes *whole, void (*attempt)(void)) {
 /* A job from its number, with a certificate of what the solver left. */
 static void draw_pair(uint64_t number) {
     struct draw draw = {2000000 + number};
-    struct plain_job read;
     struct solved solved;
-    draw_job(&draw, 1, 4, 12, &job);
+    draw_job(&draw, KIND_ONCE, MOST_N, MOST_C, &job);
     put_job(&bytes, &job);
-    read_back(&bytes, &read);
-    room = plain_room(&read);
+    room = room_of(&job);
     solve(&solved, &bytes, &room, number);
     put_certificate(&certificate, &job, solved.picks.slice, solved.cells.slice);
     give_back_solved(&solved);

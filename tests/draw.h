@@ -15,6 +15,12 @@ uint32_t drawn(struct draw *draw, uint32_t least, uint32_t most);
 /* Whether one chance in so many came. */
 int chance(struct draw *draw, uint32_t in);
 
+/* Whether a kind's weights are labels, and no sizes or claims. */
+int has_labels(uint32_t kind);
+
+/* Sixteen bits hold the numbers below this one: a weight may fit if it is cut to them. */
+enum { CUT_TO = 65536 };
+
 /* ---- small jobs (draw.c) */
 
 /* A job of a kind that keeps all its rules, with at most so many labels and so great a budget: weights from 1 to beyond C, few different
@@ -40,6 +46,9 @@ void draw_damage(struct draw *draw, const struct job *job, struct bytes *bytes);
 struct plain_room draw_lengths(struct draw *draw, const struct plain_room *needed);
 
 /* ---- large jobs (draw_large.c) */
+
+/* So many cells or words, or more, are a stretch that a loop may take at once: no number of document 01. */
+enum { STRETCH = 16 };
 
 /* A job that runs the long loops: large weights and budgets, many labels, more than 2^64 ways, products beyond 32 bits. */
 void draw_large(struct draw *draw, uint32_t kind, struct job *job);

@@ -1,7 +1,7 @@
 /* Large jobs of every kind, which run the loops that a small one leaves after a turn: stretches of a row, words in bulk, lists in full. */
 #include "draw.h"
 
-enum { WORD = 64, FEW = 6, CELLS = 1 << 20 }; /* at most so many cells, so that a job takes milliseconds */
+enum { FEW = 6, CELLS = 1 << 20 }; /* at most so many cells, so that a job takes milliseconds */
 
 /* A multiple of a number, or one less or more. */
 static uint32_t about_multiple(struct draw *draw, uint32_t unit, uint32_t least, uint32_t most) {
@@ -15,7 +15,7 @@ static uint32_t draw_budget(struct draw *draw) {
     case 0:
     case 1: return drawn(draw, 200, 999);
     case 2: return drawn(draw, 1000, 9999);
-    case 3: return about_multiple(draw, WORD, 4, MOST_BUDGET / WORD);
+    case 3: return about_multiple(draw, WORD_BITS, 4, MOST_BUDGET / WORD_BITS);
     case 4: return MOST_BUDGET - (chance(draw, 2) ? drawn(draw, 0, 70) : 0);
     default: return drawn(draw, 100, MOST_BUDGET);
     }
@@ -26,14 +26,14 @@ enum { SHAPES = 9 };
 /* A weight that fits very often or just often, about the border of a word or of a stretch, a few times, just so, or not at all. */
 static uint32_t draw_weight(struct draw *draw, uint32_t budget, uint32_t shape) {
     switch (shape) {
-    case 0: return drawn(draw, 1, 15);
-    case 1: return drawn(draw, 16, 40);
-    case 2: return about_multiple(draw, WORD, 1, budget / WORD + 1);
-    case 3: return WORD * drawn(draw, 1, 9);
-    case 4: return about_multiple(draw, 16, 1, 64);
-    case 5: return drawn(draw, 1, budget);
+    case 0: return drawn(draw, LEAST_WEIGHT, STRETCH - 1);
+    case 1: return drawn(draw, STRETCH, 40);
+    case 2: return about_multiple(draw, WORD_BITS, 1, budget / WORD_BITS + 1);
+    case 3: return WORD_BITS * drawn(draw, 1, 9);
+    case 4: return about_multiple(draw, STRETCH, 1, 64);
+    case 5: return drawn(draw, LEAST_WEIGHT, budget);
     case 6: return drawn(draw, budget / 9 + 1, budget / 2 + 1);
-    case 7: return chance(draw, 3) ? drawn(draw, 1, UINT32_MAX) : budget + 1 - drawn(draw, 0, 2);
+    case 7: return chance(draw, 3) ? drawn(draw, LEAST_WEIGHT, UINT32_MAX) : budget + 1 - drawn(draw, 0, 2);
     default: return drawn(draw, 41, 400);
     }
 }
@@ -78,13 +78,14 @@ static void knapsack(struct draw *draw, struct job *job) {
     draw_weights(draw, job);
     if (chance(draw, 2)) draw_values(draw, job);
     else dear_values(draw, job);
-    if (job->kind == 2) draw_copies(draw, job);
+    if (plain_kind(job->kind)->copies) draw_copies(draw, job);
 }
 
-/* More labels, and most often more than 16 words. */
+/* More labels, and most often more words than a stretch has. */
 static void sums(struct draw *draw, struct job *job) {
+    uint32_t many = STRETCH * WORD_BITS;
     job->weights.count = drawn(draw, 1, chance(draw, 4) ? MOST_LABELS : 14);
-    job->budget = chance(draw, 8) ? drawn(draw, 200, 1023) : drawn(draw, 1024, chance(draw, 2) ? 9999 : MOST_BUDGET);
+    job->budget = chance(draw, 8) ? drawn(draw, 200, many - 1) : drawn(draw, many, chance(draw, 2) ? 9999 : MOST_BUDGET);
     draw_weights(draw, job);
 }
 
@@ -107,7 +108,7 @@ static void fewest(struct draw *draw, struct job *job) {
     put_in_order(&job->weights);
     if (chance(draw, 3)) {
         job->weights.count = drawn(draw, MOST_SIZES / 2, MOST_SIZES);
-        job->budget = drawn(draw, 200, CELLS / (MOST_SIZES + 1) - 1);
+        job->budget = drawn(draw, 200, CELLS / (job->weights.count + 1) - 1);
         steps(draw, &job->weights, drawn(draw, 1, 99));
     }
     if (chance(draw, 2)) job->budget -= job->budget % job->weights.at[0];
@@ -131,7 +132,7 @@ static void ways(struct draw *draw, struct job *job) {
 
 static void shares(struct draw *draw, struct job *job) {
     job->weights.count = drawn(draw, 1, chance(draw, 2) ? 40 : MOST_CLAIMS);
-    job->budget = drawn(draw, chance(draw, 2) ? UINT32_MAX - 99 : 0, UINT32_MAX);
+    job->budget = drawn(draw, chance(draw, 2) ? MOST_SHARED - 99 : 0, MOST_SHARED);
     draw_claims(draw, &job->weights);
 }
 
@@ -139,10 +140,10 @@ void draw_large(struct draw *draw, uint32_t kind, struct job *job) {
     job->kind = kind;
     job->values.count = job->copies.count = 0;
     switch (kind) {
-    case 4: sums(draw, job); break;
-    case 5: fewest(draw, job); break;
-    case 6: ways(draw, job); break;
-    case 7: shares(draw, job); break;
+    case KIND_SUMS: sums(draw, job); break;
+    case KIND_FEWEST: fewest(draw, job); break;
+    case KIND_WAYS: ways(draw, job); break;
+    case KIND_SHARES: shares(draw, job); break;
     default: knapsack(draw, job); break;
     }
 }

@@ -12,26 +12,24 @@ enum { JOBS = 210000, DAMAGED_IN = 3 };
 /* How large a small job is, by kind, so that all its selections can be tried for each place of its table. */
 static const struct {
     uint32_t labels, budget;
-} most[LAST_KIND + 1] = {{0, 0}, {6, 20}, {4, 16}, {5, 18}, {5, 140}, {5, 50}, {5, 36}, {9, 99}};
+} most[LAST_KIND + 1] = {[KIND_ONCE] = {6, 20},   [KIND_COPIES] = {4, 16}, [KIND_ANY] = {5, 18},   [KIND_SUMS] = {5, 140},
+                         [KIND_FEWEST] = {5, 50}, [KIND_WAYS] = {5, 36},   [KIND_SHARES] = {9, 99}};
 
-/* At least so often, by kind: answered, and refused with 1 to 9; ties, and those that tell the rule from another; by trying. */
-static const struct tally least = {{{0, 40000, 5000},
-                                    {12000, 0, 0, 1500, 800, 1500, 1800},
-                                    {12000, 0, 0, 1500, 800, 1800, 1600},
-                                    {12000, 0, 0, 1500, 800, 1800, 1600},
-                                    {13000, 0, 0, 1000, 900, 1000, 1100},
-                                    {8000, 0, 0, 1000, 900, 2000, 1700, 3000},
-                                    {12000, 0, 0, 1000, 900, 2000, 1000},
-                                    {15000, 0, 0, 1000, 80, 0, 900, 0, 0, 500}},
-                                   {{0},
-                                    {4500, 2000, 4500, 2800},
-                                    {3500, 2000, 3500, 1800},
-                                    {4000, 4000, 4000, 250},
-                                    {0},
-                                    {2500, 50, 2500, 2400},
-                                    {0},
-                                    {3500}},
-                                   75000};
+/* At least so often, by kind: answered, [0], and refused with 1 to 9; ties, and those that tell the rule from another; by trying. */
+static const struct tally least = {.came = {[0] = {[1] = 40000, [2] = 5000},
+                                            [KIND_ONCE] = {[0] = 12000, [3] = 1500, [4] = 800, [5] = 1500, [6] = 1800},
+                                            [KIND_COPIES] = {[0] = 12000, [3] = 1500, [4] = 800, [5] = 1800, [6] = 1600},
+                                            [KIND_ANY] = {[0] = 12000, [3] = 1500, [4] = 800, [5] = 1800, [6] = 1600},
+                                            [KIND_SUMS] = {[0] = 13000, [3] = 1000, [4] = 900, [5] = 1000, [6] = 1100},
+                                            [KIND_FEWEST] = {[0] = 8000, [3] = 1000, [4] = 900, [5] = 2000, [6] = 1700, [7] = 3000},
+                                            [KIND_WAYS] = {[0] = 12000, [3] = 1000, [4] = 900, [5] = 2000, [6] = 1000},
+                                            [KIND_SHARES] = {[0] = 15000, [3] = 1000, [4] = 80, [6] = 900, [9] = 500}},
+                                   .ties = {[KIND_ONCE] = {4500, 2000, 4500, 2800},
+                                            [KIND_COPIES] = {3500, 2000, 3500, 1800},
+                                            [KIND_ANY] = {4000, 4000, 4000, 250},
+                                            [KIND_FEWEST] = {2500, 50, 2500, 2400},
+                                            [KIND_SHARES] = {3500}},
+                                   .tried = 75000};
 
 static struct tally tally;
 static struct job job;
@@ -42,21 +40,21 @@ static struct bytes bytes, whole;
 enum { DAMAGED, JUDGED, ANSWERED, NO_LABELS, NO_BUDGET, CUT, FEW_CELLS, FEW_WORDS, FEW_PICKS, THINGS };
 
 static struct thing things[THINGS] = {
-    {"damaged", JOBS / DAMAGED_IN, 0},
-    {"damaged, and refused with 2 or more", 9000, 0},
-    {"damaged, and answered", 5500, 0},
-    {"no labels, and answered", 5000, 0},
-    {"budget 0, and answered", 2500, 0},
-    {"kinds 1 to 4, answered, with a weight that fits if it is cut to 16 bits", 4500, 0},
-    {"refused with 6 for its cells alone", 4000, 0},
-    {"refused with 6 for its words alone", 2000, 0},
-    {"refused with 6 for its picks alone", 3000, 0},
+    [DAMAGED] = {"damaged", JOBS / DAMAGED_IN, 0},
+    [JUDGED] = {"damaged, and refused with 2 or more", 9000, 0},
+    [ANSWERED] = {"damaged, and answered", 5500, 0},
+    [NO_LABELS] = {"no labels, and answered", 5000, 0},
+    [NO_BUDGET] = {"budget 0, and answered", 2500, 0},
+    [CUT] = {"labels, answered, with a weight that fits if it is cut to 16 bits", 4500, 0},
+    [FEW_CELLS] = {"refused with 6 for its cells alone", 4000, 0},
+    [FEW_WORDS] = {"refused with 6 for its words alone", 2000, 0},
+    [FEW_PICKS] = {"refused with 6 for its picks alone", 3000, 0},
 };
 
 static int has_cut_weight(const struct plain_job *read) {
     uint32_t i;
     for (i = 0; i < read->weights.count; i++) {
-        uint32_t weight = plain_item(read->weights, i), cut = weight % 65536;
+        uint32_t weight = plain_item(read->weights, i), cut = weight % CUT_TO;
         if (cut != weight && 0 < cut && cut <= read->budget) return 1;
     }
     return 0;
@@ -83,7 +81,7 @@ static void count_things(const struct plain_answer *answer, const struct plain_r
     if (answer->refused != 0) return;
     things[NO_LABELS].came += read.weights.count == 0;
     things[NO_BUDGET].came += read.budget == 0;
-    things[CUT].came += read.kind <= 4 && has_cut_weight(&read);
+    things[CUT].came += has_labels(read.kind) && has_cut_weight(&read);
 }
 
 /* ---- the jobs */
@@ -91,13 +89,10 @@ static void count_things(const struct plain_answer *answer, const struct plain_r
 /* A job as its number has it, and lengths of slices, which are those of the job without its faults. */
 static struct plain_room draw_number(uint64_t number) {
     struct draw draw = {number};
-    struct plain_job read;
     struct plain_room lengths;
     uint32_t kind = drawn(&draw, 1, LAST_KIND);
     draw_job(&draw, kind, most[kind].labels, most[kind].budget, &job);
-    put_job(&bytes, &job);
-    read_back(&bytes, &read);
-    lengths = plain_room(&read);
+    lengths = room_of(&job);
     lengths = draw_lengths(&draw, &lengths);
     while (chance(&draw, 3)) draw_fault(&draw, &job);
     put_job(&bytes, &job);

@@ -4,7 +4,7 @@
 #include "tell.h"
 #include <stdio.h>
 
-enum { CELLS = 32, WORDS = 8, PICKS = 3, BYTES = 8 + 4 * PICKS + 4 * CELLS };
+enum { CELLS = CASE_A_CELLS, WORDS = ROW(CASE_A_BUDGET), PICKS = CASE_A_LABELS, BYTES = CASE_A_CERTIFICATE };
 
 static unsigned long tried;
 static struct job job;
@@ -14,25 +14,22 @@ static uint64_t words[WORDS];
 static uint8_t out[BYTES];
 
 /* Which slices are empty, by the bits of a mask, and what an empty one's pointer is. */
+enum slice { JOB_SLICE, CELLS_SLICE, WORDS_SLICE, PICKS_SLICE, BYTES_SLICE, SLICES };
 static unsigned mask;
 static int null;
 
-static size_t length_of(int slice, size_t length) {
+static size_t length_of(enum slice slice, size_t length) {
     return mask >> slice & 1 ? 0 : length;
 }
 
-static void *pointer_of(int slice, void *good) {
+static void *pointer_of(enum slice slice, void *good) {
     return null && (mask >> slice & 1) ? NULL : good;
 }
 
-/* Case A as a job of another kind; kind 0 stands for kind 1 with no labels. */
+/* Case A as a job of any kind; kind 0 stands for kind 1 with no labels. */
 static void small_job(uint32_t kind) {
-    static const uint32_t copies[] = {1, 1, 1};
-    case_a(&job);
-    job.kind = kind;
-    if (kind == 0) set_job(&job, 1, 7, 0, NULL, NULL);
-    if (kind == 2) set_list(&job.copies, 3, copies);
-    if (kind > 3) job.values.count = 0;
+    case_a(&job, kind);
+    if (kind == 0) set_job(&job, KIND_ONCE, CASE_A_BUDGET, 0, NULL, NULL, NULL);
     put_job(&bytes, &job);
 }
 
@@ -41,35 +38,36 @@ static void try_solve(void) {
     uint64_t first = 5, second = 5;
     struct plain_room lengths;
     const struct plain_answer *expected;
-    lengths.cells = length_of(1, CELLS);
-    lengths.words = length_of(2, WORDS);
-    lengths.picks = length_of(3, PICKS);
+    lengths.cells = length_of(CELLS_SLICE, CELLS);
+    lengths.words = length_of(WORDS_SLICE, WORDS);
+    lengths.picks = length_of(PICKS_SLICE, PICKS);
     given = bytes;
-    given.length = length_of(0, bytes.length);
+    given.length = length_of(JOB_SLICE, bytes.length);
     expected = expected_of(&given, &lengths);
     same("the refusal", expected->refused,
-         quabnester_solve(pointer_of(0, given.at), given.length, pointer_of(1, cells), lengths.cells, pointer_of(2, words),
-                          lengths.words, pointer_of(3, picks), lengths.picks, &first, &second));
+         quabnester_solve(pointer_of(JOB_SLICE, given.at), given.length, pointer_of(CELLS_SLICE, cells), lengths.cells,
+                          pointer_of(WORDS_SLICE, words), lengths.words, pointer_of(PICKS_SLICE, picks), lengths.picks, &first, &second));
     same("first", expected->first, first);
     same("second", expected->second, second);
 }
 
 static void try_write(void) {
     uint64_t written = 5;
-    size_t job_len = length_of(0, bytes.length), picks_len = length_of(1, PICKS), cells_len = length_of(2, CELLS),
-           out_len = length_of(3, BYTES);
+    size_t job_len = length_of(JOB_SLICE, bytes.length), picks_len = length_of(PICKS_SLICE, PICKS),
+           cells_len = length_of(CELLS_SLICE, CELLS), out_len = length_of(BYTES_SLICE, BYTES);
     uint32_t expected = plain_write_refusal(bytes.at, job_len, picks_len, cells_len, out_len);
     same("the refusal", expected,
-         quabnester_write(pointer_of(0, bytes.at), job_len, pointer_of(1, picks), picks_len, pointer_of(2, cells), cells_len,
-                          pointer_of(3, out), out_len, &written));
+         quabnester_write(pointer_of(JOB_SLICE, bytes.at), job_len, pointer_of(PICKS_SLICE, picks), picks_len,
+                          pointer_of(CELLS_SLICE, cells), cells_len, pointer_of(BYTES_SLICE, out), out_len, &written));
     holds("no bytes of a refusal", (expected == 0) == (written != 0));
 }
 
 static void try_check(void) {
-    const uint8_t *job_at = pointer_of(0, bytes.at), *at = pointer_of(1, certificate.at);
-    size_t job_len = length_of(0, bytes.length), length = length_of(1, certificate.length);
+    const uint8_t *job_at = pointer_of(JOB_SLICE, bytes.at), *at = pointer_of(BYTES_SLICE, certificate.at);
+    size_t job_len = length_of(JOB_SLICE, bytes.length), length;
     struct plain_verdict expected;
     put_certificate(&certificate, &job, picks, cells);
+    length = length_of(BYTES_SLICE, certificate.length);
     expected = plain_check(bytes.at, job_len, certificate.at, length);
     same("the verdict", expected.number, quabnester_check(job_at, job_len, at, length));
     same("the value or place", expected.detail, quabnester_check_detail(job_at, job_len, at, length));
@@ -80,7 +78,7 @@ void part_empty(void) {
     for (kind = 0; kind <= LAST_KIND; kind++) {
         small_job(kind);
         for (null = 0; null <= 1; null++) {
-            for (mask = 0; mask < 16; mask++) {
+            for (mask = 0; mask < 1u << SLICES; mask++) {
                 about("empty slices", tried++);
                 try_solve();
                 try_write();

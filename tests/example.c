@@ -2,42 +2,64 @@
  * writes the certificate of the answer, and has it checked. tests/example.out is what it prints. */
 #include "quabnester.h"
 #include <stdio.h>
+#include <stdlib.h>
+
+enum { KIND = QUABNESTER_KIND_ONCE, LABELS = 3, BUDGET = 7 };
 
 /* each section is a count and its numbers, four bytes each, lowest first */
-static const uint8_t job[52] = {
-    1, 0, 0, 0, 1, 0, 0, 0,                         /* kinds: 1 */
-    1, 0, 0, 0, 7, 0, 0, 0,                         /* budgets: 7 */
-    3, 0, 0, 0, 3, 0, 0, 0, 4, 0, 0, 0, 5, 0, 0, 0, /* weights */
-    3, 0, 0, 0, 4, 0, 0, 0, 5, 0, 0, 0, 6, 0, 0, 0, /* values */
-    0, 0, 0, 0                                      /* copies: none */
+static const uint8_t job[] = {
+    1,      0, 0, 0, KIND,   0, 0, 0,                         /* kinds: 1 */
+    1,      0, 0, 0, BUDGET, 0, 0, 0,                         /* budgets: 7 */
+    LABELS, 0, 0, 0, 3,      0, 0, 0, 4, 0, 0, 0, 5, 0, 0, 0, /* weights */
+    LABELS, 0, 0, 0, 4,      0, 0, 0, 5, 0, 0, 0, 6, 0, 0, 0, /* values */
+    0,      0, 0, 0                                           /* copies: none */
 };
 
-int main(void) {
-    uint32_t cells[4 * 8], picks[3]; /* (n+1)(C+1) and n */
-    uint8_t certificate[8 + 4 * 3 + 4 * 32];
-    uint64_t value, weight, written, detail;
-    uint32_t refused;
+/* What the job needs, as the header has it. */
+static size_t cells_len, picks_len, certificate_len;
+static uint32_t *cells, *picks;
+static uint8_t *certificate;
 
-    refused = quabnester_solve(job, sizeof job, cells, 32, NULL, 0, picks, 3, &value, &weight);
-    if (refused != 0) {
-        printf("not solved: %u\n", (unsigned)refused);
-        return 1;
-    }
+static int has_room(void) {
+    cells_len = (size_t)quabnester_cells_needed(KIND, LABELS, BUDGET);
+    picks_len = (size_t)quabnester_picks_needed(KIND, LABELS, BUDGET);
+    certificate_len = (size_t)quabnester_certificate_bytes(KIND, LABELS, BUDGET);
+    cells = malloc(cells_len * sizeof *cells);
+    picks = malloc(picks_len * sizeof *picks);
+    certificate = malloc(certificate_len);
+    return cells != NULL && picks != NULL && certificate != NULL && sizeof job == quabnester_job_bytes(LABELS, LABELS, 0);
+}
+
+/* Solves the job, and writes the certificate of the answer: 0 or a refusal number. */
+static uint32_t solve_and_write(void) {
+    uint64_t value, weight, written;
+    uint32_t refused = quabnester_solve(job, sizeof job, cells, cells_len, NULL, 0, picks, picks_len, &value, &weight);
+    if (refused != QUABNESTER_NOT_REFUSED) return refused;
     printf("value %d, weight %d, picks %d %d %d\n", (int)value, (int)weight, (int)picks[0], (int)picks[1], (int)picks[2]);
 
-    refused = quabnester_write(job, sizeof job, picks, 3, cells, 32, certificate, sizeof certificate, &written);
-    if (refused != 0) {
-        printf("not written: %u\n", (unsigned)refused);
-        return 1;
-    }
+    refused = quabnester_write(job, sizeof job, picks, picks_len, cells, cells_len, certificate, certificate_len, &written);
+    if (refused != QUABNESTER_NOT_REFUSED) return refused;
     printf("certificate of %d bytes\n", (int)written);
+    return refused;
+}
 
-    refused = quabnester_check(job, sizeof job, certificate, (size_t)written);
-    detail = quabnester_check_detail(job, sizeof job, certificate, (size_t)written);
+/* Has it checked, and then with label 0 no longer kept: what is left is worth 5, and the table claims 9. */
+static int is_checked(void) {
+    uint32_t refused = quabnester_check(job, sizeof job, certificate, certificate_len), other;
+    uint64_t detail = quabnester_check_detail(job, sizeof job, certificate, certificate_len);
     printf("refusal %d, value %d\n", (int)refused, (int)detail);
 
-    certificate[4] = 0; /* label 0 is no longer kept: what is left is worth 5, and the table claims 9 */
-    refused = quabnester_check(job, sizeof job, certificate, (size_t)written);
-    printf("another list: refusal %d\n", (int)refused);
-    return 0;
+    certificate[4] = 0;
+    other = quabnester_check(job, sizeof job, certificate, certificate_len);
+    printf("another list: refusal %d\n", (int)other);
+    return refused == QUABNESTER_NOT_REFUSED && other == QUABNESTER_REFUSED_VALUE;
+}
+
+int main(void) {
+    int well = has_room() && solve_and_write() == QUABNESTER_NOT_REFUSED && is_checked();
+    if (!well) printf("not as it has to be\n");
+    free(certificate);
+    free(picks);
+    free(cells);
+    return well ? 0 : 1;
 }

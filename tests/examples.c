@@ -6,7 +6,7 @@
 #include <stdio.h>
 #include <string.h>
 
-static const struct plain_room lengths = {8192, 1024, 1024};
+static const struct plain_room lengths = {PROGRAM_CELLS, PROGRAM_WORDS, PROGRAM_PICKS};
 
 /* A file's bytes, at most as many as there is room for. */
 static int read_file(const char *name, struct bytes *bytes) {
@@ -20,8 +20,7 @@ static int read_file(const char *name, struct bytes *bytes) {
 
 /* A word and a number as a line, or the picks. */
 static void say(struct bytes *text, const char *form, const char *word, uint64_t number) {
-    text->length += (size_t)snprintf((char *)text->at + text->length, MOST_BYTES - text->length, form, word,
-                                     (unsigned long long)number);
+    text->length += (size_t)snprintf((char *)text->at + text->length, MOST_BYTES - text->length, form, word, (unsigned long long)number);
 }
 
 static void say_picks(struct bytes *text, const uint32_t *picks, uint32_t n) {
@@ -31,10 +30,17 @@ static void say_picks(struct bytes *text, const uint32_t *picks, uint32_t n) {
     say(text, "%s", "\n", 0);
 }
 
+/* The words for an answer's numbers; where there is none the second is 0. */
+static const struct {
+    const char *first, *second;
+} words[LAST_KIND + 1] = {
+    [KIND_ONCE] = {"value", "weight"}, [KIND_COPIES] = {"value", "weight"}, [KIND_ANY] = {"value", "weight"},
+    [KIND_SUMS] = {"yes", "totals"},   [KIND_FEWEST] = {"blocks", NULL},    [KIND_WAYS] = {"ways", NULL},
+    [KIND_SHARES] = {"spare", NULL},
+};
+
 /* An answer as document 01 has the program print it. */
 static void say_answer(struct bytes *text, const struct solved *solved, const struct bytes *job) {
-    static const char *const first[] = {"", "value", "value", "value", "yes", "blocks", "ways", "spare"};
-    static const char *const second[] = {"", "weight", "weight", "weight", "totals", NULL, NULL, NULL};
     struct plain_job read;
     text->length = 0;
     if (solved->refused != 0) {
@@ -43,10 +49,10 @@ static void say_answer(struct bytes *text, const struct solved *solved, const st
     }
     if (!holds("reading an example that is answered", plain_read(job->at, job->length, &read))) return;
     say(text, "%s %llu\n", "kind", read.kind);
-    say(text, "%s %llu\n", first[read.kind], solved->first);
-    if (second[read.kind] != NULL) say(text, "%s %llu\n", second[read.kind], solved->second);
-    if (second[read.kind] == NULL) same("second, where there is none", 0, solved->second);
-    if (read.kind != 4 && read.kind != 6) say_picks(text, solved->picks.slice, read.weights.count);
+    say(text, "%s %llu\n", words[read.kind].first, solved->first);
+    if (words[read.kind].second != NULL) say(text, "%s %llu\n", words[read.kind].second, solved->second);
+    if (words[read.kind].second == NULL) same("second, where there is none", 0, solved->second);
+    if (plain_kind(read.kind)->picks) say_picks(text, solved->picks.slice, read.weights.count);
 }
 
 static void try_example(const char *name) {

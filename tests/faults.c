@@ -17,6 +17,11 @@ static uint32_t about_bound(struct draw *draw, uint32_t bound) {
     return chance(draw, 4) ? drawn(draw, 0, UINT32_MAX) : bound + drawn(draw, 0, bound < UINT32_MAX);
 }
 
+/* Just below the least number that is allowed, where there is such a one. */
+static uint32_t below(uint32_t least) {
+    return least - (least > 0);
+}
+
 static void other_kind(struct draw *draw, struct job *job) {
     job->kind = chance(draw, 3) ? drawn(draw, 0, UINT32_MAX) : drawn(draw, 0, LAST_KIND + 2);
 }
@@ -33,20 +38,21 @@ static void other_length(struct draw *draw, struct list *list) {
 
 /* As many labels as the kind may have, or one too many, in the lists that it uses. */
 static void many_labels(struct draw *draw, struct job *job) {
-    uint32_t n = plain_most_labels(job->kind) + drawn(draw, 0, 1), start = job->weights.count, i;
+    const struct plain_kind *kind = plain_kind(job->kind);
+    uint32_t n = kind->most_labels + drawn(draw, 0, 1), start = job->weights.count, i;
     for (i = start; i < n; i++) {
         job->weights.at[i] = (i > 0 ? job->weights.at[i - 1] : 0) + 1;
         job->values.at[i] = job->copies.at[i] = 1;
     }
     job->weights.count = n;
-    if (job->values.count == start && job->kind <= 3) job->values.count = n;
-    if (job->copies.count == start && job->kind == 2) job->copies.count = n;
+    if (job->values.count == start && kind->values) job->values.count = n;
+    if (job->copies.count == start && kind->copies) job->copies.count = n;
 }
 
 /* A weight of 0, or one that is as great as the one before it, or greater than the one after it. */
 static void other_weight(struct draw *draw, struct list *weights) {
     uint32_t i = any_label(draw, weights);
-    if (i == 0 || chance(draw, 3)) weights->at[i] = 0;
+    if (i == 0 || chance(draw, 3)) weights->at[i] = below(LEAST_WEIGHT);
     else weights->at[i] = chance(draw, 2) ? weights->at[i - 1] : weights->at[weights->count - 1] + 1;
 }
 
@@ -63,15 +69,15 @@ void draw_fault(struct draw *draw, struct job *job) {
     case 1:
     case 2: other_length(draw, chance(draw, 3) ? &job->weights : chance(draw, 2) ? &job->values : &job->copies); break;
     case 3:
-    case 4: job->budget = about_bound(draw, plain_most_budget(job->kind)); break;
+    case 4: job->budget = about_bound(draw, plain_kind(job->kind)->most_budget); break;
     case 5:
         if (chance(draw, 4)) many_labels(draw, job);
         break;
     case 6:
     case 7: other_weight(draw, &job->weights); break;
     case 8: set_any(draw, &job->values, about_bound(draw, MOST_VALUE)); break;
-    case 9: set_any(draw, &job->values, 0); break;
-    case 10: set_any(draw, &job->copies, about_bound(draw, MOST_COPIES)); break;
+    case 9: set_any(draw, &job->values, below(plain_kind(job->kind)->least_value)); break;
+    case 10: set_any(draw, &job->copies, chance(draw, 3) ? below(LEAST_COPIES) : about_bound(draw, MOST_COPIES)); break;
     default: no_claims(draw, &job->weights); break;
     }
 }

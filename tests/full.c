@@ -1,4 +1,5 @@
-/* Full bounds: n 1,024 and C 65,535, from solving to checking; every row compared; and then one cell or one pick changed. */
+/* Full bounds: the most labels and the greatest budget, from solving to checking; every row compared; and then one cell or one pick
+ * changed. Its two slices take FULL_TABLE(MOST_LABELS, MOST_BUDGET) times 4 bytes each. */
 #include "calls.h"
 #include "draw.h"
 #include "parts.h"
@@ -17,9 +18,9 @@ static struct written written;
 static unsigned long tried;
 
 static void draw_full(void) {
-    struct draw draw = {1024};
+    struct draw draw = {1024}; /* any number */
     uint32_t i;
-    job.kind = 1;
+    job.kind = KIND_ONCE;
     job.budget = C;
     job.weights.count = job.values.count = N;
     for (i = 0; i < N; i++) {
@@ -28,7 +29,7 @@ static void draw_full(void) {
     }
     put_job(&bytes, &job);
     read_back(&bytes, &read);
-    room = plain_room(&read);
+    room = plain_certificate_room(&read);
 }
 
 /* What the list weighs or is worth. */
@@ -41,12 +42,12 @@ static uint64_t picked(const struct list *each) {
 
 /* Row i of the table that was left. */
 static const uint32_t *row_of(uint32_t i) {
-    return (uint32_t *)solved.cells.slice + (size_t)i * (C + 1);
+    return (uint32_t *)solved.cells.slice + (size_t)i * ROW(C);
 }
 
 /* Each row is what the second program makes of the one before it. */
 static void rows_are_best(void) {
-    static uint32_t rows[2][C + 1];
+    static uint32_t rows[2][ROW(C)];
     uint32_t i;
     holds("row 0", memcmp(row_of(0), rows[0], sizeof rows[0]) == 0);
     for (i = 0; i < N; i++) {
@@ -80,14 +81,19 @@ static void solve_full(void) {
     picks_are_least();
 }
 
+/* The writer on so many bytes of a slice. */
+static uint32_t written_on(uint64_t length) {
+    return quabnester_write(bytes.at, bytes.length, solved.picks.slice, room.picks, solved.cells.slice, room.cells, written.out.slice,
+                            length, &written.bytes);
+}
+
 static void write_full(void) {
-    uint64_t length = 8 + 4 * room.picks + 4 * room.cells;
+    uint64_t length = plain_certificate_bytes(&read);
     about("full, write", 0);
-    write_out(&written, &bytes, solved.picks.slice, room.picks, solved.cells.slice, room.cells, length - 1);
-    same("the refusal of one byte too few", 6, written.refused);
-    give_back(&written.out);
-    write_out(&written, &bytes, solved.picks.slice, room.picks, solved.cells.slice, room.cells, length);
-    same("the refusal", 0, written.refused);
+    lend(&written.out, length, 1, 9);
+    same("the refusal of one byte too few", 6, written_on(length - 1));
+    same("the bytes written then", 0, written.bytes);
+    same("the refusal", 0, written_on(length));
     same("the bytes written", length, written.bytes);
     holds("what stands beside it", kept_outside(&written.out));
 }
@@ -100,8 +106,8 @@ static void verdict_now(uint32_t number, uint64_t detail) {
 
 /* Cell (i,c) lowered by one: 14 at that place, where the rule is then broken. */
 static void lower(uint32_t i, uint32_t c) {
-    uint8_t *cells = (uint8_t *)written.out.slice + 8 + 4 * N;
-    uint64_t place = (uint64_t)i * (C + 1) + c;
+    uint8_t *cells = (uint8_t *)written.out.slice + CERTIFICATE(N, 0);
+    uint64_t place = (uint64_t)i * ROW(C) + c;
     uint32_t claim = plain_number(cells + 4 * place);
     put_at(cells + 4 * place, claim - 1);
     about("full, lowered", place);
@@ -136,7 +142,7 @@ static uint32_t first_left(void) {
 
 void part_full(void) {
     draw_full();
-    if (!same("the cells needed", (uint64_t)(N + 1) * (C + 1), room.cells)) return;
+    if (!same("the cells needed", FULL_TABLE((uint64_t)N, C), room.cells)) return;
     solve_full();
     write_full();
     verdict_now(0, solved.first);

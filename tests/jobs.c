@@ -36,7 +36,7 @@ void put_job(struct bytes *bytes, const struct job *job) {
 void put_certificate(struct bytes *bytes, const struct job *job, const uint32_t *picks, const uint32_t *cells) {
     bytes->length = 0;
     put_section(bytes, picks, job->weights.count);
-    put_section(bytes, cells, cells_of(job));
+    put_section(bytes, cells, claims_of(job));
 }
 
 void set_list(struct list *list, uint32_t count, const uint32_t *numbers) {
@@ -44,19 +44,32 @@ void set_list(struct list *list, uint32_t count, const uint32_t *numbers) {
     if (count > 0) memcpy(list->at, numbers, count * sizeof list->at[0]);
 }
 
-void set_job(struct job *job, uint32_t kind, uint32_t budget, uint32_t n, const uint32_t *weights, const uint32_t *values) {
+void set_job(struct job *job, uint32_t kind, uint32_t budget, uint32_t n, const uint32_t *weights, const uint32_t *values,
+             const uint32_t *copies) {
     job->kind = kind;
     job->budget = budget;
     set_list(&job->weights, n, weights);
-    set_list(&job->values, n, values);
-    job->copies.count = 0;
+    set_list(&job->values, plain_kind(kind)->values ? n : 0, values);
+    set_list(&job->copies, plain_kind(kind)->copies ? n : 0, copies);
 }
 
-void case_a(struct job *job) {
-    static const uint32_t weights[] = {3, 4, 5}, values[] = {4, 5, 6};
-    set_job(job, 1, 7, 3, weights, values);
+void case_a(struct job *job, uint32_t kind) {
+    static const uint32_t weights[CASE_A_LABELS] = {3, 4, 5}, values[CASE_A_LABELS] = {4, 5, 6}, copies[CASE_A_LABELS] = {1, 1, 1};
+    set_job(job, kind, CASE_A_BUDGET, CASE_A_LABELS, weights, values, copies);
 }
 
-uint32_t cells_of(const struct job *job) {
-    return (job->weights.count + 1) * (job->budget + 1);
+/* As the second program knows the job, as far as its room goes. */
+static struct plain_job outline(const struct job *job) {
+    struct plain_job outline = {job->kind, job->budget, {NULL, job->weights.count}, {NULL, 0}, {NULL, 0}};
+    return outline;
+}
+
+struct plain_room room_of(const struct job *job) {
+    struct plain_job known = outline(job);
+    return plain_room(&known);
+}
+
+uint32_t claims_of(const struct job *job) {
+    struct plain_job known = outline(job);
+    return (uint32_t)plain_certificate_room(&known).cells;
 }

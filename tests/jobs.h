@@ -3,12 +3,13 @@
 #define JOBS_H
 
 #include "bounds.h"
+#include "plain.h"
 #include <stddef.h>
 #include <stdint.h>
 
 enum {
-    MOST_NUMBERS = (MOST_LABELS > MOST_CLAIMS ? MOST_LABELS : MOST_CLAIMS) + 1, /* in a list: one too many */
-    MOST_BYTES = 16 * MOST_NUMBERS                                              /* three such lists, and some more */
+    MOST_NUMBERS = MOST_IN_LIST + 1, /* in a list: one too many */
+    MOST_BYTES = 16 * MOST_NUMBERS   /* three such lists, and some more */
 };
 
 struct list {
@@ -35,16 +36,26 @@ void put_section(struct bytes *bytes, const uint32_t *numbers, uint32_t count);
 
 void put_job(struct bytes *bytes, const struct job *job);
 
-/* A certificate of the job's n picks and (n+1)(C+1) cells. */
+/* A certificate of so many of the picks and cells as the job's has. */
 void put_certificate(struct bytes *bytes, const struct job *job, const uint32_t *picks, const uint32_t *cells);
 
-/* A list is given as its count and its numbers. */
+/* A list is given as its count and its numbers. Of a job's lists of n those are taken that its kind uses; others may be null. */
 void set_list(struct list *list, uint32_t count, const uint32_t *numbers);
-void set_job(struct job *job, uint32_t kind, uint32_t budget, uint32_t n, const uint32_t *weights, const uint32_t *values);
+void set_job(struct job *job, uint32_t kind, uint32_t budget, uint32_t n, const uint32_t *weights, const uint32_t *values,
+             const uint32_t *copies);
 
-/* Document 01's case A: weights 3 4 5, values 4 5 6, C 7. */
-void case_a(struct job *job);
+/* Document 01's case A: weights 3 4 5, values 4 5 6, C 7; as a job of any kind, with one copy of each. */
+enum {
+    CASE_A_LABELS = 3,
+    CASE_A_BUDGET = 7,
+    CASE_A_VALUE = 9,
+    CASE_A_CELLS = FULL_TABLE(CASE_A_LABELS, CASE_A_BUDGET),
+    CASE_A_CERTIFICATE = CERTIFICATE(CASE_A_LABELS, CASE_A_CELLS)
+};
+void case_a(struct job *job, uint32_t kind);
 
-uint32_t cells_of(const struct job *job);
+/* What the job needs, and how many cells its certificate has. */
+struct plain_room room_of(const struct job *job);
+uint32_t claims_of(const struct job *job);
 
 #endif

@@ -10,9 +10,15 @@ enum { EACH = 200, START = 3000000 }; /* jobs of each kind, and the number of th
 
 /* At least so often, as in drawn.c. */
 static const struct tally least = {
-    {{0}, {EACH}, {EACH}, {EACH}, {EACH}, {110, 0, 0, 0, 0, 0, 0, 40}, {100, 0, 0, 0, 0, 0, 0, 0, 60}, {EACH}},
-    {{0}, {9}, {5}, {1}, {0}, {1}, {0}, {70}},
-    300};
+    .came = {[KIND_ONCE] = {[0] = EACH},
+             [KIND_COPIES] = {[0] = EACH},
+             [KIND_ANY] = {[0] = EACH},
+             [KIND_SUMS] = {[0] = EACH},
+             [KIND_FEWEST] = {[0] = 110, [7] = 40},
+             [KIND_WAYS] = {[0] = 100, [8] = 60},
+             [KIND_SHARES] = {[0] = EACH}},
+    .ties = {[KIND_ONCE] = {9}, [KIND_COPIES] = {5}, [KIND_ANY] = {1}, [KIND_FEWEST] = {1}, [KIND_SHARES] = {70}},
+    .tried = 300};
 
 static struct tally tally;
 static struct job job;
@@ -21,22 +27,22 @@ static struct plain_job read;
 
 /* ---- which loops they ran */
 
-enum { LIGHT, HEAVY, BITS, CROSSING, WHOLE, SMALL, BLOCKS, COUNTED, FULL, PRODUCT, SUM, MANY, BOUND, LOOPS };
+enum { LIGHT, HEAVY, BITS, CROSSING, WHOLE, SMALL, BLOCKS, COUNTED, PASSED, PRODUCT, SUM, MANY, BOUND, LOOPS };
 
 static struct thing loops[LOOPS] = {
-    {"kind 3, a weight below 16 that fits 16 times", 50, 0},
-    {"kind 3, a weight from 16 up that fits 4 times", 120, 0},
-    {"kind 4, more than 16 words above a weight of bits", 90, 0},
-    {"kind 4, more than 16 words above a weight of words and bits", 110, 0},
-    {"kind 4, more than 16 words above a weight of whole words", 80, 0},
-    {"kind 5, a size below 16 that fits 16 times", 35, 0},
-    {"kind 5, a size from 16 up that fits 4 times", 90, 0},
-    {"kind 6, 2^62 ways or more, counted", 15, 0},
-    {"kind 6, counted, though an amount before it is full", 40, 0},
-    {"kind 7, a product beyond 32 bits", 120, 0},
-    {"kind 7, claims that sum beyond 32 bits", 25, 0},
-    {"kinds 1 to 4, a fifth of the most labels or more", 110, 0},
-    {"kinds 1 to 6, the greatest budget", 35, 0},
+    [LIGHT] = {"kind 3, a weight below a stretch that fits so many times", 50, 0},
+    [HEAVY] = {"kind 3, a weight of a stretch or more that fits 4 times", 120, 0},
+    [BITS] = {"kind 4, more words than a stretch above a weight of bits", 90, 0},
+    [CROSSING] = {"kind 4, more words than a stretch above a weight of words and bits", 110, 0},
+    [WHOLE] = {"kind 4, more words than a stretch above a weight of whole words", 80, 0},
+    [SMALL] = {"kind 5, a size below a stretch that fits so many times", 35, 0},
+    [BLOCKS] = {"kind 5, a size of a stretch or more that fits 4 times", 90, 0},
+    [COUNTED] = {"kind 6, 2^62 ways or more, counted", 15, 0},
+    [PASSED] = {"kind 6, counted, though an amount before it is full", 40, 0},
+    [PRODUCT] = {"kind 7, a product beyond 32 bits", 120, 0},
+    [SUM] = {"kind 7, claims that sum beyond 32 bits", 25, 0},
+    [MANY] = {"labels, a fifth of the most or more", 110, 0},
+    [BOUND] = {"the greatest budget, in all kinds but 7", 35, 0},
 };
 
 /* Whether a weight from one number to another fits so many times. */
@@ -48,13 +54,14 @@ static int has_weight(uint32_t from, uint32_t to, uint32_t times) {
     return 0;
 }
 
-/* Whether a weight is one of less than a word, of words and bits, or of whole words, and the words that it moves are more than 16. */
+/* Whether a weight is one of less than a word, of words and bits, or of whole words, and the words that it moves are more than a stretch.
+ */
 static int has_move(int which) {
     uint32_t i;
     for (i = 0; i < job.weights.count; i++) {
         uint32_t weight = job.weights.at[i];
-        if (weight > job.budget || job.budget / 64 - weight / 64 < 16) continue;
-        if (which == (weight < 64 ? BITS : weight % 64 != 0 ? CROSSING : WHOLE)) return 1;
+        if (weight > job.budget || job.budget / WORD_BITS - weight / WORD_BITS < STRETCH) continue;
+        if (which == (weight < WORD_BITS ? BITS : weight % WORD_BITS != 0 ? CROSSING : WHOLE)) return 1;
     }
     return 0;
 }
@@ -62,7 +69,7 @@ static int has_move(int which) {
 /* Kind 6: the first amount that is full, or C. */
 static uint32_t first_full(const struct plain_answer *answer) {
     uint32_t a = 0;
-    while (a < job.budget && answer->words[a] != UINT64_MAX) a++;
+    while (a < job.budget && answer->words[a] != FULL) a++;
     return a;
 }
 
@@ -75,17 +82,17 @@ static int has_product(void) {
 static void count_loops(const struct plain_answer *answer) {
     uint32_t kind = answer->refused == 0 ? job.kind : 0;
     int which;
-    loops[LIGHT].came += kind == 3 && has_weight(1, 15, 16);
-    loops[HEAVY].came += kind == 3 && has_weight(16, UINT32_MAX, 4);
-    for (which = BITS; which <= WHOLE; which++) loops[which].came += kind == 4 && has_move(which);
-    loops[SMALL].came += kind == 5 && has_weight(1, 15, 16);
-    loops[BLOCKS].came += kind == 5 && has_weight(16, UINT32_MAX, 4);
-    loops[COUNTED].came += kind == 6 && answer->first >> 62 != 0;
-    loops[FULL].came += kind == 6 && first_full(answer) < job.budget;
-    loops[PRODUCT].came += kind == 7 && has_product();
-    loops[SUM].came += kind == 7 && plain_sum(read.weights) > UINT32_MAX;
-    loops[MANY].came += 1 <= kind && kind <= 4 && job.weights.count >= MOST_LABELS / 5;
-    loops[BOUND].came += 1 <= kind && kind <= 6 && job.budget == MOST_BUDGET;
+    loops[LIGHT].came += kind == KIND_ANY && has_weight(1, STRETCH - 1, STRETCH);
+    loops[HEAVY].came += kind == KIND_ANY && has_weight(STRETCH, UINT32_MAX, 4);
+    for (which = BITS; which <= WHOLE; which++) loops[which].came += kind == KIND_SUMS && has_move(which);
+    loops[SMALL].came += kind == KIND_FEWEST && has_weight(1, STRETCH - 1, STRETCH);
+    loops[BLOCKS].came += kind == KIND_FEWEST && has_weight(STRETCH, UINT32_MAX, 4);
+    loops[COUNTED].came += kind == KIND_WAYS && answer->first >> 62 != 0;
+    loops[PASSED].came += kind == KIND_WAYS && first_full(answer) < job.budget;
+    loops[PRODUCT].came += kind == KIND_SHARES && has_product();
+    loops[SUM].came += kind == KIND_SHARES && plain_sum(read.weights) > UINT32_MAX;
+    loops[MANY].came += kind != 0 && has_labels(kind) && job.weights.count >= MOST_LABELS / 5;
+    loops[BOUND].came += kind != 0 && kind != KIND_SHARES && job.budget == MOST_BUDGET;
 }
 
 /* ---- the jobs */
@@ -108,7 +115,7 @@ static void try_number(uint64_t number) {
     const struct plain_answer *answer;
     about("large", number);
     draw_large(&draw, 1 + (uint32_t)(number % LAST_KIND), &job);
-    if (job.kind == 6 && chance(&draw, 2)) to_the_border(&draw);
+    if (job.kind == KIND_WAYS && chance(&draw, 2)) to_the_border(&draw);
     lengths = put_and_read();
     lengths.cells += drawn(&draw, 0, 20);
     lengths.words += drawn(&draw, 0, 20);

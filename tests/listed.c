@@ -7,7 +7,10 @@
 #include <stdio.h>
 #include <string.h>
 
-enum { MOST_TEXT = 65536, FIELDS = 6 };
+enum { KIND, BUDGET, WEIGHTS, VALUES, COPIES, LENT, FIELDS };
+enum { CELLS_LENT, WORDS_LENT, PICKS_LENT, LENGTHS };
+enum { MOST_TEXT = 65536 };      /* of the file: no bound of document 01 */
+enum { MORE = 20 };              /* places that are lent beyond the needed ones, where the list says nothing of them */
 enum { JOBS = 100, TRIED = 40 }; /* at least so many have to be listed, and answered by trying too */
 
 static char text[MOST_TEXT + 1];
@@ -71,21 +74,31 @@ static int read_fields(const char **at, struct list *fields) {
 
 /* ---- trying */
 
-/* With nothing said of places to lend, all that the list is meant for are lent. */
-static void try_fields(const struct list *fields) {
-    static struct bytes bytes;
-    struct plain_room lengths = {131072, 65536, 1024};
-    if (fields[5].count == 3) {
-        lengths.cells = fields[5].at[0];
-        lengths.words = fields[5].at[1];
-        lengths.picks = fields[5].at[2];
+/* The places that the list has lent, or more than the job needs. */
+static struct plain_room lengths_of(const struct list *fields, const struct job *job) {
+    struct plain_room lengths = room_of(job);
+    lengths.cells += MORE;
+    lengths.words += MORE;
+    lengths.picks += MORE;
+    if (fields[LENT].count == LENGTHS) {
+        lengths.cells = fields[LENT].at[CELLS_LENT];
+        lengths.words = fields[LENT].at[WORDS_LENT];
+        lengths.picks = fields[LENT].at[PICKS_LENT];
     }
-    bytes.length = 0;
-    put_section(&bytes, fields[0].at, 1);
-    put_section(&bytes, fields[1].at, 1);
-    put_section(&bytes, fields[2].at, fields[2].count);
-    put_section(&bytes, fields[3].at, fields[3].count);
-    put_section(&bytes, fields[4].at, fields[4].count);
+    return lengths;
+}
+
+static void try_fields(const struct list *fields) {
+    static struct job job;
+    static struct bytes bytes;
+    struct plain_room lengths;
+    job.kind = fields[KIND].at[0];
+    job.budget = fields[BUDGET].at[0];
+    job.weights = fields[WEIGHTS];
+    job.values = fields[VALUES];
+    job.copies = fields[COPIES];
+    put_job(&bytes, &job);
+    lengths = lengths_of(fields, &job);
     tried += (unsigned long)try_job(&bytes, &lengths, jobs)->tried;
     jobs++;
 }
@@ -93,8 +106,8 @@ static void try_fields(const struct list *fields) {
 /* One job of a line. */
 static int read_and_try(const char **at) {
     static struct list fields[FIELDS];
-    if (!read_fields(at, fields) || fields[0].count != 1 || fields[1].count != 1) return 0;
-    if (fields[5].count != 0 && fields[5].count != 3) return 0;
+    if (!read_fields(at, fields) || fields[KIND].count != 1 || fields[BUDGET].count != 1) return 0;
+    if (fields[LENT].count != 0 && fields[LENT].count != LENGTHS) return 0;
     try_fields(fields);
     return 1;
 }

@@ -1,13 +1,13 @@
 /* Tests of the C entries over the static library: every part, then a line 'N passed, M failed', where N counts comparisons.
- * Takes the listed trials and the example jobs as arguments: tests crates/trials/stdin examples/NAME.job .. With --first before them it ends at
- * the first difference. */
+ * Takes the listed trials and the example jobs as arguments: tests crates/trials/stdin examples/NAME.job .. With --first before them it
+ * ends at the first difference. */
 #include "parts.h"
 #include "tell.h"
 #include <stdio.h>
 #include <string.h>
 
-static void (*const parts[])(void) = {part_solve, part_ties,  part_slips, part_write,  part_check,  part_empty,
-                                      part_drawn, part_large, part_ring,  part_claims, part_damage, part_full};
+static void (*const parts[])(void) = {part_header, part_solve, part_ties, part_slips,  part_write,  part_check, part_empty,
+                                      part_drawn,  part_large, part_ring, part_claims, part_damage, part_full};
 
 int main(int count, char **words) {
     size_t k;

@@ -6,7 +6,8 @@ void part_listed(const char *name);          /* listed.c: the trials that a file
 void part_examples(int count, char **names); /* examples.c: job files, with what is printed for each in a file beside it */
 void part_solve(void);                       /* solve_cases.c: the solver's refusals, in order, and each bound */
 void part_ties(void);                        /* tie_cases.c: jobs for which every other tie rule names other picks */
-void part_slips(void);                        /* slips.c: the calls of docs/SLIPS.md */
+void part_header(void);                      /* header.c: the constants and functions of include/quabnester.h */
+void part_slips(void);                       /* slips.c: the calls of docs/SLIPS.md */
 void part_write(void);                       /* write_cases.c: the writer's refusals, in order, and what it writes */
 void part_check(void);                       /* check_cases.c: the checker's verdicts, in order, with their places */
 void part_empty(void);                       /* empty.c: slices of length 0 */
@@ -15,6 +16,6 @@ void part_large(void);                       /* large.c: large jobs of every kin
 void part_ring(void);                        /* ring.c: solve, try every selection, write, check, check another list */
 void part_claims(void);                      /* claims.c: drawn tables of claims */
 void part_damage(void);                      /* damage.c: every byte changed, every length */
-void part_full(void);                        /* full.c: n 1,024 and C 65,535 */
+void part_full(void);                        /* full.c: the most labels and the greatest budget */
 
 #endif

@@ -43,31 +43,68 @@ int plain_read(const uint8_t *bytes, size_t length, struct plain_job *job) {
     return at == length;
 }
 
+/* ---- what a kind is */
+
+/* the bounds on n and C: of labels, of block sizes, of claims; and the least of what is weighed and of a size */
+#define OF_LABELS .most_labels = MOST_LABELS, .most_budget = MOST_BUDGET, .least_weight = LEAST_WEIGHT
+#define OF_SIZES .most_labels = MOST_SIZES, .most_budget = MOST_BUDGET, .least_weight = LEAST_SIZE, .ascending = 1
+#define OF_CLAIMS .most_labels = MOST_CLAIMS, .most_budget = MOST_SHARED
+
+static const struct plain_kind kinds[LAST_KIND + 1] = {
+    [0] = {OF_LABELS}, /* stands for all that aren't there */
+    [KIND_ONCE] = {OF_LABELS, .values = 1, .least_value = LEAST_VALUE, .picks = 1},
+    [KIND_COPIES] = {OF_LABELS, .values = 1, .least_value = LEAST_VALUE, .copies = 1, .picks = 1},
+    [KIND_ANY] = {OF_LABELS, .values = 1, .least_value = LEAST_VALUE_ANY, .picks = 1},
+    [KIND_SUMS] = {OF_LABELS},
+    [KIND_FEWEST] = {OF_SIZES, .picks = 1},
+    [KIND_WAYS] = {OF_SIZES},
+    [KIND_SHARES] = {OF_CLAIMS, .picks = 1},
+};
+
+const struct plain_kind *plain_kind(uint32_t kind) {
+    return &kinds[kind <= LAST_KIND ? kind : 0];
+}
+
+struct plain_room plain_room(const struct plain_job *job) {
+    struct plain_room room = {0, 0, 0};
+    uint64_t n = job->weights.count, C = job->budget;
+    if (plain_kind(job->kind)->picks) room.picks = n;
+    switch (job->kind) {
+    case KIND_ONCE:
+    case KIND_COPIES: room.cells = FULL_TABLE(n, C); break;
+    case KIND_ANY:
+    case KIND_FEWEST: room.cells = ROW(C); break;
+    case KIND_SUMS: room.words = C / WORD_BITS + 1; break;
+    case KIND_WAYS: room.words = ROW(C); break;
+    default: break;
+    }
+    return room;
+}
+
+struct plain_room plain_certificate_room(const struct plain_job *job) {
+    uint64_t n = job->weights.count, C = job->budget;
+    struct plain_room room = {FULL_TABLE(n, C), 0, n};
+    return room;
+}
+
+uint64_t plain_certificate_bytes(const struct plain_job *job) {
+    struct plain_room room = plain_certificate_room(job);
+    return CERTIFICATE(room.picks, room.cells);
+}
+
 /* ---- refusals */
-
-static int is_blocks(uint32_t kind) {
-    return kind == 5 || kind == 6;
-}
-
-uint32_t plain_most_labels(uint32_t kind) {
-    return is_blocks(kind) ? MOST_SIZES : kind == 7 ? MOST_CLAIMS : MOST_LABELS;
-}
-
-uint32_t plain_most_budget(uint32_t kind) {
-    return kind == 7 ? UINT32_MAX : MOST_BUDGET;
-}
 
 /* Refusal 3: a used list's length isn't n, or an unused list isn't empty. Weights are used by all kinds, and n is their length. */
 static int lengths_wrong(const struct plain_job *job) {
+    const struct plain_kind *kind = plain_kind(job->kind);
     uint32_t n = job->weights.count;
-    uint32_t values = job->kind <= 3 ? n : 0;
-    uint32_t copies = job->kind == 2 ? n : 0;
-    return job->values.count != values || job->copies.count != copies;
+    return job->values.count != (kind->values ? n : 0) || job->copies.count != (kind->copies ? n : 0);
 }
 
 /* Refusal 4: n or C above its bound. */
 static int too_big(const struct plain_job *job) {
-    return job->weights.count > plain_most_labels(job->kind) || job->budget > plain_most_budget(job->kind);
+    const struct plain_kind *kind = plain_kind(job->kind);
+    return job->weights.count > kind->most_labels || job->budget > kind->most_budget;
 }
 
 /* Whether some number of the list isn't from `least` to `most`. */
@@ -87,12 +124,12 @@ static int strictly_ascending(struct plain_list list) {
     return 1;
 }
 
-/* Refusal 5: a weight, value, copies number or block size outside its rule. Claims may be anything; unused lists are empty here. */
+/* Refusal 5: a weight, value, copies number or block size outside its rule. Unused lists are empty here. */
 static int numbers_wrong(const struct plain_job *job) {
-    if (job->kind == 7) return 0;
-    if (list_outside(job->weights, 1, UINT32_MAX)) return 1;
-    if (is_blocks(job->kind)) return !strictly_ascending(job->weights);
-    return list_outside(job->values, job->kind == 3 ? 1 : 0, MOST_VALUE) || list_outside(job->copies, LEAST_COPIES, MOST_COPIES);
+    const struct plain_kind *kind = plain_kind(job->kind);
+    if (list_outside(job->weights, kind->least_weight, UINT32_MAX)) return 1;
+    if (kind->ascending && !strictly_ascending(job->weights)) return 1;
+    return list_outside(job->values, kind->least_value, MOST_VALUE) || list_outside(job->copies, LEAST_COPIES, MOST_COPIES);
 }
 
 uint32_t plain_job_refusal(const struct plain_job *job, uint32_t last_kind) {
@@ -101,17 +138,6 @@ uint32_t plain_job_refusal(const struct plain_job *job, uint32_t last_kind) {
     if (too_big(job)) return 4;
     if (numbers_wrong(job)) return 5;
     return 0;
-}
-
-struct plain_room plain_room(const struct plain_job *job) {
-    struct plain_room room = {0, 0, 0};
-    uint64_t n = job->weights.count, width = (uint64_t)job->budget + 1;
-    if (job->kind == 1 || job->kind == 2) room.cells = (n + 1) * width;
-    if (job->kind == 3 || job->kind == 5) room.cells = width;
-    if (job->kind == 4) room.words = (uint64_t)job->budget / 64 + 1;
-    if (job->kind == 6) room.words = width;
-    if (job->kind != 4 && job->kind != 6) room.picks = n;
-    return room;
 }
 
 uint32_t plain_solve_refusal(const uint8_t *job, size_t job_len, const struct plain_room *lent) {
@@ -123,7 +149,7 @@ uint32_t plain_solve_refusal(const uint8_t *job, size_t job_len, const struct pl
     if (refusal != 0) return refusal;
     room = plain_room(&read);
     if (lent->cells < room.cells || lent->words < room.words || lent->picks < room.picks) return 6;
-    if (read.kind == 7 && plain_sum(read.weights) == 0) return 9;
+    if (read.kind == KIND_SHARES && plain_sum(read.weights) == 0) return 9;
     return 0;
 }
 
@@ -134,8 +160,8 @@ uint32_t plain_write_refusal(const uint8_t *job, size_t job_len, size_t picks, s
     if (!plain_read(job, job_len, &read)) return 1;
     refusal = plain_job_refusal(&read, LAST_CHECKED_KIND);
     if (refusal != 0) return refusal;
-    room = plain_room(&read);
-    if (picks < room.picks || cells < room.cells || out < 8 + 4 * room.picks + 4 * room.cells) return 6;
+    room = plain_certificate_room(&read);
+    if (picks < room.picks || cells < room.cells || out < plain_certificate_bytes(&read)) return 6;
     return 0;
 }
 
@@ -150,7 +176,7 @@ void plain_start(struct plain_answer *answer, const struct plain_job *job, uint3
 }
 
 uint64_t plain_most(const struct plain_job *job, uint32_t k) {
-    if (job->kind == 1 || job->kind == 4) return 1;
-    if (job->kind == 2) return plain_item(job->copies, k);
+    if (job->kind == KIND_ONCE || job->kind == KIND_SUMS) return 1;
+    if (job->kind == KIND_COPIES) return plain_item(job->copies, k);
     return UINT64_MAX;
 }

@@ -32,21 +32,34 @@ int plain_section(const uint8_t *bytes, size_t length, size_t *at, struct plain_
 /* Whether job bytes can be read. */
 int plain_read(const uint8_t *bytes, size_t length, struct plain_job *job);
 
-/* ---- refusals (plain.c) */
+/* ---- what a kind is (plain.c) */
 
-/* The bounds on n and C. */
-uint32_t plain_most_labels(uint32_t kind);
-uint32_t plain_most_budget(uint32_t kind);
+/* The lists that it uses beside the weights, whether it has picks, and the rules of its numbers: a kind more is a line more of this table.
+ */
+struct plain_kind {
+    int values, copies, picks;
+    uint32_t most_labels, most_budget, least_weight, least_value;
+    int ascending; /* the weights are sizes */
+};
 
-/* The lowest of 2 to 5 that applies, or 0. `last_kind` is the last kind there is for the entry. */
-uint32_t plain_job_refusal(const struct plain_job *job, uint32_t last_kind);
+/* What is said of a kind; of one that there isn't, that it has the labels of kind 1 and no lists but weights. */
+const struct plain_kind *plain_kind(uint32_t kind);
 
 struct plain_room {
     uint64_t cells, words, picks;
 };
 
-/* What a job that isn't refused with 2 to 5 needs. */
+/* What a job needs if it isn't refused with 2 to 5: by its kind, n and C. */
 struct plain_room plain_room(const struct plain_job *job);
+
+/* The picks and cells of its certificate, and the bytes. */
+struct plain_room plain_certificate_room(const struct plain_job *job);
+uint64_t plain_certificate_bytes(const struct plain_job *job);
+
+/* ---- refusals (plain.c) */
+
+/* The lowest of 2 to 5 that applies, or 0. `last_kind` is the last kind there is for the entry. */
+uint32_t plain_job_refusal(const struct plain_job *job, uint32_t last_kind);
 
 /* The lowest of 1 to 6 and 9 that applies to the solver, or 0; 7 and 8 aren't asked. */
 uint32_t plain_solve_refusal(const uint8_t *job, size_t job_len, const struct plain_room *lent);
@@ -57,9 +70,9 @@ uint32_t plain_write_refusal(const uint8_t *job, size_t job_len, size_t picks, s
 /* ---- answers, of jobs that aren't refused with 1 to 6 or 9 */
 
 enum {
-    PLAIN_CELLS = (MOST_SIZES + 1) * (MOST_BUDGET + 1), /* of a table that is compared whole */
-    PLAIN_WORDS = MOST_BUDGET + 1,
-    PLAIN_PICKS = MOST_LABELS > MOST_CLAIMS ? MOST_LABELS : MOST_CLAIMS
+    PLAIN_CELLS = FULL_TABLE(MOST_SIZES, MOST_BUDGET), /* of a table that is compared whole, or made on the way to a row */
+    PLAIN_WORDS = ROW(MOST_BUDGET),
+    PLAIN_PICKS = MOST_IN_LIST
 };
 
 struct plain_answer {

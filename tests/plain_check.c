@@ -3,7 +3,7 @@
 
 /* K(i,c), 64 bits wide so that a value can be added; `cells` starts at cell 0, behind the count. */
 static uint64_t cell(const struct plain_job *job, const uint8_t *cells, uint32_t i, uint32_t c) {
-    uint64_t place = (uint64_t)i * ((uint64_t)job->budget + 1) + c;
+    uint64_t place = i * ROW((uint64_t)job->budget) + c;
     return plain_number(cells + (size_t)(place * 4));
 }
 
@@ -17,7 +17,7 @@ int plain_low(const struct plain_job *job, const uint8_t *cells, uint32_t i, uin
 /* Reads the two sections; 0 is refusal 11. With both counts right, cut short and left over are just a wrong length. */
 static int read_certificate(const struct plain_job *job, const uint8_t *bytes, size_t length, struct plain_list *picks,
                             struct plain_list *cells) {
-    struct plain_room room = plain_room(job);
+    struct plain_room room = plain_certificate_room(job);
     size_t at = 0;
     if (!plain_section(bytes, length, &at, picks) || picks->count != room.picks) return 0;
     if (!plain_section(bytes, length, &at, cells) || cells->count != room.cells) return 0;
@@ -46,7 +46,7 @@ static uint64_t first_low_cell(const struct plain_job *job, const uint8_t *cells
     uint32_t i, c;
     for (i = 1; i <= job->weights.count; i++) {
         for (c = 0; c <= job->budget; c++) {
-            if (plain_low(job, cells, i, c)) return (uint64_t)i * ((uint64_t)job->budget + 1) + c;
+            if (plain_low(job, cells, i, c)) return i * ROW((uint64_t)job->budget) + c;
         }
     }
     return 0;

@@ -6,11 +6,14 @@
 static uint32_t rows[PLAIN_CELLS];
 
 static uint32_t *row_of(uint32_t *table, const struct plain_job *job, uint32_t i) {
-    return table + (size_t)i * (job->budget + 1);
+    return table + (size_t)i * ROW(job->budget);
 }
 
+/* Kinds 4, 6 and 7 have no rows; the others have one for each number of labels, handed over or not. */
 int plain_has_room(const struct plain_job *job) {
-    return ((uint64_t)job->weights.count + 1) * ((uint64_t)job->budget + 1) <= PLAIN_CELLS || job->kind == 4 || job->kind >= 6;
+    uint64_t n = job->weights.count, C = job->budget;
+    if (job->kind == KIND_SUMS || job->kind == KIND_WAYS || job->kind == KIND_SHARES) return 1;
+    return FULL_TABLE(n, C) <= PLAIN_CELLS;
 }
 
 static void fill(uint32_t *row, uint32_t budget, uint32_t number) {
@@ -39,7 +42,7 @@ static uint32_t best_start(const uint32_t *before, uint32_t c, uint32_t weight, 
 /* One label more, at most `most` times: the greatest of before[c - k * weight] + k * value. What was the best start one copy earlier still
  * is, among those before c, unless it is too many copies before c; only then all are looked at again. */
 void plain_next_row(const struct plain_job *job, uint32_t k, const uint32_t *before, uint32_t *row) {
-    static uint32_t start[MOST_BUDGET + 1];
+    static uint32_t start[ROW(MOST_BUDGET)];
     uint32_t c, weight = plain_item(job->weights, k), value = plain_item(job->values, k);
     uint64_t most = plain_most(job, k);
     for (c = 0; c <= job->budget; c++) {
@@ -105,7 +108,7 @@ static void any_number(const struct plain_job *job, struct plain_answer *answer)
 /* ---- kind 4 */
 
 static void sums(const struct plain_job *job, struct plain_answer *answer) {
-    static uint8_t reached[MOST_BUDGET + 1];
+    static uint8_t reached[ROW(MOST_BUDGET)];
     uint32_t i, t, C = job->budget;
     for (t = 0; t <= C; t++) reached[t] = t == 0;
     for (i = 0; i < job->weights.count; i++) {
@@ -114,7 +117,7 @@ static void sums(const struct plain_job *job, struct plain_answer *answer) {
     }
     for (t = 0; t < answer->filled.words; t++) answer->words[t] = 0;
     for (t = 0; t <= C; t++) {
-        answer->words[t / 64] |= (uint64_t)reached[t] << t % 64;
+        answer->words[t / WORD_BITS] |= (uint64_t)reached[t] << t % WORD_BITS;
         answer->second += reached[t];
     }
     answer->first = reached[C];
@@ -127,7 +130,7 @@ static void add_size(const struct plain_job *job, uint32_t i) {
     uint32_t *row = row_of(rows, job, i + 1), a, size = plain_item(job->weights, i);
     for (a = 0; a <= job->budget; a++) {
         row[a] = before[a];
-        if (size <= a && row[a - size] != UINT32_MAX && row[a - size] + 1 < row[a]) row[a] = row[a - size] + 1;
+        if (size <= a && row[a - size] != NO_WAY && row[a - size] + 1 < row[a]) row[a] = row[a - size] + 1;
     }
 }
 
@@ -137,7 +140,7 @@ static void greatest_counts(const struct plain_job *job, struct plain_answer *an
     for (i = job->weights.count; i-- > 0;) {
         const uint32_t *before = row_of(rows, job, i), *row = row_of(rows, job, i + 1);
         uint32_t size = plain_item(job->weights, i), from = left % size;
-        while (before[from] == UINT32_MAX || before[from] + (left - from) / size != row[left]) from += size;
+        while (before[from] == NO_WAY || before[from] + (left - from) / size != row[left]) from += size;
         answer->picks[i] = (left - from) / size;
         left = from;
     }
@@ -146,11 +149,11 @@ static void greatest_counts(const struct plain_job *job, struct plain_answer *an
 static void blocks(const struct plain_job *job, struct plain_answer *answer) {
     uint32_t i, a, n = job->weights.count;
     const uint32_t *fewest = row_of(rows, job, n);
-    fill(rows, job->budget, UINT32_MAX);
+    fill(rows, job->budget, NO_WAY);
     rows[0] = 0;
     for (i = 0; i < n; i++) add_size(job, i);
     for (a = 0; a <= job->budget; a++) answer->cells[a] = fewest[a];
-    if (fewest[job->budget] == UINT32_MAX) {
+    if (fewest[job->budget] == NO_WAY) {
         answer->refused = 7;
         answer->filled.picks = 0;
         return;
@@ -163,7 +166,7 @@ static void blocks(const struct plain_job *job, struct plain_answer *answer) {
 
 /* The sum, or 2^64 - 1 where it is more. */
 static uint64_t at_most_full(uint64_t a, uint64_t b) {
-    return a > UINT64_MAX - b ? UINT64_MAX : a + b;
+    return a > FULL - b ? FULL : a + b;
 }
 
 static void ways(const struct plain_job *job, struct plain_answer *answer) {
@@ -176,7 +179,7 @@ static void ways(const struct plain_job *job, struct plain_answer *answer) {
         }
     }
     answer->first = answer->words[job->budget];
-    if (answer->first != UINT64_MAX) return;
+    if (answer->first != FULL) return;
     answer->refused = 8;
     answer->first = 0;
 }
@@ -184,10 +187,10 @@ static void ways(const struct plain_job *job, struct plain_answer *answer) {
 void plain_table(const struct plain_job *job, struct plain_answer *answer) {
     plain_start(answer, job, 0);
     switch (job->kind) {
-    case 3: any_number(job, answer); break;
-    case 4: sums(job, answer); break;
-    case 5: blocks(job, answer); break;
-    case 6: ways(job, answer); break;
+    case KIND_ANY: any_number(job, answer); break;
+    case KIND_SUMS: sums(job, answer); break;
+    case KIND_FEWEST: blocks(job, answer); break;
+    case KIND_WAYS: ways(job, answer); break;
     default: limited(job, answer); break;
     }
 }

@@ -2,9 +2,14 @@
  * of its own, of the first i labels with budget c, for which all is tried again. See the head of plain.c. */
 #include "plain.h"
 
-enum { LABELS = 12, SELECTIONS = 300000 }; /* no more than these are tried for a job */
+enum { LABELS = 12, SELECTIONS = 300000 }; /* no more than these are tried for a job; document 01 has no number for it */
 
 static uint32_t left; /* how many selections may still be tried */
+
+/* Kinds 1 to 3 ask for value within the budget; 4 to 6 ask for what weighs exactly so much. */
+static int is_knapsack(uint32_t kind) {
+    return kind == KIND_ONCE || kind == KIND_COPIES || kind == KIND_ANY;
+}
 
 /* ---- one selection after the other */
 
@@ -17,7 +22,7 @@ struct selection {
 static void set_count(const struct plain_job *job, struct selection *s, uint32_t k, uint32_t count) {
     uint64_t more = (uint64_t)count - s->counts[k]; /* below 0 it wraps, and so do the sums, back to what they have to be */
     s->weight += more * plain_item(job->weights, k);
-    s->value += job->kind <= 3 ? more * plain_item(job->values, k) : 0;
+    s->value += is_knapsack(job->kind) ? more * plain_item(job->values, k) : 0;
     s->blocks += more;
     s->counts[k] = count;
 }
@@ -46,22 +51,22 @@ struct outcome {
     struct selection best;   /* the one that the tie rule names */
 };
 
-/* Whether a selection that weighs at most c counts: kinds 1 to 3 ask no more, the others ask for exactly c. */
+/* Whether a selection that weighs at most c counts. */
 static int counts_for(const struct plain_job *job, const struct selection *s, uint32_t c) {
-    return job->kind <= 3 || s->weight == c;
+    return is_knapsack(job->kind) || s->weight == c;
 }
 
 /* Above 0 if a is better than b, 0 if they are equally good: more value, or fewer blocks. Kinds 4 and 6 don't choose. */
 static int compared(const struct plain_job *job, const struct selection *a, const struct selection *b) {
-    if (job->kind <= 3) return (a->value > b->value) - (a->value < b->value);
-    if (job->kind == 5) return (a->blocks < b->blocks) - (a->blocks > b->blocks);
+    if (is_knapsack(job->kind)) return (a->value > b->value) - (a->value < b->value);
+    if (job->kind == KIND_FEWEST) return (a->blocks < b->blocks) - (a->blocks > b->blocks);
     return 0;
 }
 
 struct plain_rule plain_rule(uint32_t kind) {
     struct plain_rule rule;
-    rule.from_last = kind != 3;
-    rule.small = kind <= 2;
+    rule.from_last = kind != KIND_ANY;
+    rule.small = kind == KIND_ONCE || kind == KIND_COPIES;
     return rule;
 }
 
@@ -101,9 +106,9 @@ void plain_picks(const struct plain_job *job, struct plain_rule rule, uint32_t *
 /* The number that is asked for: a value, whether c is reached, fewest blocks or ways. */
 static uint64_t number_of(const struct plain_job *job, const struct outcome *all) {
     switch (job->kind) {
-    case 4: return all->asked > 0;
-    case 5: return all->asked > 0 ? all->best.blocks : UINT32_MAX;
-    case 6: return all->asked;
+    case KIND_SUMS: return all->asked > 0;
+    case KIND_FEWEST: return all->asked > 0 ? all->best.blocks : NO_WAY;
+    case KIND_WAYS: return all->asked;
     default: return all->best.value;
     }
 }
@@ -115,14 +120,14 @@ static uint64_t place(const struct plain_job *job, uint32_t i, uint32_t c) {
 }
 
 static void try_places(const struct plain_job *job, struct plain_answer *answer) {
-    uint32_t m, n = job->weights.count, width = job->budget + 1;
-    int rows = job->kind <= 2; /* a row for each number of labels, or one for all of them */
+    uint32_t m, n = job->weights.count, width = ROW(job->budget);
+    int rows = answer->filled.cells > width; /* a row for each number of labels, or one for all of them */
     for (m = 0; m < answer->filled.cells; m++) answer->cells[m] = (uint32_t)place(job, rows ? m / width : n, m % width);
-    for (m = 0; m < answer->filled.words; m++) answer->words[m] = job->kind == 6 ? place(job, n, m) : 0;
-    if (job->kind != 4) return;
+    for (m = 0; m < answer->filled.words; m++) answer->words[m] = job->kind == KIND_WAYS ? place(job, n, m) : 0;
+    if (job->kind != KIND_SUMS) return;
     for (m = 0; m < width; m++) {
         uint64_t reached = place(job, n, m);
-        answer->words[m / 64] |= reached << m % 64;
+        answer->words[m / WORD_BITS] |= reached << m % WORD_BITS;
         answer->second += reached;
     }
 }
@@ -131,20 +136,20 @@ static void try_places(const struct plain_job *job, struct plain_answer *answer)
 static void try_answer(const struct plain_job *job, struct plain_answer *answer) {
     struct outcome all = try_all(job, job->weights.count, job->budget, plain_rule(job->kind));
     uint32_t k;
-    if (job->kind == 5 && all.asked == 0) {
+    if (job->kind == KIND_FEWEST && all.asked == 0) {
         answer->refused = 7;
         answer->filled.picks = 0;
         return;
     }
     answer->as_good = all.as_good;
     answer->first = number_of(job, &all);
-    if (job->kind <= 3) answer->second = all.best.weight;
+    if (is_knapsack(job->kind)) answer->second = all.best.weight;
     for (k = 0; k < answer->filled.picks; k++) answer->picks[k] = all.best.counts[k];
 }
 
 int plain_try(const struct plain_job *job, struct plain_answer *answer) {
     plain_start(answer, job, 0);
-    if (job->kind > 6 || job->weights.count > LABELS || answer->filled.cells + answer->filled.words > SELECTIONS) return 0;
+    if (job->kind == KIND_SHARES || job->weights.count > LABELS || answer->filled.cells + answer->filled.words > SELECTIONS) return 0;
     left = SELECTIONS;
     try_places(job, answer);
     try_answer(job, answer);

@@ -7,7 +7,7 @@
 #include <stdio.h>
 #include <string.h>
 
-enum { JOBS = 20000, OTHERS = 3, MOST_N = 8, MOST_C = 40 };
+enum { JOBS = 20000, OTHERS = 3, MOST_N = 8, MOST_C = 40 }; /* small, so that every selection can be tried */
 
 static struct job job;
 static struct bytes bytes, certificate;
@@ -24,7 +24,7 @@ static uint64_t sum_over(const struct list *list, const uint32_t *picks) {
 
 /* Solves the job with slices that are some places longer than needed. */
 static void try_solve(struct draw *draw, uint64_t number) {
-    struct plain_room lengths = {cells_of(&job), 0, job.weights.count};
+    struct plain_room lengths = room_of(&job);
     lengths.cells += drawn(draw, 0, 5);
     lengths.words += drawn(draw, 0, 2);
     lengths.picks += drawn(draw, 0, 3);
@@ -66,7 +66,7 @@ static void try_number(uint64_t number) {
     struct draw draw = {number};
     uint32_t i;
     about("ring", number);
-    draw_job(&draw, 1, MOST_N, MOST_C, &job);
+    draw_job(&draw, KIND_ONCE, MOST_N, MOST_C, &job);
     put_job(&bytes, &job);
     try_solve(&draw, number);
     try_write(&draw);

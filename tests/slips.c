@@ -1,5 +1,5 @@
-/* The calls of docs/SLIPS.md that the program can't show, with the right answers that stand there: on tables that held something, on slices that are
- * too short, and the checker's. The jobs of the other slips are examples/slip-*.job. */
+/* The calls of docs/SLIPS.md that the program can't show, with the right answers that stand there: on tables that held something, on slices
+ * that are too short, and the checker's. The jobs of the other slips are examples/slip-*.job. */
 #include "calls.h"
 #include "parts.h"
 #include "tell.h"
@@ -16,11 +16,21 @@ struct call {
 };
 
 static const struct call calls[] = {
-    {2, 1, 3, 2, {0, 9, 18, 0, 0, 0}, 6, 77, 1, 0, 3, 1, {0, 0, 0, 0, 3, 3}, 1},
-    {3, 1, 3, 1, {0, 0, 0, 9, 0, 9}, 6, 77, 1, 0, 3, 1, {0, 0, 0, 3, 0, 9}, 1},
-    {16, 7, 0, 2, {7, 7, 7, 7, 7, 7}, 6, 77, 1, 0, 0, 0, {7, 7, 7, 7, 7, 7}, 2},
-    {17, 1, 3, 1, {7, 7, 7, 77, 7, 7}, 3, 77, 1, 6, 0, 0, {7, 7, 7, 77, 7, 7}, 77},
-    {17, 1, 3, 1, {7, 7, 7, 7, 7, 7}, 4, 77, 0, 6, 0, 0, {7, 7, 7, 7, 7, 7}, 77},
+    {.slip = 2, .kind = KIND_ONCE, .value = 3, .budget = 2,
+     .cells = {0, 9, 18, 0, 0, 0}, .cells_lent = CELLS, .pick = 77, .picks_lent = 1,
+     .first = 3, .second = 1, .cells_after = {0, 0, 0, 0, 3, 3}, .pick_after = 1},
+    {.slip = 3, .kind = KIND_ONCE, .value = 3, .budget = 1,
+     .cells = {0, 0, 0, 9, 0, 9}, .cells_lent = CELLS, .pick = 77, .picks_lent = 1,
+     .first = 3, .second = 1, .cells_after = {0, 0, 0, 3, 0, 9}, .pick_after = 1},
+    {.slip = 16, .kind = KIND_SHARES, .budget = 2,
+     .cells = {7, 7, 7, 7, 7, 7}, .cells_lent = CELLS, .pick = 77, .picks_lent = 1,
+     .cells_after = {7, 7, 7, 7, 7, 7}, .pick_after = 2},
+    {.slip = 17, .kind = KIND_ONCE, .value = 3, .budget = 1,
+     .cells = {7, 7, 7, 77, 7, 7}, .cells_lent = 3, .pick = 77, .picks_lent = 1,
+     .refused = 6, .cells_after = {7, 7, 7, 77, 7, 7}, .pick_after = 77},
+    {.slip = 17, .kind = KIND_ONCE, .value = 3, .budget = 1,
+     .cells = {7, 7, 7, 7, 7, 7}, .cells_lent = 4, .pick = 77, .picks_lent = 0,
+     .refused = 6, .cells_after = {7, 7, 7, 7, 7, 7}, .pick_after = 77},
 };
 
 /* A certificate for the job weight 1, value 3, C 1. */
@@ -29,15 +39,14 @@ struct claim {
 };
 
 static const struct claim claims[] = {
-    {14, 1, {0, 0, 9, 3}, 0, 3},
-    {15, 0, {4294967293u, 0, 4294967293u, 0}, 14, 3},
+    {.slip = 14, .pick = 1, .cells = {0, 0, 9, 3}, .number = 0, .detail = 3},
+    {.slip = 15, .pick = 0, .cells = {4294967293u, 0, 4294967293u, 0}, .number = 14, .detail = 3},
 };
 
 static void one_label(struct bytes *bytes, uint32_t kind, uint32_t value, uint32_t budget) {
     static const uint32_t weight = 1;
     static struct job job;
-    set_job(&job, kind, budget, 1, &weight, &value);
-    if (kind > 3) job.values.count = 0;
+    set_job(&job, kind, budget, 1, &weight, &value, NULL);
     put_job(bytes, &job);
 }
 
@@ -60,7 +69,7 @@ static void try_call(const struct call *call) {
 static void try_claim(const struct claim *claim) {
     static struct bytes bytes, certificate;
     about("slip", claim->slip);
-    one_label(&bytes, 1, 3, 1);
+    one_label(&bytes, KIND_ONCE, 3, 1);
     certificate.length = 0;
     put_section(&certificate, &claim->pick, 1);
     put_section(&certificate, claim->cells, 4);

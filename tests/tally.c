@@ -10,9 +10,9 @@ void count_in(struct tally *tally, const struct bytes *job, const struct plain_a
     if (plain_read(job->at, job->length, &read) && read.kind <= LAST_KIND) kind = read.kind;
     tally->came[kind][answer->refused]++;
     tally->tried += (unsigned long)answer->tried;
-    if (answer->as_good < 2 || kind == 4 || kind == 6) return;
+    if (answer->as_good < 2 || !plain_kind(kind)->picks) return;
     tally->ties[kind][0]++;
-    for (other = 1; other < RULES && kind != 7; other++) {
+    for (other = 1; other < RULES && kind != KIND_SHARES; other++) {
         tally->ties[kind][other] += (unsigned long)other_rule_tells(&read, other, answer->picks);
     }
 }
@@ -34,7 +34,7 @@ static void print_row(const char *part, const struct tally *tally, int kind) {
     int k;
     printf("%s, kind %d: answered %lu; ties, and those that tell the rule from others:", part, kind, tally->came[kind][0]);
     for (k = 0; k < RULES; k++) printf(" %lu", tally->ties[kind][k]);
-    printf("; refused with 1 to 9:");
+    printf("; refused with 1 to %d:", LAST_SOLVER_REFUSAL);
     for (k = 1; k < VERDICTS; k++) printf(" %lu", tally->came[kind][k]);
     printf("\n");
 }

@@ -4,7 +4,7 @@
 
 #include "calls.h"
 
-enum { VERDICTS = 10 }; /* answered, and refused with 1 to 9 */
+enum { VERDICTS = LAST_SOLVER_REFUSAL + 1 }; /* answered, and refused with 1 to the last */
 
 /* Row 0 is for bytes that can't be read and for other kinds than the solver's. */
 struct tally {

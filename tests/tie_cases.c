@@ -11,30 +11,29 @@ struct tie_case {
 };
 
 static const struct tie_case cases[] = {
-    {1, 8, 4, {2, 1, 6, 1}, {2, 1, 2, 1}, {0}, {1, 0, 1, 0}},
-    {2, 4, 3, {3, 4, 1}, {2, 3, 1}, {1, 2, 3}, {0, 1, 0}},
-    {3, 8, 3, {5, 4, 3}, {2, 2, 2}, {0}, {1, 0, 1}},
-    {5, 24, 4, {1, 3, 7, 9}, {0}, {0}, {0, 2, 0, 2}},
-    {7, 3, 5, {1, 3, 1, 3, 1}, {0}, {0}, {1, 1, 0, 1, 0}},
+    {KIND_ONCE, 8, 4, {2, 1, 6, 1}, {2, 1, 2, 1}, {0}, {1, 0, 1, 0}},
+    {KIND_COPIES, 4, 3, {3, 4, 1}, {2, 3, 1}, {1, 2, 3}, {0, 1, 0}},
+    {KIND_ANY, 8, 3, {5, 4, 3}, {2, 2, 2}, {0}, {1, 0, 1}},
+    {KIND_FEWEST, 24, 4, {1, 3, 7, 9}, {0}, {0}, {0, 2, 0, 2}},
+    {KIND_SHARES, 3, 5, {1, 3, 1, 3, 1}, {0}, {0}, {1, 1, 0, 1, 0}},
 };
 
 static void try_case(const struct tie_case *given) {
     static struct job job;
     static struct bytes bytes;
-    static const struct plain_room lengths = {50, 0, MOST_N};
     const struct plain_answer *answer;
+    struct plain_room lengths;
     struct plain_job read;
     uint32_t i;
     int other;
-    set_job(&job, given->kind, given->budget, given->n, given->weights, given->values);
-    if (given->kind > 3) job.values.count = 0;
-    if (given->kind == 2) set_list(&job.copies, given->n, given->copies);
+    set_job(&job, given->kind, given->budget, given->n, given->weights, given->values, given->copies);
     put_job(&bytes, &job);
     read_back(&bytes, &read);
+    lengths = plain_room(&read);
     answer = try_job(&bytes, &lengths, given->kind);
     holds("that there is a tie", answer->as_good > 1);
     for (i = 0; i < given->n; i++) same_at("the second program's pick", i, given->picks[i], answer->picks[i]);
-    for (other = 1; other < RULES && read.kind != 7; other++) {
+    for (other = 1; other < RULES && read.kind != KIND_SHARES; other++) {
         holds("that another rule names other picks", other_rule_tells(&read, other, given->picks));
     }
 }

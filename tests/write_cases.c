@@ -6,7 +6,7 @@
 #include <stdio.h>
 #include <string.h>
 
-enum { N = 3, CELLS = 32, BYTES = 8 + 4 * N + 4 * CELLS };
+enum { N = CASE_A_LABELS, CELLS = CASE_A_CELLS, BYTES = CASE_A_CERTIFICATE };
 
 /* any numbers: the writer doesn't judge */
 static uint32_t picks[N + 2], cells[CELLS + 2];
@@ -19,7 +19,7 @@ static void any_numbers(void) {
     uint32_t i;
     for (i = 0; i < N + 2; i++) picks[i] = drawn(&draw, 0, UINT32_MAX);
     for (i = 0; i < CELLS + 2; i++) cells[i] = drawn(&draw, 0, UINT32_MAX);
-    case_a(&job);
+    case_a(&job, KIND_ONCE);
     put_certificate(&expected, &job, picks, cells);
 }
 
@@ -47,36 +47,46 @@ static void is_written(size_t picks_len, size_t cells_len, size_t out_len) {
     give_back(&written.out);
 }
 
-/* Case A with the faults of a mask, 1 to 5 by the first bits; the last three make a slice one too short. */
+/* Bits of a mask, in the order of refusals: the job's faults, and slices that are one too short. */
+enum { BAD_BYTES, BAD_KIND, BAD_LENGTHS, BAD_BUDGET, BAD_VALUE, FEW_PICKS, FEW_CELLS, FEW_BYTES, BITS };
+static const uint32_t refusals[BITS] = {
+    [BAD_BYTES] = 1, [BAD_KIND] = 2,  [BAD_LENGTHS] = 3, [BAD_BUDGET] = 4,
+    [BAD_VALUE] = 5, [FEW_PICKS] = 6, [FEW_CELLS] = 6,   [FEW_BYTES] = 6,
+};
+
+static unsigned has(unsigned mask, int bit) {
+    return mask >> bit & 1;
+}
+
+/* Case A with the faults of a mask. */
 static void try_faults(unsigned mask) {
-    uint32_t number = 1;
-    while (number < 6 && !(mask >> (number - 1) & 1)) number++;
-    case_a(&job);
-    if (mask >> 1 & 1) job.kind = mask >> 2 & 1 ? 0 : LAST_CHECKED_KIND + 1;
-    if (mask >> 2 & 1) set_list(&job.copies, 1, picks);
-    if (mask >> 3 & 1) job.budget = MOST_BUDGET + 1;
-    if (mask >> 4 & 1) job.values.at[2] = MOST_VALUE + 1;
+    int lowest = 0;
+    case_a(&job, KIND_ONCE);
+    if (has(mask, BAD_KIND)) job.kind = has(mask, BAD_LENGTHS) ? 0 : LAST_CHECKED_KIND + 1;
+    if (has(mask, BAD_LENGTHS)) set_list(&job.copies, 1, picks);
+    if (has(mask, BAD_BUDGET)) job.budget = MOST_BUDGET + 1;
+    if (has(mask, BAD_VALUE)) job.values.at[2] = MOST_VALUE + 1;
     put_job(&bytes, &job);
-    if (mask & 1) bytes.length--;
+    if (has(mask, BAD_BYTES)) bytes.length--;
     if (mask == 0) {
         is_written(N, CELLS, BYTES);
         return;
     }
-    is_turned_down(N - (mask >> 5 & 1), CELLS - (mask >> 6 & 1), BYTES - (mask >> 7 & 1), number);
+    while (!has(mask, lowest)) lowest++;
+    is_turned_down(N - has(mask, FEW_PICKS), CELLS - has(mask, FEW_CELLS), BYTES - has(mask, FEW_BYTES), refusals[lowest]);
 }
 
 void part_write(void) {
     unsigned mask;
     uint32_t kind, more;
     any_numbers();
-    for (mask = 0; mask < 256; mask++) try_faults(mask);
+    for (mask = 0; mask < 1u << BITS; mask++) try_faults(mask);
     for (kind = LAST_CHECKED_KIND + 1; kind <= LAST_KIND + 1; kind++) {
-        case_a(&job);
-        job.kind = kind;
+        case_a(&job, kind);
         put_job(&bytes, &job);
         is_turned_down(N, CELLS, BYTES, 2);
     }
-    case_a(&job);
+    case_a(&job, KIND_ONCE);
     put_job(&bytes, &job);
     for (more = 0; more < 8; more++) is_written(N + (more & 1), CELLS + (more >> 1 & 1), BYTES + 5 * (more >> 2));
     printf("write: %lu calls, %lu refused\n", tried, refused);

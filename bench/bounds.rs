@@ -1,0 +1,106 @@
+//! What document 01 says in numbers, each once: the kinds, their bounds and the room that each needs. Rust's own, as tests/bounds.h is C's.
+
+pub const ONCE: u32 = 1;
+pub const COPIES: u32 = 2;
+pub const ANY: u32 = 3;
+pub const SUMS: u32 = 4;
+pub const FEWEST: u32 = 5;
+pub const WAYS: u32 = 6;
+pub const SHARES: u32 = 7;
+/// The kinds to solve are 1 to this one.
+pub const LAST_KIND: u32 = SHARES;
+/// Those with certificates are 1 to this one.
+pub const LAST_CHECKED_KIND: u32 = ONCE;
+
+/// n in kinds 1 to 4, in 5 and 6, and in 7: three rules, though two of the numbers are equal.
+pub const MOST_LABELS: usize = 1_024;
+pub const MOST_SIZES: usize = 64;
+pub const MOST_CLAIMS: usize = 1_024;
+/// C in kinds 1 to 6; in kind 7 it is any number.
+pub const MOST_BUDGET: u32 = 65_535;
+pub const LEAST_VALUE: u32 = 0;
+/// In kind 3.
+pub const LEAST_VALUE_ANY: u32 = 1;
+pub const MOST_VALUE: u32 = 65_535;
+pub const LEAST_COPIES: u32 = 0;
+pub const MOST_COPIES: u32 = 65_535;
+
+/// A cell of kind 5 for which there is no way, and a word of kind 6 for so many ways or more.
+pub const NO_WAY: u32 = u32::MAX;
+pub const FULL: u64 = u64::MAX;
+
+pub const LAST_REFUSAL: usize = 15;
+
+/// Whether a kind's weights are labels, and no sizes or claims.
+pub fn are_labels(kind: u32) -> bool {
+    matches!(kind, ONCE | COPIES | ANY | SUMS)
+}
+
+pub fn are_sizes(kind: u32) -> bool {
+    matches!(kind, FEWEST | WAYS)
+}
+
+/// How many values and copies numbers a job with n labels has.
+pub fn values_used(kind: u32, n: usize) -> usize {
+    if matches!(kind, ONCE | COPIES | ANY) {
+        n
+    } else {
+        0
+    }
+}
+
+pub fn copies_used(kind: u32, n: usize) -> usize {
+    if kind == COPIES {
+        n
+    } else {
+        0
+    }
+}
+
+/// The most labels, sizes or claims, and the greatest budget, of a kind that there is.
+pub fn most_of(kind: u32) -> (usize, u32) {
+    match kind {
+        FEWEST | WAYS => (MOST_SIZES, MOST_BUDGET),
+        SHARES => (MOST_CLAIMS, u32::MAX),
+        _ => (MOST_LABELS, MOST_BUDGET),
+    }
+}
+
+pub fn least_value(kind: u32) -> u32 {
+    if kind == ANY {
+        LEAST_VALUE_ANY
+    } else {
+        LEAST_VALUE
+    }
+}
+
+/// The cells of a row: one for each budget from 0 to C.
+pub fn row(budget: u32) -> usize {
+    budget as usize + 1
+}
+
+/// The cells of a row for each number of labels from 0 to n.
+pub fn full_table(n: usize, budget: u32) -> usize {
+    (n + 1) * row(budget)
+}
+
+/// How many cells, words and picks are needed, for a kind that there is.
+pub fn room(kind: u32, n: usize, budget: u32) -> [usize; 3] {
+    match kind {
+        ONCE | COPIES => [full_table(n, budget), 0, n],
+        ANY | FEWEST => [row(budget), 0, n],
+        SUMS => [0, words_of_bits(budget), 0],
+        WAYS => [0, row(budget), 0],
+        _ => [0, 0, n],
+    }
+}
+
+/// The words that hold a bit for each total from 0 to C.
+pub fn words_of_bits(budget: u32) -> usize {
+    budget as usize / 64 + 1
+}
+
+/// The bytes of a certificate with so many picks and cells.
+pub fn certificate_bytes(picks: usize, cells: usize) -> usize {
+    8 + 4 * picks + 4 * cells
+}
