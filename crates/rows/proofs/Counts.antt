@@ -110,10 +110,10 @@ module _ (First Second Both : ℕ → Type 0) (s : ℕ)
 pub greatest-part : (f g h : ℕ → ℕ) (w v m s width : ℕ) → s ≤ suc m → GreatestRow (λ x. x ≤ m) f w v width g → Raised g g h (w * s) (v * s) width
     → GreatestRow (λ x. x ≤ m + s) f w v width h
 unfolding GreatestRow
-greatest-part f g h w v m s width small tops up c inside =
+greatest-part f g h w v m s width small greatest up c inside =
     greatest-raised (λ x. x ≤ m) (λ x. x ≤ m) (λ x. x ≤ m + s) s
     (λ x k. by m x (λ l. inr (omega arith, omega arith)) (λ l. inl l)) (λ x k. omega arith) (λ x k. omega arith)
-    f g g h w v width up c inside (tops c inside) (λ light. tops (c - w * s) (omega arith))
+    f g g h w v width up c inside (greatest c inside) (λ light. greatest (c - w * s) (omega arith))
 
 -- g holds, over f, the label added again and again to g itself: any count is within reach
 module _ (f g : ℕ → ℕ) (w v width : ℕ) (pos : 1 ≤ w) (up : Raised f g g w v width) where
@@ -157,22 +157,22 @@ module _ (f g h : ℕ → ℕ) (w v m width : ℕ) (pos : 1 ≤ m) (fewer : Grea
 
 -- ---- what a row comes to
 
--- over a low row, whatever may be picked
+-- over a capped row, whatever may be picked
 pub greatest-capped : (May : ℕ → Type 0) (f g : ℕ → ℕ) (w v width : ℕ) → 1 ≤ w → v ≤ mostValue → Capped f width → GreatestRow May f w v width g → Capped g width
 unfolding Capped GreatestRow mostValue
-greatest-capped May f g w v width pos cheap low tops c h =
-    let d = tops c h .made in
-    let x = tops c h .count in
+greatest-capped May f g w v width pos cheap capped greatest c h =
+    let d = greatest c h .made in
+    let x = greatest c h .count in
     let heavy : 1 * x ≤ w * x = mul-le-mul-right x pos in
     let worth : v * x ≤ mostValue * x = mul-le-mul-right x cheap in
-    omega (arith, d .spent, d .worth, low (d .left) (omega (arith, d .spent)), one-mul x)
+    omega (arith, d .spent, d .worth, capped (d .left) (omega (arith, d .spent)), one-mul x)
 
 -- the row of the first i labels with label i is the row of the first i + 1
 pub greatest-best : (k : Knapsack) (j : Job) (i width : ℕ) (f g : ℕ → ℕ) → ((c : ℕ) → c < width → BestValue k j i c (f c))
     → GreatestRow (MayPick k (at (j .copies) i)) f (at (j .weights) i) (at (j .values) i) width g → (c : ℕ) → c < width → BestValue k j (suc i) c (g c)
 unfolding GreatestRow
-greatest-best k j i width f g rows tops c h =
-    let d = tops c h in
+greatest-best k j i width f g rows greatest c h =
+    let d = greatest c h in
     let w = at (j .weights) i in
     let v = at (j .values) i in
     best-step k j i c f (λ d l. rows d (omega arith)) (g c)
@@ -180,7 +180,7 @@ greatest-best k j i width f g rows tops c h =
     (d .count) (d .may) (omega (arith, d .made .spent))
     (let same : d .made .left ≡ c - w * d .count = omega (arith, d .made .spent) in d .made .worth ∙ rw same)
 
--- a part of a label's copies: it is lighter than the row is wide, and low itself
+-- a part of a label's copies: it is lighter than the row is wide, and worth no more than the greatest value for each unit
 pub record PartFits (w v part width : ℕ) : Type 0 where
   pub light : w * part < width
   pub cheap : v * part ≤ mostValue * (w * part)
@@ -192,13 +192,13 @@ part-fits w v part most width pos cheap few light =
     let worth : v * part ≤ mostValue * part = mul-le-mul-right part cheap in
     record { light = omega (arith, mul-le-mul-left w few); cheap = omega (arith, one-mul part) }
 
--- a low row stays low where something low is added
+-- a capped row stays so where what is added keeps to the greatest value for each unit of its weight
 pub raised-capped : (f g : ℕ → ℕ) (w v width : ℕ) → v ≤ mostValue * w → Capped f width → Raised f f g w v width → Capped g width
 unfolding Capped mostValue
-raised-capped f g w v width cheap low up c h =
+raised-capped f g w v width cheap capped up c h =
     by c w
-    (λ short. omega (arith, up .short c h short, low c h))
-    (λ light. omega (arith, up .long c h light, low c h, low (c - w) (omega arith)))
+    (λ short. omega (arith, up .short c h short, capped c h))
+    (λ light. omega (arith, up .long c h light, capped c h, capped (c - w) (omega arith)))
 
 -- ---- no second choice is left
 

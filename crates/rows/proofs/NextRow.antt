@@ -22,7 +22,7 @@ greatest-one f h w v width up c inside =
 -- a row with the same cells
 row-same : (May : ℕ → Type 0) (f g h : ℕ → ℕ) (w v width : ℕ) → ((c : ℕ) → c < width → g c ≡ h c) → GreatestRow May f w v width g → GreatestRow May f w v width h
 unfolding GreatestRow
-row-same May f g h w v width e tops c inside = rw (← e c inside) (tops c inside)
+row-same May f g h w v width e greatest c inside = rw (← e c inside) (greatest c inside)
 
 -- s is the table before, t with the row copied up to `start`, u with it raised from there on
 module _ (s t u : List ℕ) (from width w v most start : ℕ)
@@ -63,10 +63,10 @@ module _ (s t u : List ℕ) (from width w v most start : ℕ)
       row-same (λ x. x ≤ min 1 most) (λ c. at s (from + c)) (λ c. at u (from + width + c)) (at (partOf u (from + width) width)) w v width
       (λ c h. sym (part-at u (from + width) width fits c h)) first-one
 
-  -- which leaves the row low
+  -- which leaves the row capped
   pub part-capped : 1 ≤ w → v ≤ mostValue → from + width + width ≤ length u → Capped (λ c. at s (from + c)) width → Capped (at (partOf u (from + width) width)) width
-  part-capped pos cheap fits low =
-      greatest-capped (λ x. x ≤ min 1 most) (λ c. at s (from + c)) (at (partOf u (from + width) width)) w v width pos cheap low (first-part fits)
+  part-capped pos cheap fits capped =
+      greatest-capped (λ x. x ≤ min 1 most) (λ c. at s (from + c)) (at (partOf u (from + width) width)) w v width pos cheap capped (first-part fits)
 
   -- then up to `limit` of it, by parts in place
   module _ (row : List ℕ) (limit : ℕ) (pos : 1 ≤ w) (fits : from + width + width ≤ length u) (long : length row ≡ width) (within : start ≤ width)

@@ -93,9 +93,12 @@ fn add_one(row: &mut [u32], w: u32, v: u32)
     }
 }
 
+// One more than the greatest budget (`mostBudget`), and so above the weight of whatever a row holds. A remainder by it changes no such
+// weight, and tells the compiler that the weight is small: only then does the pass over the row run in vectors.
+const BUDGETS: u32 = 65_536;
+
 // A row that holds up to one of a label is made to hold up to `most` of it, in parts as large as keep every count within reach: 1, 2, 4
-// and so on, and what is left. A part's weight is below the remainder's divisor, which tells the compiler so: only then does the pass
-// run in vectors.
+// and so on, and what is left.
 fn add_parts(row: &mut [u32], w: u32, v: u32, most: u32)
     requires { ⌜ (1 ≤ w) × ((v ≤ mostValue) × ((length (now row) ≤ mostBudget + 1) × (w * most < length (now row)))) ⌝ }
     requires { ⌜ Capped (at (now row)) (length (now row)) ⌝ }
@@ -104,7 +107,7 @@ fn add_parts(row: &mut [u32], w: u32, v: u32, most: u32)
     let mut m = lesser(1, most);
     while m < most {
         let part = lesser(m + 1, most - m);
-        add_one(row, w * part % 65_536, v * part);
+        add_one(row, w * part % BUDGETS, v * part);
         m += part;
     }
 }
@@ -150,6 +153,9 @@ fn climb(row: &mut [u32], w: u32, v: u32)
     }
 }
 
+// So much weighs enough: a stretch of so many cells runs in vectors. What weighs less is also told to the compiler, by a remainder (BUDGETS).
+const HEAVY: u32 = 16;
+
 // Light labels are bundled: the row is made to hold fewer than a bundle of the label, and the size of a bundle is given. A bundle is
 // heavy enough for stretches that run in vectors, or is the label alone.
 fn bundle(row: &mut [u32], w: u32, v: u32) -> u32
@@ -158,8 +164,8 @@ fn bundle(row: &mut [u32], w: u32, v: u32) -> u32
     ensures { λ r. ⌜ Bundled (now (row .entry)) (now (row .exit)) w v (length (now (row .entry))) r ⌝ }
 {
     let mut m: u32 = 1;
-    while w * m < 16 {
-        add_one(row, w * m % 16, v * m);
+    while w * m < HEAVY {
+        add_one(row, w * m % HEAVY, v * m);
         m *= 2;
     }
     m
