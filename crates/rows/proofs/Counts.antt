@@ -3,7 +3,8 @@
 use mathlib.Core.Path.{_≡_, refl, sym, ap, _∙_}
 use mathlib.Core.Logic.{_⊎_, inl, inr}
 use Prim.Native.Nat.{ℕ, zero, suc, _+_, _-_, _*_, _/_, _%_, _≤_, _<_, min}
-use native.Mathlib.Nat.{le-antisymm, mul-add, mul-zero, mul-one, mul-comm, mul-le-mul-left, mul-le-mul-right, mul-assoc, div-add-mod, mod-lt, sub-add-cancel, le-div-iff-mul-le, one-mul}
+use native.Mathlib.Nat.{mul-add, mul-zero, mul-one, one-mul, mul-comm, mul-assoc, mul-le-mul-left, mul-le-mul-right}
+use native.Mathlib.Nat.{le-antisymm, sub-add-cancel, div-add-mod, mod-lt, le-div-iff-mul-le}
 use native.Mathlib.Omega.{arith}
 use Rattle.meaning.specs.Lists.{at}
 use Rattle.meaning.specs.Job.{Job, Knapsack}
@@ -30,7 +31,8 @@ greatest-may May Can f w v c b to from d = record {
 }
 
 -- a count that is over what the whole budget holds makes no difference
-pub greatest-limit : (f : ℕ → ℕ) (w v c b limit budget : ℕ) → 1 ≤ w → c ≤ budget → Greatest (λ x. x ≤ min limit (budget / w)) f w v c b → Greatest (λ x. x ≤ limit) f w v c b
+pub greatest-limit : (f : ℕ → ℕ) (w v c b limit budget : ℕ) → 1 ≤ w → c ≤ budget
+    → Greatest (λ x. x ≤ min limit (budget / w)) f w v c b → Greatest (λ x. x ≤ limit) f w v c b
 greatest-limit f w v c b limit budget pos h =
     greatest-may (λ x. x ≤ min limit (budget / w)) (λ x. x ≤ limit) f w v c b (λ x m. omega arith)
     (λ x l m. let fits : x ≤ budget / w = le-div-iff-mul-le pos .1 (omega (arith, mul-comm x w)) in omega arith)
@@ -60,7 +62,8 @@ greatest-none f w v c = record {
 -- h is `base` raised by s of the label at once over `less`. Where `base` holds the counts of one sort over f, and `less` those of another, h holds
 -- those of the first, and those of the second with s more
 module _ (First Second Both : ℕ → Type 0) (s : ℕ)
-    (either : (x : ℕ) → Both x → First x ⊎ ((s ≤ x) × Second (x - s))) (as-first : (x : ℕ) → First x → Both x) (with-more : (x : ℕ) → Second x → Both (x + s))
+    (either : (x : ℕ) → Both x → First x ⊎ ((s ≤ x) × Second (x - s)))
+    (as-first : (x : ℕ) → First x → Both x) (with-more : (x : ℕ) → Second x → Both (x + s))
     (f base less h : ℕ → ℕ) (w v width : ℕ) (up : Raised base less h (w * s) (v * s) width) (c : ℕ) (inside : c < width)
     (bases : Greatest First f w v c (base c)) (lesses : w * s ≤ c → Greatest Second f w v (c - w * s) (less (c - w * s))) where
   -- no count is worth more than one of the two
@@ -70,7 +73,9 @@ module _ (First Second Both : ℕ → Type 0) (s : ℕ)
         | inl m ↦ inl (bases .above x y m r)
         | inr (large, m) ↦
             let light : w * s ≤ c = omega (arith, r .spent, apart w x s large) in
-            let others = lesses light .above (x - s) (f (r .left) + v * (x - s)) m (record { left = r .left; spent = omega (arith, r .spent, apart w x s large); worth = refl }) in
+            let fewer : Worth f w v (c - w * s) (x - s) (f (r .left) + v * (x - s)) =
+            record { left = r .left; spent = omega (arith, r .spent, apart w x s large); worth = refl } in
+            let others = lesses light .above (x - s) (f (r .left) + v * (x - s)) m fewer in
             inr (light, omega (arith, r .worth, apart v x s large))
       ]
 
@@ -130,7 +135,8 @@ module _ (f g : ℕ → ℕ) (w v width : ℕ) (pos : 1 ≤ w) (up : Raised f g 
   greatest-any c h = any-below (suc c) c (omega arith) h
 
 -- counts up to m - 1, and then any number of m at once: any count is within reach
-module _ (f g h : ℕ → ℕ) (w v m width : ℕ) (pos : 1 ≤ m) (fewer : GreatestRow (λ x. x ≤ m - 1) f w v width g) (bundles : GreatestRow AnyCount g (w * m) (v * m) width h) where
+module _ (f g h : ℕ → ℕ) (w v m width : ℕ) (pos : 1 ≤ m)
+    (fewer : GreatestRow (λ x. x ≤ m - 1) f w v width g) (bundles : GreatestRow AnyCount g (w * m) (v * m) width h) where
   pub greatest-bundles : GreatestRow AnyCount f w v width h
   unfolding GreatestRow
   greatest-bundles c inside =
@@ -151,14 +157,16 @@ module _ (f g h : ℕ → ℕ) (w v m width : ℕ) (pos : 1 ≤ m) (fewer : Grea
             let weights : w * x ≡ w * s + w * m * q = ap (λ (n : ℕ). w * n) parts ∙ omega (arith, mul-add w s (m * q), mul-assoc w m q) in
             let values : v * x ≡ v * s + v * m * q = ap (λ (n : ℕ). v * n) parts ∙ omega (arith, mul-add v s (m * q), mul-assoc v m q) in
             let mid = r .left + w * s in
-            let under = fewer mid (omega (arith, r .spent)) .above s (f (r .left) + v * s) (omega (arith, mod-lt x pos)) (record { left = r .left; spent = refl; worth = refl }) in
+            let rest : Worth f w v mid s (f (r .left) + v * s) = record { left = r .left; spent = refl; worth = refl } in
+            let under = fewer mid (omega (arith, r .spent)) .above s (f (r .left) + v * s) (omega (arith, mod-lt x pos)) rest in
             omega (arith, r .worth, d .above q (g mid + v * m * q) tt (record { left = mid; spent = omega (arith, r .spent); worth = refl }));
       }
 
 -- ---- what a row comes to
 
 -- over a capped row, whatever may be picked
-pub greatest-capped : (May : ℕ → Type 0) (f g : ℕ → ℕ) (w v width : ℕ) → 1 ≤ w → v ≤ mostValue → Capped f width → GreatestRow May f w v width g → Capped g width
+pub greatest-capped : (May : ℕ → Type 0) (f g : ℕ → ℕ) (w v width : ℕ) → 1 ≤ w → v ≤ mostValue
+    → Capped f width → GreatestRow May f w v width g → Capped g width
 unfolding Capped GreatestRow mostValue
 greatest-capped May f g w v width pos cheap capped greatest c h =
     let d = greatest c h .made in
@@ -169,7 +177,8 @@ greatest-capped May f g w v width pos cheap capped greatest c h =
 
 -- the row of the first i labels with label i is the row of the first i + 1
 pub greatest-best : (k : Knapsack) (j : Job) (i width : ℕ) (f g : ℕ → ℕ) → ((c : ℕ) → c < width → BestValue k j i c (f c))
-    → GreatestRow (MayPick k (at (j .copies) i)) f (at (j .weights) i) (at (j .values) i) width g → (c : ℕ) → c < width → BestValue k j (suc i) c (g c)
+    → GreatestRow (MayPick k (at (j .copies) i)) f (at (j .weights) i) (at (j .values) i) width g
+    → (c : ℕ) → c < width → BestValue k j (suc i) c (g c)
 unfolding GreatestRow
 greatest-best k j i width f g rows greatest c h =
     let d = greatest c h in

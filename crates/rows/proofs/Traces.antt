@@ -105,7 +105,8 @@ module _ {o : Order} (most : Most o) (leads : ℕ → ℕ → Bool) (ws : List �
       settled = λ q g l h. absurd (omega arith);
       on = λ q r chosen t.
           subst (Chosen o n (Good budget))
-          (ext-getD 0 q r (long budget q (chosen .one-of) ∙ sym (t .counts)) (λ m h. let h′ : m < n = omega (arith, long budget q (chosen .one-of)) in omega (arith, t .each m h′, zeros m h′)))
+          (ext-getD 0 q r (long budget q (chosen .one-of) ∙ sym (t .counts))
+          (λ m h. let h′ : m < n = omega (arith, long budget q (chosen .one-of)) in omega (arith, t .each m h′, zeros m h′)))
           chosen;
     }
     come first (taken {k} {c} {picks = p} trace inside on) =
@@ -121,7 +122,8 @@ module _ {o : Order} (most : Most o) (leads : ℕ → ℕ → Bool) (ws : List �
           on = λ q r chosen t.
               d .on (one-more q m) r
               (greedy-step o most n (Good c) (Good (c - at ws m)) m m< (long c) (long (c - at ws m)) (fewer m c m< within on)
-              (λ i h earlier q′ g. subst (λ (x : ℕ). at q′ x ≡ 0) (turn-back most n i h) (d .settled q′ g (turnOf o n i) (turn-earlier most n k i inside h earlier)))
+              (λ i h earlier q′ g.
+              subst (λ (x : ℕ). at q′ x ≡ 0) (turn-back most n i h) (d .settled q′ g (turnOf o n i) (turn-earlier most n k i inside h earlier)))
               q chosen (more m c m< within on q (chosen .one-of)))
               (together-more p q r m m< (trace-long trace) (long (c - at ws m) q (chosen .one-of)) t);
         }
@@ -146,5 +148,7 @@ module _ {o : Order} (most : Most o) (leads : ℕ → ℕ → Bool) (ws : List �
         λ q′ g m h. subst (λ (x : ℕ). at q′ x ≡ 0) (turn-back most n m h) (d .settled q′ g (turnOf o n m) (turn-within most n m h)) in
         d .on q p
         (only-choice o n (Good c) q good
-        (λ q′ g. ext-getD 0 q′ q (long c q′ g ∙ sym (long c q good)) (λ m h. let h′ : m < n = omega (arith, long c q′ g) in zero-at q′ g m h′ ∙ sym (zero-at q good m h′))))
+        (λ q′ g.
+        ext-getD 0 q′ q (long c q′ g ∙ sym (long c q good))
+        (λ m h. let h′ : m < n = omega (arith, long c q′ g) in zero-at q′ g m h′ ∙ sym (zero-at q good m h′))))
         (record { counts = trace-long trace; each = λ m h. omega (arith, zero-at q good m h) })

@@ -1,4 +1,4 @@
--- No second choice is left: two slices that meet the promise of a function of this crate are the same. That two least counts are is `least-unique` (Counts).
+-- No second choice is left: two slices that meet the promise of a function of this crate are the same. Two least counts: `least-unique` (Counts).
 -- A slice keeps its length through a call, which no record of cells says again: these laws are handed it.
 -- Assumes nothing.
 use mathlib.Core.Path.{_≡_, sym, _∙_}

@@ -5,7 +5,8 @@ ghost use Prim.Native.Nat.{ℕ, _+_, _-_, _*_, _/_, _≤_, _<_, max, min};
 ghost use lib.ListN.{length};
 ghost use Rattle.meaning.specs.Lists.{at};
 ghost use Rattle.meaning.specs.Bounds.{mostBudget, mostValue};
-ghost use Rattle.rows.specs.Rows.{GreatestRow, AnyCount, SomeCount, Least, Raised, Swept, raisedBy, Stored, FirstAlone, Capped, Repeated, Bundled, NextRow, leadsOn};
+ghost use Rattle.rows.specs.Rows.{Stored, FirstAlone, Swept, raisedBy, Raised, Capped, Repeated, Bundled, NextRow};
+ghost use Rattle.rows.specs.Rows.{GreatestRow, AnyCount, SomeCount, Least, leadsOn};
 
 // The lesser of two numbers.
 fn lesser(a: u32, b: u32) -> u32
@@ -65,7 +66,8 @@ fn copy(cells: &mut [u32], from: usize, to: usize, count: usize)
 fn raise(cells: &mut [u32], from: usize, to: usize, width: usize, w: usize, v: u32)
     requires { ⌜ (w ≤ width) × ((from + width ≤ to) × (to + width ≤ length (now cells))) ⌝ }
     requires { ⌜ ((c : ℕ) → c + w < width → at (now cells) (from + c) + v < 4_294_967_296) ⌝ }
-    ensures { λ _. ⌜ Stored (now (cells .entry)) (now (cells .exit)) to w width (λ c. max (at (now (cells .entry)) (from + c)) (at (now (cells .entry)) (from + (c - w)) + v)) ⌝ }
+    ensures { λ _. ⌜ Stored (now (cells .entry)) (now (cells .exit)) to w width
+        (λ c. max (at (now (cells .entry)) (from + c)) (at (now (cells .entry)) (from + (c - w)) + v)) ⌝ }
 {
     let mut c = w;
     while c < width {

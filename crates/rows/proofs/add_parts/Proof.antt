@@ -20,7 +20,7 @@ Inv-loop row₀ w v most m₀ row m =
     × (length row ≡ length row₀)
     × Capped (at row) (length row₀)
     × ((f : ℕ → ℕ) → GreatestRow (λ x. x ≤ min 1 most) f w v (length row₀) (at row₀)
-        → GreatestRow (λ x. x ≤ m) f w v (length row₀) (at row))
+    → GreatestRow (λ x. x ≤ m) f w v (length row₀) (at row))
 
 abbrev μ-loop : tie.MeasureT-loop
 μ-loop row₀ w v most m₀ row m = most - m

@@ -43,15 +43,17 @@ loop-less c = search needs
 
 loop-again : tie.Need-loop-again Inv-loop μ-loop
 loop-again c =
-    let up = c .before .before in
-    let end = up .before .before .stretch-end in
-    let turn = up .before .before .before in
+    let raised = c .before .before in
+    let up = raised .raise-stretch in
+    let end = raised .before .before .stretch-end in
+    let turn = raised .before .before .before in
     let l = turn .before .loop in
     let s = entry (turn .before) in
-    let a = s .args in (
-      sweeping-on (raisedBy (a .v)) (a .row .now) (a .w) (a .w) (length (a .row .now)) (s .pre .0 .0) (omega arith) (l .c) (l .row) (omega (arith, l .inv .0 .long, turn .loop-test .taken)) (l .inv .0)
-          (end .result) (up .raise-stretch .last .0) (omega (arith, end .ensures)) (omega (arith, end .ensures)) (up .raise-stretch .kept .0) (up .raise-stretch .ensures .0),
-      rw (l .inv .0 .long) at (up .raise-stretch .ensures .1),
+    let a = s .args in
+    let width = length (a .row .now) in (
+      sweeping-on (raisedBy (a .v)) (a .row .now) (a .w) (a .w) width (s .pre .0 .0) (omega arith) (l .c) (l .row) (omega arith) (l .inv .0)
+          (end .result) (up .last .0) (omega (arith, end .ensures)) (omega (arith, end .ensures)) (up .kept .0) (up .ensures .0),
+      rw (l .inv .0 .long) at (up .ensures .1),
     )
 
 same-length : tie.Need-same-length Inv-loop μ-loop

@@ -48,8 +48,9 @@ loop-again c =
     let s = turn .before .before in
     let a = s .args in
     let l = turn .before .loop in
-    storing-more (a .cells .now) (a .to) 0 (a .count) (λ k. at (a .cells .now) (a .from + k)) (l .c) (a .to + l .c) (at (l .cells) (a .from + l .c)) (l .cells)
-    (turn .loop-test .taken) (s .pre .1) (l .inv) refl (l .inv .stored .before (a .from + l .c) (omega arith))
+    storing-more (a .cells .now) (a .to) 0 (a .count) (λ k. at (a .cells .now) (a .from + k))
+    (l .c) (a .to + l .c) (at (l .cells) (a .from + l .c)) (l .cells) (turn .loop-test .taken)
+    (s .pre .1) (l .inv) refl (l .inv .stored .before (a .from + l .c) (omega arith))
 
 same-length : tie.Need-same-length Inv-loop μ-loop
 same-length c = c .before .loop .inv .long

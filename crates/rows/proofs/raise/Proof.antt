@@ -86,8 +86,8 @@ loop-again c =
     let l = turn .before .loop in
     let kept = l .inv .stored .before in
     let less : a .from + l .c - a .w ≡ a .from + (l .c - a .w) = omega arith in
-    storing-more (a .cells .now) (a .to) (a .w) (a .width) (better (a .cells .now) (a .from) (a .w) (a .v)) (l .c) (a .to + l .c) (c .greater .result) (l .cells)
-    (turn .loop-test .taken) (s .pre .0 .1 .1) (l .inv) refl
+    storing-more (a .cells .now) (a .to) (a .w) (a .width) (better (a .cells .now) (a .from) (a .w) (a .v))
+    (l .c) (a .to + l .c) (c .greater .result) (l .cells) (turn .loop-test .taken) (s .pre .0 .1 .1) (l .inv) refl
     (c .greater .ensures ∙ rw (less, kept (a .from + l .c) (omega arith), kept (a .from + (l .c - a .w)) (omega arith)))
 
 same-length : tie.Need-same-length Inv-loop μ-loop

@@ -34,7 +34,8 @@ loop-again c =
     let s = c .before .before in
     let a = s .args in
     let l = c .before .loop in
-    storing-more (a .cells .now) 0 0 (a .width) (λ k. a .x) (l .c) (l .c) (a .x) (l .cells) (c .loop-test .taken) (omega arith) (l .inv) (omega arith) refl
+    storing-more (a .cells .now) 0 0 (a .width) (λ k. a .x)
+    (l .c) (l .c) (a .x) (l .cells) (c .loop-test .taken) (omega arith) (l .inv) (omega arith) refl
 
 same-length : tie.Need-same-length Inv-loop μ-loop
 same-length c = c .before .loop .inv .long
