@@ -78,8 +78,8 @@ fn trace_back(
     requires { ⌜ ((i c : ℕ) → i < length (listFrom (now weights) (now wbytes)) → c < width
         → SomeCount (rowOf (now cells) width i) (at (listFrom (now weights) (now wbytes)) i) (at (listFrom (now values) (now vbytes)) i)
         c (rowOf (now cells) width (suc i) c)) ⌝ }
-    ensures { λ r. ⌜ TraceBack (rowOf (now (cells .entry)) width) (listFrom (now (weights .entry)) (now (wbytes .entry))) (listFrom (now (values .entry)) (now (vbytes .entry)))
-        (length (listFrom (now (weights .entry)) (now (wbytes .entry)))) (width - 1) 0 r (now (picks .exit)) ⌝ }
+    ensures { λ r. ⌜ TraceBack (rowOf (now (cells .entry)) width) (listFrom (now (weights .entry)) (now (wbytes .entry)))
+        (listFrom (now (values .entry)) (now (vbytes .entry))) (length (listFrom (now (weights .entry)) (now (wbytes .entry)))) (width - 1) 0 r (now (picks .exit)) ⌝ }
 {
     let mut i = picks.len();
     let mut c = width - 1;
@@ -127,8 +127,8 @@ fn trace_along(
 ) -> usize
     requires { ⌜ Bounded (length (now row)) (listFrom (now weights) (now wbytes)) (listFrom (now values) (now vbytes)) ⌝ }
     requires { ⌜ Capped (at (now row)) (length (now row)) × (length (listFrom (now weights) (now wbytes)) ≡ length (now picks)) ⌝ }
-    ensures { λ r. ⌜ TraceAlong (at (now (row .entry))) (listFrom (now (weights .entry)) (now (wbytes .entry))) (listFrom (now (values .entry)) (now (vbytes .entry)))
-        (length (now (row .entry)) - 1) r (now (picks .exit)) ⌝ }
+    ensures { λ r. ⌜ TraceAlong (at (now (row .entry))) (listFrom (now (weights .entry)) (now (wbytes .entry)))
+        (listFrom (now (values .entry)) (now (vbytes .entry))) (length (now (row .entry)) - 1) r (now (picks .exit)) ⌝ }
 {
     let n = picks.len();
     rows::set_all(picks, n, 0);
@@ -210,8 +210,8 @@ fn one_row(
 ) -> Answer
     requires { ⌜ Unrefused (packing free) (jobOf 3 (budget ∷ []) (listFrom (now weights) (now wbytes)) (listFrom (now values) (now vbytes)) [])
         (lentOf (now cells) [] (now picks)) ⌝ }
-    ensures { λ r. ⌜ SolvedInCells (jobOf 3 (budget ∷ []) (listFrom (now (weights .entry)) (now (wbytes .entry))) (listFrom (now (values .entry)) (now (vbytes .entry))) [])
-        (now (cells .entry)) (now (picks .entry)) r (now (cells .exit)) (now (picks .exit)) ⌝ }
+    ensures { λ r. ⌜ SolvedInCells (jobOf 3 (budget ∷ []) (listFrom (now (weights .entry)) (now (wbytes .entry)))
+        (listFrom (now (values .entry)) (now (vbytes .entry))) []) (now (cells .entry)) (now (picks .entry)) r (now (cells .exit)) (now (picks .exit)) ⌝ }
 {
     let n = numbers::list_length(weights, wbytes);
     let width = budget as usize + 1;

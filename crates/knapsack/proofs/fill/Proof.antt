@@ -104,7 +104,8 @@ next-row-requires c κs =
       (
         (rw w (b .heavy (l .i) (inside now)), rw v (b .cheap (l .i) (inside now))),
         rw (l .inv .1)
-            (filled-capped (weights s) (values s) (limits s) (a .width) b (l .i) (l .cells) (omega (arith, inside now)) (l .inv .3) (l .i) (omega arith)),
+            (filled-capped (weights s) (values s) (limits s) (a .width) b (l .i) (l .cells)
+            (omega (arith, inside now)) (l .inv .3) (l .i) (omega arith)),
       ),
     )
 
