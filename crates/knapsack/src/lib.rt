@@ -79,7 +79,8 @@ fn trace_back(
         → SomeCount (rowOf (now cells) width i) (at (listFrom (now weights) (now wbytes)) i) (at (listFrom (now values) (now vbytes)) i)
         c (rowOf (now cells) width (suc i) c)) ⌝ }
     ensures { λ r. ⌜ TraceBack (rowOf (now (cells .entry)) width) (listFrom (now (weights .entry)) (now (wbytes .entry)))
-        (listFrom (now (values .entry)) (now (vbytes .entry))) (length (listFrom (now (weights .entry)) (now (wbytes .entry)))) (width - 1) 0 r (now (picks .exit)) ⌝ }
+        (listFrom (now (values .entry)) (now (vbytes .entry))) (length (listFrom (now (weights .entry)) (now (wbytes .entry))))
+        (width - 1) 0 r (now (picks .exit)) ⌝ }
 {
     let mut i = picks.len();
     let mut c = width - 1;
@@ -211,7 +212,8 @@ fn one_row(
     requires { ⌜ Unrefused (packing free) (jobOf 3 (budget ∷ []) (listFrom (now weights) (now wbytes)) (listFrom (now values) (now vbytes)) [])
         (lentOf (now cells) [] (now picks)) ⌝ }
     ensures { λ r. ⌜ SolvedInCells (jobOf 3 (budget ∷ []) (listFrom (now (weights .entry)) (now (wbytes .entry)))
-        (listFrom (now (values .entry)) (now (vbytes .entry))) []) (now (cells .entry)) (now (picks .entry)) r (now (cells .exit)) (now (picks .exit)) ⌝ }
+        (listFrom (now (values .entry)) (now (vbytes .entry))) [])
+        (now (cells .entry)) (now (picks .entry)) r (now (cells .exit)) (now (picks .exit)) ⌝ }
 {
     let n = numbers::list_length(weights, wbytes);
     let width = budget as usize + 1;
