@@ -22,22 +22,25 @@ abbrev μ-loop : tie.MeasureT-loop
 μ-loop weights wbytes row₀ width n i₀ row i = n - i
 
 -- the function's entry
-abbrev entry : tie.After-set-all Inv-loop μ-loop → tie.Start Inv-loop μ-loop
-entry c = c .before .before .before .before .before
+abbrev begun : tie.After-set-all-arg Inv-loop μ-loop → tie.Start Inv-loop μ-loop
+begun c = c .before .before .before .before
 
--- the cells of no sizes, from the loop's head
+-- the cells of no sizes, from the loop's head, and the entry from there
 abbrev cleared : tie.At-loop Inv-loop μ-loop → tie.After-set-all Inv-loop μ-loop
 cleared c = c .before .before .before .before
+
+abbrev entry : tie.At-loop Inv-loop μ-loop → tie.Start Inv-loop μ-loop
+entry c = begun (cleared c .before)
 
 -- the sizes that the function is handed
 abbrev sizes : tie.Start Inv-loop μ-loop → List ℕ
 sizes s = listFrom (s .args .weights .now) (s .args .wbytes .now)
 
-long : (c : tie.At-loop Inv-loop μ-loop) → length (c .loop .row) ≡ length (entry (cleared c) .args .row .now)
+long : (c : tie.At-loop Inv-loop μ-loop) → length (c .loop .row) ≡ length (entry c .args .row .now)
 long c = c .loop .inv .long ∙ simp length-set (cleared c .set-all .kept .0)
 
 -- size i is one of them
-inside : (c : tie.In-loop Inv-loop μ-loop) → c .before .loop .i < length (sizes (entry (cleared (c .before))))
+inside : (c : tie.In-loop Inv-loop μ-loop) → c .before .loop .i < length (sizes (entry (c .before)))
 inside c = omega (arith, c .before .before .list-length .ensures)
 
 set-all-requires : tie.Need-set-all-requires Inv-loop μ-loop
@@ -54,7 +57,7 @@ unfolding noWay
 loop-holds c =
     let first = c .before .before .before in
     let marks = first .set-all in
-    rounds-none (alone (marks .last .0) 0 noWay _ (omega (arith, marks .kept .0, entry first .pre .wide))
+    rounds-none (alone (marks .last .0) 0 noWay _ (omega (arith, marks .kept .0, begun (first .before) .pre .wide))
     (λ a h. stored-each _ _ _ (λ k. noWay) (marks .ensures) a (omega (arith, marks .kept .0, simp length-set at h))))
 
 item-requires : tie.Need-item-requires Inv-loop μ-loop
@@ -63,7 +66,7 @@ item-requires c κs = inside (c .before)
 lay-requires : tie.Need-lay-requires Inv-loop μ-loop
 lay-requires c κs =
     let turn = c .before .before in
-    rw (c .item .ensures) (entry (cleared (turn .before)) .pre .whole (turn .before .loop .i) (inside turn))
+    rw (c .item .ensures) (entry (turn .before) .pre .whole (turn .before .loop .i) (inside turn))
 
 add-i : tie.Need-add-i Inv-loop μ-loop
 add-i c = search needs

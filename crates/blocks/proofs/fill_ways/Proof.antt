@@ -20,22 +20,25 @@ abbrev μ-loop : tie.MeasureT-loop
 μ-loop weights wbytes words₀ n i₀ words i = n - i
 
 -- the function's entry
-abbrev entry : tie.After-first-alone Inv-loop μ-loop → tie.Start Inv-loop μ-loop
-entry c = c .before .before .before .before .before
+abbrev begun : tie.After-first-alone-arg Inv-loop μ-loop → tie.Start Inv-loop μ-loop
+begun c = c .before .before .before .before
 
--- the words of no sizes, from the loop's head
+-- the words of no sizes, from the loop's head, and the entry from there
 abbrev cleared : tie.At-loop Inv-loop μ-loop → tie.After-first-alone Inv-loop μ-loop
 cleared c = c .before .before .before .before
+
+abbrev entry : tie.At-loop Inv-loop μ-loop → tie.Start Inv-loop μ-loop
+entry c = begun (cleared c .before)
 
 -- the sizes that the function is handed
 abbrev sizes : tie.Start Inv-loop μ-loop → List ℕ
 sizes s = listFrom (s .args .weights .now) (s .args .wbytes .now)
 
-long : (c : tie.At-loop Inv-loop μ-loop) → length (c .loop .words) ≡ length (entry (cleared c) .args .words .now)
+long : (c : tie.At-loop Inv-loop μ-loop) → length (c .loop .words) ≡ length (entry c .args .words .now)
 long c = c .loop .inv .long ∙ cleared c .first-alone .kept .0
 
 -- size i is one of them
-inside : (c : tie.In-loop Inv-loop μ-loop) → c .before .loop .i < length (sizes (entry (cleared (c .before))))
+inside : (c : tie.In-loop Inv-loop μ-loop) → c .before .loop .i < length (sizes (entry (c .before)))
 inside c = omega (arith, c .before .before .list-length .ensures)
 
 first-alone-requires : tie.Need-first-alone-requires Inv-loop μ-loop
@@ -53,7 +56,7 @@ item-requires c κs = inside (c .before)
 count-requires : tie.Need-count-requires Inv-loop μ-loop
 count-requires c κs =
     let turn = c .before .before in
-    rw (c .item .ensures) (entry (cleared (turn .before)) .pre .whole (turn .before .loop .i) (inside turn))
+    rw (c .item .ensures) (entry (turn .before) .pre .whole (turn .before .loop .i) (inside turn))
 
 add-i : tie.Need-add-i Inv-loop μ-loop
 add-i c = search needs

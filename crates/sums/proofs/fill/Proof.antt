@@ -20,15 +20,16 @@ Inv-loop weights wbytes words₀ n i₀ words i =
 abbrev μ-loop : tie.MeasureT-loop
 μ-loop weights wbytes words₀ n i₀ words i = n - i
 
--- the function's entry, and the words of no labels from the loop's head
-abbrev entry : tie.After-first-alone Inv-loop μ-loop → tie.Start Inv-loop μ-loop
-entry c = c .before .before .before .before .before
-
+-- the words of no labels, from the loop's head
 abbrev cleared : tie.At-loop Inv-loop μ-loop → tie.After-first-alone Inv-loop μ-loop
 cleared c = c .before .before .before .before
 
+-- the function's entry
+abbrev begun : tie.After-first-alone-arg Inv-loop μ-loop → tie.Start Inv-loop μ-loop
+begun c = c .before .before .before .before
+
 -- the words are as long as they were lent
-long : (c : tie.At-loop Inv-loop μ-loop) → length (c .loop .words) ≡ length (entry (cleared c) .args .words .now)
+long : (c : tie.At-loop Inv-loop μ-loop) → length (c .loop .words) ≡ length (begun (cleared c .before) .args .words .now)
 long c = c .loop .inv .long ∙ cleared c .first-alone .kept .0
 
 first-alone-requires : tie.Need-first-alone-requires Inv-loop μ-loop
