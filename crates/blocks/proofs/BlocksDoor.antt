@@ -65,7 +65,8 @@ module _ (j : Job) (cells picks row : List ℕ) (ok : Unrefused fewest-blocks j 
       (holds-front row cells (j .budget + 1) long) in-picks
 
   -- where the last cell shows the mark, there is no such sum: the picks are unchanged
-  pub no-blocks : (blocks : ℕ) → blocks ≡ at row (j .budget) → blocks ≡ noWay → SolvedInCells j cells picks (Says.Refused 7) (row ++ drop (j .budget + 1) cells) picks
+  pub no-blocks : (blocks : ℕ) → blocks ≡ at row (j .budget) → blocks ≡ noWay
+      → SolvedInCells j cells picks (Says.Refused 7) (row ++ drop (j .budget + 1) cells) picks
   unfolding Gives Built Holds
   no-blocks blocks e mark = leaves (Says.Refused 7) [] picks (no-such-sum (go (shows (j .budget) (omega arith))) refl refl) refl
     where
@@ -73,14 +74,17 @@ module _ (j : Job) (cells picks row : List ℕ) (ok : Unrefused fewest-blocks j 
       go (shown d least) q m = omega (arith, below (j .budget) (at row (j .budget)) (omega arith) d)
       go (none-shown none e) q m = none (sum q) (record { picks = q; makes = m; blocks = refl })
 
-  -- elsewhere the way down finds the chosen blocks, and the cell says how many
-  pub blocks-laid : (blocks n : ℕ) (found : List ℕ) → blocks ≡ at row (j .budget) → ¬ (blocks ≡ noWay) → n ≡ labels j → TraceDown (at row) (j .weights) (j .budget) found
+  -- elsewhere the trace down finds the chosen blocks, and the cell says how many
+  pub blocks-laid : (blocks n : ℕ) (found : List ℕ) → blocks ≡ at row (j .budget) → ¬ (blocks ≡ noWay) → n ≡ labels j
+      → TraceDown (at row) (j .weights) (j .budget) found
       → SolvedInCells j cells picks (Says.Blocks blocks) (row ++ drop (j .budget + 1) cells) (found ++ drop n picks)
   unfolding Gives Built Laid
-  blocks-laid blocks n found e other counts way =
-      let laid : Laid j (j .budget) found = down-laid j (at row) (j .budget) shows marked found (omega (arith, marked (j .budget) (omega arith))) way in
+  blocks-laid blocks n found e other counts trace =
+      let some-way : at row (j .budget) < noWay = omega (arith, marked (j .budget) (omega arith)) in
+      let laid : Laid j (j .budget) found = down-laid j (at row) (j .budget) shows marked found some-way trace in
       let many : blocks ≡ sum found = e ∙ sym (fewest-row j (at row) (j .budget) shows marked (j .budget) (omega arith) found (laid .one-of)) in
-      leaves (Says.Blocks blocks) found (found ++ drop n picks) (a-sum (laid .one-of .makes) laid (ap (λ (b : ℕ). answerNumbers (Says.Blocks b)) many))
+      leaves (Says.Blocks blocks) found (found ++ drop n picks)
+      (a-sum (laid .one-of .makes) laid (ap (λ (b : ℕ). answerNumbers (Says.Blocks b)) many))
       (holds-front found picks n (laid .one-of .makes .one-each ∙ sym counts))
 
 -- ---- kind 6
@@ -92,7 +96,8 @@ module _ (j : Job) (words row : List ℕ) (ok : Unrefused block-ways j (lentOf [
   ways-shown a h = grown-ways j (j .budget + 1) bounds row made a (omega arith)
 
   -- the table is complete, and what is answered goes by the ways for the budget alone
-  leaves-ways : (a : Answer) → ((many : ℕ) → at row (j .budget) ≡ min many tooMany → a ≡ waysAnswer many) → SolvedInWords j words a (row ++ drop (j .budget + 1) words)
+  leaves-ways : (a : Answer) → ((many : ℕ) → at row (j .budget) ≡ min many tooMany → a ≡ waysAnswer many)
+      → SolvedInWords j words a (row ++ drop (j .budget + 1) words)
   unfolding Gives TableHolds WaysRow roomFor roomOf lentOf
   leaves-ways a right =
       let d = ways-shown (j .budget) (omega arith) in
@@ -101,12 +106,14 @@ module _ (j : Job) (words row : List ℕ) (ok : Unrefused block-ways j (lentOf [
       ways-shown long (holds-front row words (j .budget + 1) long)
 
   -- a full cell: too many to count
-  pub too-many : (found : ℕ) → found ≡ at row (j .budget) → found ≡ tooMany → SolvedInWords j words (Says.Refused 8) (row ++ drop (j .budget + 1) words)
+  pub too-many : (found : ℕ) → found ≡ at row (j .budget) → found ≡ tooMany
+      → SolvedInWords j words (Says.Refused 8) (row ++ drop (j .budget + 1) words)
   unfolding waysAnswer if
   too-many found e full = leaves-ways (Says.Refused 8) (λ many lesser. rw (le-ltb many tooMany (omega arith)))
 
   -- any other is their number
-  pub ways-counted : (found : ℕ) → found ≡ at row (j .budget) → ¬ (found ≡ tooMany) → SolvedInWords j words (Says.Ways found) (row ++ drop (j .budget + 1) words)
+  pub ways-counted : (found : ℕ) → found ≡ at row (j .budget) → ¬ (found ≡ tooMany)
+      → SolvedInWords j words (Says.Ways found) (row ++ drop (j .budget + 1) words)
   unfolding waysAnswer if
   ways-counted found e other =
       leaves-ways (Says.Ways found)
@@ -120,11 +127,13 @@ pub asks-blocks : (budget kind : ℕ) (ws cells words picks : List ℕ) → kind
 unfolding jobOf numberOf roomFor roomOf lentOf
 asks-blocks budget kind ws cells words picks e (blocks-asked ok) =
     subst (λ (k : ℕ). Unrefused fewest-blocks (jobOf k (budget ∷ []) ws [] []) (lentOf cells [] picks)) e
-    (still-unrefused fewest-blocks (jobOf kind (budget ∷ []) ws [] []) (lentOf cells words picks) (lentOf cells [] picks) (as-long refl) (not-needed refl) (as-long refl) ok)
+    (still-unrefused fewest-blocks (jobOf kind (budget ∷ []) ws [] []) (lentOf cells words picks) (lentOf cells [] picks)
+    (as-long refl) (not-needed refl) (as-long refl) ok)
 asks-blocks budget kind ws cells words picks e (ways-asked ok) = absurd (omega (arith, kind-number kind block-ways (ok .of-kind)))
 
 -- and another for ways
-pub asks-ways : (budget kind : ℕ) (ws cells words picks : List ℕ) → ¬ (kind ≡ 5) → LetIn (jobOf kind (budget ∷ []) ws [] []) (lentOf cells words picks)
+pub asks-ways : (budget kind : ℕ) (ws cells words picks : List ℕ) → ¬ (kind ≡ 5)
+    → LetIn (jobOf kind (budget ∷ []) ws [] []) (lentOf cells words picks)
     → (kind ≡ 6) × Unrefused block-ways (jobOf 6 (budget ∷ []) ws [] []) (lentOf [] words [])
 unfolding jobOf numberOf roomFor roomOf lentOf
 asks-ways budget kind ws cells words picks other (blocks-asked ok) = absurd (other (kind-number kind fewest-blocks (ok .of-kind)))
@@ -132,5 +141,6 @@ asks-ways budget kind ws cells words picks other (ways-asked ok) =
     let six : kind ≡ 6 = kind-number kind block-ways (ok .of-kind) in (
       six,
       subst (λ (k : ℕ). Unrefused block-ways (jobOf k (budget ∷ []) ws [] []) (lentOf [] words [])) six
-          (still-unrefused block-ways (jobOf kind (budget ∷ []) ws [] []) (lentOf cells words picks) (lentOf [] words []) (not-needed refl) (as-long refl) (not-needed refl) ok),
+          (still-unrefused block-ways (jobOf kind (budget ∷ []) ws [] []) (lentOf cells words picks) (lentOf [] words [])
+          (not-needed refl) (as-long refl) (not-needed refl) ok),
     )

@@ -1,4 +1,4 @@
--- The rows as they are made size by size: one argument for the fewest blocks and for the ways.
+-- The rows as they are made size by size: one argument for the fewest blocks and for the ways, and one loop.
 -- Assumes nothing.
 use mathlib.Core.Path.{subst, sym}
 use Prim.Native.Nat.{ℕ, zero, suc, _+_, _-_, _≤_, _<_}
@@ -13,15 +13,20 @@ use Rattle.meaning.specs.Blocks.{MadeOf, WaysShown, tooMany}
 use Rattle.meaning.proofs.Making.{few-blocks, fewest-none, fewest-no-sizes, fewest-skip, fewest-more, ways-none, no-sizes, ways-skip, ways-more}
 use Rattle.rows.specs.Rows.{Swept, FirstAlone}
 use Rattle.rows.proofs.Stores.{by}
-use Rattle.rows.proofs.Rounds.{each-round}
+use Rattle.rows.proofs.Rounds.{each-round, Rounds}
 use Rattle.blocks.specs.Sizes.{Bounded, fewerOf, waysOf, Grown}
+
+-- the loop over n sizes: i of them have made the row
+abbrev pub Growing : (ℕ → ℕ → ℕ) → ℕ → ℕ → List ℕ → ℕ → ℕ → ℕ → List ℕ → Type 0
+Growing rule one none sizes n width i row = Rounds (FirstAlone one none) (λ wide m s t. Swept rule s t (at sizes m) (at sizes m) wide) n width i row
 
 -- `Shows i a x`: x is right for the first i sizes and amount a. Where the cells with no sizes are right, and the rule makes a right cell of
 -- the one without a size and the one for the rest, all cells are right
 module _ (rule : ℕ → ℕ → ℕ) (one none : ℕ) (sizes : List ℕ) (width : ℕ) (bounds : Bounded width sizes) (Shows : ℕ → ℕ → ℕ → Type 0)
     (first : Shows 0 0 one) (others : (a : ℕ) → 0 < a → Shows 0 a none)
     (skip : (i a x : ℕ) → a < at sizes i → Shows i a x → Shows (suc i) a x)
-    (more : (i a x y : ℕ) → i < length sizes → a < width → at sizes i ≤ a → Shows i a x → Shows (suc i) (a - at sizes i) y → Shows (suc i) a (rule x y)) where
+    (more : (i a x y : ℕ) → i < length sizes → a < width → at sizes i ≤ a
+    → Shows i a x → Shows (suc i) (a - at sizes i) y → Shows (suc i) a (rule x y)) where
   -- with one size more, for the amounts below n
   one-more-size : (i : ℕ) (row next : List ℕ) → i < length sizes → ((a : ℕ) → a < width → Shows i a (at row a))
       → Swept rule row next (at sizes i) (at sizes i) width → (n a : ℕ) → a < n → a < width → Shows (suc i) a (at next a)

@@ -1,4 +1,4 @@
--- Kind 5: the way down the sizes finds the chosen blocks.
+-- Kind 5: the trace down the sizes finds the chosen blocks.
 -- Assumes nothing.
 use mathlib.Core.Path.{_≡_, refl}
 use Prim.Native.Nat.{ℕ, suc, _+_, _-_, _≤_, _<_}
@@ -18,10 +18,10 @@ use Rattle.meaning.specs.Blocks.{Makes, Fewest, Laid, blockOrder, MadeOf}
 use Rattle.meaning.proofs.Totals.{one-more, one-fewer, more-sum, fewer-sum}
 use Rattle.meaning.proofs.Making.{makes-more, makes-less}
 use Rattle.meaning.proofs.Greedy.{last-is}
-use Rattle.rows.specs.Traces.{Trace, turnOf, taken, passed}
+use Rattle.rows.specs.Traces.{Trace, turnOf, start, taken, passed}
 use Rattle.rows.proofs.Stores.{by}
 use Rattle.rows.proofs.LeadsOn.{light-true, light-false}
-use Rattle.rows.proofs.Traces.{trace-chosen}
+use Rattle.rows.proofs.Traces.{trace-few, trace-chosen}
 use Rattle.blocks.specs.Sizes.{leavesFewer, leadsDown, TraceDown}
 
 -- what the test says where it passes, and where it fails
@@ -37,22 +37,37 @@ fewer-false row w a e light on = light-false w a (ltb (row (a - w)) (row a)) e l
 pub down-light : (row : ℕ → ℕ) (sizes : List ℕ) (m a : ℕ) → leadsDown row sizes m a ≡ true → at sizes m ≤ a
 down-light row sizes m a on = fewer-true row (at sizes m) a on .0
 
--- the steps of the way, by the number of sizes that are still to be settled
+-- the trace with i sizes still to be settled
+abbrev pub DownTo : (ℕ → ℕ) → List ℕ → ℕ → ℕ → ℕ → List ℕ → Type 0
+DownTo row sizes amount i a picks = Trace last-most (leadsDown row sizes) sizes (length sizes) amount (length sizes - i) a picks
+
+-- it begins with counts of 0
+pub down-begins : (row : ℕ → ℕ) (sizes : List ℕ) (amount i : ℕ) (picks : List ℕ) → length picks ≡ length sizes → i ≡ length sizes
+    → ((m : ℕ) → m < length sizes → at picks m ≡ 0) → DownTo row sizes amount i amount picks
+down-begins row sizes amount i picks long all zeros =
+    let none-yet : length sizes - i ≡ 0 = omega arith in rw none-yet (start {picks = picks} long zeros)
+
+-- no count passes the amount
+pub down-few : (row : ℕ → ℕ) (sizes : List ℕ) (amount i a : ℕ) (picks : List ℕ) → DownTo row sizes amount i a picks
+    → (m : ℕ) → 1 ≤ at sizes m → at picks m + a ≤ amount
+down-few row sizes amount i a picks trace = trace-few last-is (leadsDown row sizes) sizes (length sizes) amount (down-light row sizes) trace
+
+-- its steps
 module _ (row : ℕ → ℕ) (sizes : List ℕ) (amount i a : ℕ) (picks : List ℕ) (some-left : 0 < i) (inside : i ≤ length sizes)
-    (way : Trace last-most (leadsDown row sizes) sizes (length sizes) amount (length sizes - i) a picks) where
+    (trace : DownTo row sizes amount i a picks) where
   turn-now : turnOf last-most (length sizes) (length sizes - i) ≡ i - 1
   unfolding turnOf
   turn-now = omega arith
 
   pub down-taken : leadsDown row sizes (i - 1) a ≡ true
-      → Trace last-most (leadsDown row sizes) sizes (length sizes) amount (length sizes - i) (a - at sizes (i - 1)) (set picks (i - 1) (at picks (i - 1) + 1))
-  down-taken on = rw (add-one, ← turn-now) (taken way (omega arith) (rw turn-now on))
+      → DownTo row sizes amount i (a - at sizes (i - 1)) (set picks (i - 1) (at picks (i - 1) + 1))
+  down-taken on = rw (add-one, ← turn-now) (taken trace (omega arith) (rw turn-now on))
 
   pub down-passed : leadsDown row sizes (i - 1) a ≡ false
-      → Trace last-most (leadsDown row sizes) sizes (length sizes) amount (length sizes - (i - 1)) a picks
+      → DownTo row sizes amount (i - 1) a picks
   down-passed off =
       let next : suc (length sizes - i) ≡ length sizes - (i - 1) = omega arith in
-      rw (← next) (passed way (omega arith) (rw turn-now off))
+      rw (← next) (passed trace (omega arith) (rw turn-now off))
 
 -- `row` shows the fewest blocks up to the amount, none of them more than the mark for no way
 module _ (j : Job) (row : ℕ → ℕ) (amount : ℕ) (rows : (a : ℕ) → a ≤ amount → LeastShown (MadeOf j (labels j) a) (row a))
@@ -143,4 +158,4 @@ module _ (j : Job) (row : ℕ → ℕ) (amount : ℕ) (rows : (a : ℕ) → a �
   unfolding Laid blockOrder labels
   down-laid found some-way down =
       trace-chosen last-is (leadsDown row (j .weights)) (j .weights) (labels j) amount (down-light row (j .weights)) FewestAt long
-      left-fewest more-fewest fewer-fewest unused (down .left) found (some-fewest amount (omega arith) some-way) (down .way)
+      left-fewest more-fewest fewer-fewest unused (down .left) found (some-fewest amount (omega arith) some-way) (down .trace)

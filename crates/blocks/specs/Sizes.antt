@@ -49,7 +49,7 @@ leavesFewer row size a = leb size a && ltb (row (a - size)) (row a)
 abbrev pub leadsDown : (ℕ → ℕ) → List ℕ → ℕ → ℕ → Bool
 leadsDown row sizes m a = leavesFewer row (at sizes m) a
 
--- kind 5: the way down the sizes, from the last one at the whole amount, with all counts settled
+-- kind 5: the trace down the sizes, from the last one at the whole amount, with all counts settled
 pub record TraceDown (row : ℕ → ℕ) (sizes : List ℕ) (amount : ℕ) (picks : List ℕ) : Type 0 where
   pub left : ℕ
-  pub way : Trace last-most (leadsDown row sizes) sizes (length sizes) amount (length sizes) left picks
+  pub trace : Trace last-most (leadsDown row sizes) sizes (length sizes) amount (length sizes) left picks

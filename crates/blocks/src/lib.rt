@@ -17,6 +17,9 @@ ghost use Rattle.blocks.specs.BlocksDoor.{LetIn};
 
 // ---- kind 5: the fewest blocks
 
+// The mark for no way to make an amount (`noWay`): the greatest 32-bit number, which no number of blocks comes to.
+const NO_WAY: u32 = 4_294_967_295;
+
 // The fewest blocks for an amount, by those without a size and those for the rest. No sum passes 32 bits.
 fn fewer(without: u32, rest: u32) -> u32
     ensures { λ r. ⌜ r ≡ fewerOf without rest ⌝ }
@@ -36,12 +39,15 @@ fn lay_stretch(row: &mut [u32], from: usize, to: usize, w: usize)
     }
 }
 
-// Where a stretch of cells that starts at amount a ends. A stretch of one size runs in vectors; for light sizes that isn't worth its start.
+// A stretch of so many cells is worth the start of a vector loop.
+const HEAVY: usize = 16;
+
+// Where a stretch of cells that starts at amount a ends. One as long as the size runs in vectors; a light size has one for the whole row.
 fn lay_end(width: usize, a: usize, w: usize) -> usize
     requires { ⌜ (a < width) × (1 ≤ w) ⌝ }
     ensures { λ r. ⌜ (a < r) × (r ≤ width) ⌝ }
 {
-    if w < 16 {
+    if w < HEAVY {
         return width;
     }
     rows::stretch_end(width, a, w)
@@ -67,7 +73,7 @@ fn fill_fewest(weights: &[u32], wbytes: &[u8], row: &mut [u32])
     ensures { λ _. ⌜ FewestGrown (listFrom (now (weights .entry)) (now (wbytes .entry))) (length (now (row .entry))) (now (row .exit)) ⌝ }
 {
     let width = row.len();
-    rows::set_all(row, width, 4_294_967_295);
+    rows::set_all(row, width, NO_WAY);
     row[0] = 0;
     let n = numbers::list_length(weights, wbytes);
     let mut i = 0;
@@ -89,11 +95,12 @@ fn leads(row: &[u32], w: u32, a: usize) -> bool
     row[a - w] < row[a]
 }
 
-// The blocks for the greatest amount of a row, on the way down the sizes.
+// The blocks for the greatest amount of a row, by the trace down the sizes.
 fn trace_down(weights: &[u32], wbytes: &[u8], row: &[u32], picks: &mut [u32])
     requires { ⌜ Bounded (length (now row)) (listFrom (now weights) (now wbytes)) ⌝ }
     requires { ⌜ length (listFrom (now weights) (now wbytes)) ≡ length (now picks) ⌝ }
-    ensures { λ _. ⌜ TraceDown (at (now (row .entry))) (listFrom (now (weights .entry)) (now (wbytes .entry))) (length (now (row .entry)) - 1) (now (picks .exit)) ⌝ }
+    ensures { λ _. ⌜ TraceDown (at (now (row .entry))) (listFrom (now (weights .entry)) (now (wbytes .entry)))
+        (length (now (row .entry)) - 1) (now (picks .exit)) ⌝ }
 {
     let n = picks.len();
     rows::set_all(picks, n, 0);
@@ -119,13 +126,14 @@ fn fewest(
     picks: &mut [u32],
 ) -> Answer
     requires { ⌜ Unrefused fewest-blocks (weightsFrom 5 (budget ∷ []) (now weights) (now wbytes)) (lentOf (now cells) [] (now picks)) ⌝ }
-    ensures { λ r. ⌜ SolvedInCells (weightsFrom 5 (budget ∷ []) (now (weights .entry)) (now (wbytes .entry))) (now (cells .entry)) (now (picks .entry)) r (now (cells .exit)) (now (picks .exit)) ⌝ }
+    ensures { λ r. ⌜ SolvedInCells (weightsFrom 5 (budget ∷ []) (now (weights .entry)) (now (wbytes .entry)))
+        (now (cells .entry)) (now (picks .entry)) r (now (cells .exit)) (now (picks .exit)) ⌝ }
 {
     let n = numbers::list_length(weights, wbytes);
     let width = budget as usize + 1;
     fill_fewest(weights, wbytes, &mut cells[..width]);
     let blocks = cells[width - 1];
-    if blocks == 4_294_967_295 {
+    if blocks == NO_WAY {
         return Answer::Refused(7);
     }
     trace_down(weights, wbytes, &cells[..width], &mut picks[..n]);
@@ -134,12 +142,15 @@ fn fewest(
 
 // ---- kind 6: the ways
 
+// The mark for ways that are too many to count (`tooMany`): the greatest 64-bit number, which no sum passes.
+const TOO_MANY: u64 = 18_446_744_073_709_551_615;
+
 // The ways for an amount, by those without a size and those for the rest, as far as they can be counted. No sum passes 64 bits.
 fn ways_of(without: u64, rest: u64) -> u64
     ensures { λ r. ⌜ r ≡ waysOf without rest ⌝ }
 {
-    if 18_446_744_073_709_551_615 - rest < without {
-        18_446_744_073_709_551_615
+    if TOO_MANY - rest < without {
+        TOO_MANY
     } else {
         without + rest
     }
@@ -175,11 +186,12 @@ fn fill_ways(weights: &[u32], wbytes: &[u8], words: &mut [u64])
 // Kind 6: the row, and the ways for the whole budget or that they are too many to count. No other amount has a say in that.
 fn ways(budget: u32, weights: &[u32], wbytes: &[u8], words: &mut [u64]) -> Answer
     requires { ⌜ Unrefused block-ways (weightsFrom 6 (budget ∷ []) (now weights) (now wbytes)) (lentOf [] (now words) []) ⌝ }
-    ensures { λ r. ⌜ SolvedInWords (weightsFrom 6 (budget ∷ []) (now (weights .entry)) (now (wbytes .entry))) (now (words .entry)) r (now (words .exit)) ⌝ }
+    ensures { λ r. ⌜ SolvedInWords (weightsFrom 6 (budget ∷ []) (now (weights .entry)) (now (wbytes .entry)))
+        (now (words .entry)) r (now (words .exit)) ⌝ }
 {
     let width = budget as usize + 1;
     fill_ways(weights, wbytes, &mut words[..width]);
-    if words[width - 1] == 18_446_744_073_709_551_615 {
+    if words[width - 1] == TOO_MANY {
         return Answer::Refused(8);
     }
     Answer::Ways(words[width - 1])
@@ -198,7 +210,9 @@ pub fn solve(
     picks: &mut [u32],
 ) -> Answer
     requires { ⌜ LetIn (weightsFrom kind (budget ∷ []) (now weights) (now wbytes)) (lentOf (now cells) (now words) (now picks)) ⌝ }
-    ensures { λ r. ⌜ Solved (weightsFrom kind (budget ∷ []) (now (weights .entry)) (now (wbytes .entry))) (lentOf (now (cells .entry)) (now (words .entry)) (now (picks .entry))) r (lentOf (now (cells .exit)) (now (words .exit)) (now (picks .exit))) ⌝ }
+    ensures { λ r. ⌜ Solved (weightsFrom kind (budget ∷ []) (now (weights .entry)) (now (wbytes .entry)))
+        (lentOf (now (cells .entry)) (now (words .entry)) (now (picks .entry))) r
+        (lentOf (now (cells .exit)) (now (words .exit)) (now (picks .exit))) ⌝ }
 {
     if kind == 5 {
         return fewest(budget, weights, wbytes, cells, picks);

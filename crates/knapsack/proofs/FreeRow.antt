@@ -1,4 +1,4 @@
--- Kind 3: the row as it is filled holds the best values, and the way along the labels finds the picks.
+-- Kind 3: the row as it is filled holds the best values, and the trace along the labels finds the picks.
 -- Assumes nothing.
 use mathlib.Core.Path.{_≡_, sym, _∙_}
 use Prim.Native.Nat.{ℕ, _+_, _-_, _≤_, _<_}
@@ -10,17 +10,19 @@ use lib.ListN.{length}
 use Rattle.meaning.specs.Lists.{at, total}
 use Rattle.meaning.specs.Job.{Job, labels, free}
 use Rattle.meaning.specs.Bounds.{mostValue}
+use Rattle.meaning.specs.Orders.{first-most}
 use Rattle.meaning.specs.Knapsacks.{MayPick, Fits, Best, BestValue, BestPicks, orderOf}
 use Rattle.meaning.proofs.Totals.{one-more, one-fewer, more-total, fewer-total}
 use Rattle.meaning.proofs.Steps.{best-none, none-better}
 use Rattle.meaning.proofs.Free.{free-more, free-fewer}
 use Rattle.meaning.proofs.Greedy.{first-is}
-use Rattle.rows.specs.Rows.{AnyCount, Capped, leadsOn}
+use Rattle.rows.specs.Rows.{GreatestRow, AnyCount, Capped, leadsOn}
 use Rattle.rows.proofs.Stores.{by}
 use Rattle.rows.proofs.LeadsOn.{leads-true, leads-false}
 use Rattle.rows.proofs.Counts.{greatest-capped, greatest-best}
-use Rattle.rows.proofs.Rounds.{each-round}
-use Rattle.rows.proofs.Traces.{trace-spent, trace-chosen}
+use Rattle.rows.proofs.Rounds.{each-round, Rounds}
+use Rattle.rows.specs.Traces.{Trace, start}
+use Rattle.rows.proofs.Traces.{trace-few, trace-spent, trace-chosen}
 use Rattle.knapsack.specs.Tables.{Bounded, Climbed}
 use Rattle.knapsack.specs.Traces.{leadsAlong, TraceAlong}
 
@@ -36,25 +38,51 @@ climbed-best j width row =
     (λ i s t inside best up. greatest-best free j i width (at s) (at t) best up)
     (labels j) row (omega arith)
 
--- and low
-pub climbed-capped : (ws vs : List ℕ) (width i : ℕ) (row : List ℕ) → Bounded width ws vs → i ≤ length ws → Climbed ws vs width i row → Capped (at row) width
+-- and capped
+pub climbed-capped : (ws vs : List ℕ) (width i : ℕ) (row : List ℕ) → Bounded width ws vs → i ≤ length ws
+    → Climbed ws vs width i row → Capped (at row) width
 unfolding Capped mostValue
 climbed-capped ws vs width i row b =
     each-round _ _ (λ k s. Capped (at s) width) (length ws)
     (λ s none c l. omega (arith, none c l))
-    (λ k s t inside low up. greatest-capped AnyCount (at s) (at t) (at ws k) (at vs k) width (b .heavy k inside) (b .cheap k inside) low up)
+    (λ k s t inside capped up. greatest-capped AnyCount (at s) (at t) (at ws k) (at vs k) width (b .heavy k inside) (b .cheap k inside) capped up)
     i row
 
--- ---- the way along
+-- the loop over n labels: i of them have made the row
+abbrev pub Climbing : List ℕ → List ℕ → ℕ → ℕ → ℕ → List ℕ → Type 0
+Climbing ws vs n width i row =
+    Rounds (λ wide s. (c : ℕ) → c < wide → at s c ≡ 0) (λ wide m s t. GreatestRow AnyCount (at s) (at ws m) (at vs m) wide (at t)) n width i row
+
+-- it keeps the row capped, which the next label asks
+pub climbing-capped : (ws vs : List ℕ) (n width i : ℕ) (row : List ℕ) → Bounded (length row) ws vs → i ≤ length ws → Climbing ws vs n width i row
+    → Capped (at row) (length row)
+climbing-capped ws vs n width i row b few d = rw (d .long) (climbed-capped ws vs width i row (rw (d .long) at b) few (d .made))
+
+-- ---- the trace along
 
 -- a label that leads on is no heavier than the budget
 pub along-light : (row : ℕ → ℕ) (ws vs : List ℕ) (m c : ℕ) → leadsAlong row ws vs m c ≡ true → at ws m ≤ c
 along-light row ws vs m c on = leads-true row (at ws m) (at vs m) c on .0
 
+-- the trace with the counts of k labels settled
+abbrev pub AlongTo : (ℕ → ℕ) → List ℕ → List ℕ → ℕ → ℕ → ℕ → List ℕ → Type 0
+AlongTo row ws vs budget k c picks = Trace first-most (leadsAlong row ws vs) ws (length ws) budget k c picks
+
+-- it begins with counts of 0
+pub along-begins : (row : ℕ → ℕ) (ws vs : List ℕ) (budget : ℕ) (picks : List ℕ) → length picks ≡ length ws
+    → ((m : ℕ) → m < length ws → at picks m ≡ 0) → AlongTo row ws vs budget 0 budget picks
+along-begins row ws vs budget picks long zeros = start {picks = picks} long zeros
+
+-- no count passes the budget
+pub along-few : (row : ℕ → ℕ) (ws vs : List ℕ) (budget k c : ℕ) (picks : List ℕ) → AlongTo row ws vs budget k c picks
+    → (m : ℕ) → 1 ≤ at ws m → at picks m + c ≤ budget
+along-few row ws vs budget k c picks trace =
+    trace-few first-is (leadsAlong row ws vs) ws (length ws) budget (along-light row ws vs) trace
+
 -- the picks weigh what is not left
 pub along-weight : (row : ℕ → ℕ) (ws vs : List ℕ) (budget c : ℕ) (found : List ℕ) → TraceAlong row ws vs budget c found → total ws found + c ≡ budget
 unfolding TraceAlong
-along-weight row ws vs budget c found way = trace-spent first-is (leadsAlong row ws vs) ws (length ws) budget (along-light row ws vs) way
+along-weight row ws vs budget c found trace = trace-spent first-is (leadsAlong row ws vs) ws (length ws) budget (along-light row ws vs) trace
 
 -- `row` holds the best values up to the budget
 module _ (j : Job) (row : ℕ → ℕ) (budget : ℕ) (rows : (c : ℕ) → c ≤ budget → BestValue free j (labels j) c (row c)) where
@@ -88,7 +116,8 @@ module _ (j : Job) (row : ℕ → ℕ) (budget : ℕ) (rows : (c : ℕ) → c �
       more-best : (q : List ℕ) → BestAt (c - w) q → BestAt c (one-more q i)
       more-best q b =
           row-worth c within (one-more q i) (free-more j c q i inside light (b .fits))
-          (more-total (j .values) q i (omega (arith, long (c - w) q b)) ∙ omega (arith, worth-row (c - w) (omega (arith, light)) q b, leads-true row w v c lead .1))
+          (more-total (j .values) q i (omega (arith, long (c - w) q b))
+          ∙ omega (arith, worth-row (c - w) (omega (arith, light)) q b, leads-true row w v c lead .1))
 
       fewer-best : (q : List ℕ) → BestAt c q → 0 < at q i → BestAt (c - w) (one-fewer q i)
       fewer-best q b some-of =
@@ -119,7 +148,7 @@ module _ (j : Job) (row : ℕ → ℕ) (budget : ℕ) (rows : (c : ℕ) → c �
   -- so the counts found are the chosen picks
   pub along-picks : (left : ℕ) (found : List ℕ) → TraceAlong row (j .weights) (j .values) budget left found → BestPicks free j (labels j) budget found
   unfolding TraceAlong BestPicks orderOf labels
-  along-picks left found way =
+  along-picks left found trace =
       let r = rows budget (omega arith) in
-      trace-chosen first-is (leadsAlong row (j .weights) (j .values)) (j .weights) (labels j) budget (along-light row (j .weights) (j .values)) BestAt long
-      left-best more-best fewer-best unused left found (r .picks, r .best) way
+      trace-chosen first-is (leadsAlong row (j .weights) (j .values)) (j .weights) (labels j) budget (along-light row (j .weights) (j .values))
+      BestAt long left-best more-best fewer-best unused left found (r .picks, r .best) trace

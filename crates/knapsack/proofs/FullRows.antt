@@ -1,4 +1,4 @@
--- Kinds 1 and 2: the table as it is filled holds the best values, and the way back through it finds the picks.
+-- Kinds 1 and 2: the table as it is filled holds the best values, and the trace back through it finds the picks.
 -- Assumes nothing.
 use mathlib.Core.Path.{_≡_, refl, sym, _∙_, subst}
 use Prim.Native.Nat.{ℕ, zero, suc, _+_, _-_, _*_, _≤_, _<_}
@@ -56,7 +56,8 @@ module _ (ws vs : List ℕ) (limit : ℕ → ℕ) (width : ℕ) where
       record {
         first = λ c h. sym (kept 0 c (omega arith) h) ∙ d .first c h;
         next = λ m h c l.
-            greatest-same (λ x. x ≤ limit m) (rowOf t width m) (rowOf u width m) (at ws m) (at vs m) c (rowOf u width (suc m) c) (λ b k. kept m b (omega arith) (omega arith))
+            greatest-same (λ x. x ≤ limit m) (rowOf t width m) (rowOf u width m) (at ws m) (at vs m) c (rowOf u width (suc m) c)
+            (λ b k. kept m b (omega arith) (omega arith))
             (by m i
             (λ k. rw (← kept (suc m) c k l) (d .next m k c l))
             (λ k.
@@ -64,29 +65,31 @@ module _ (ws vs : List ℕ) (limit : ℕ → ℕ) (width : ℕ) where
             rw (here, suc-mul i width) (r .made c l)));
       }
 
-  -- its rows are low
-  pub filled-capped : Bounded width ws vs → (n : ℕ) (t : List ℕ) → n ≤ length ws → Filled ws vs limit width n t → (i : ℕ) → i ≤ n → Capped (rowOf t width i) width
+  -- its rows are capped
+  pub filled-capped : Bounded width ws vs → (n : ℕ) (t : List ℕ) → n ≤ length ws → Filled ws vs limit width n t
+      → (i : ℕ) → i ≤ n → Capped (rowOf t width i) width
   unfolding Capped mostValue
   filled-capped b n t few d zero h c l = omega (arith, d .first c l)
   filled-capped b n t few d (suc i) h c l =
-      greatest-capped (λ x. x ≤ limit i) (rowOf t width i) (rowOf t width (suc i)) (at ws i) (at vs i) width (b .heavy i (omega arith)) (b .cheap i (omega arith))
-      (filled-capped b n t few d i (omega arith)) (d .next i h) c l
+      greatest-capped (λ x. x ≤ limit i) (rowOf t width i) (rowOf t width (suc i)) (at ws i) (at vs i) width
+      (b .heavy i (omega arith)) (b .cheap i (omega arith)) (filled-capped b n t few d i (omega arith)) (d .next i h) c l
 
--- ---- the way back as it is gone
+-- ---- the trace back as it goes
 
 -- one label more
 pub trace-more : (row : ℕ → ℕ → ℕ) (ws vs : List ℕ) (n budget i c x : ℕ) (picks : List ℕ) → 0 < i → i ≤ length picks
     → TraceBack row ws vs n budget i c (drop i picks) → Least (row (i - 1)) (at ws (i - 1)) (at vs (i - 1)) c (row (suc (i - 1)) c) x
     → TraceBack row ws vs n budget (i - 1) (c - at ws (i - 1) * x) (drop (i - 1) (set picks (i - 1) x))
-trace-more row ws vs n budget i c x picks pos inside way l =
+trace-more row ws vs n budget i c x picks pos inside trace l =
     let here : i ≡ suc (i - 1) = omega arith in
-    rw (stored-first picks (i - 1) x (omega arith))
-    (back {rest = c - at ws (i - 1) * x} (subst (λ (m : ℕ). TraceBack row ws vs n budget m c (drop m picks)) here way) l (omega (arith, l .made .spent)))
+    let before = subst (λ (m : ℕ). TraceBack row ws vs n budget m c (drop m picks)) here trace in
+    rw (stored-first picks (i - 1) x (omega arith)) (back {rest = c - at ws (i - 1) * x} before l (omega (arith, l .made .spent)))
 
 -- it has come to a row of the table, and no more is left than there was
-pub trace-within : {row : ℕ → ℕ → ℕ} {ws vs : List ℕ} {n budget i c : ℕ} {found : List ℕ} → TraceBack row ws vs n budget i c found → (i ≤ n) × (c ≤ budget)
+pub trace-within : {row : ℕ → ℕ → ℕ} {ws vs : List ℕ} {n budget i c : ℕ} {found : List ℕ} → TraceBack row ws vs n budget i c found
+    → (i ≤ n) × (c ≤ budget)
 trace-within begin = (omega arith, omega arith)
-trace-within (back way l e) = let (a, b) = trace-within way in (omega arith, omega arith)
+trace-within (back trace l e) = let (a, b) = trace-within trace in (omega arith, omega arith)
 
 -- ---- what it holds
 
@@ -98,8 +101,9 @@ module _ (k : Knapsack) (j : Job) (limit : ℕ → ℕ) (width : ℕ) (cells : L
   abbrev row : ℕ → ℕ → ℕ
   row i c = rowOf cells width i c
 
-  -- each row tops the row before it, by the counts that may be picked
-  row-greatest : (i : ℕ) → i < labels j → GreatestRow (MayPick k (at (j .copies) i)) (row i) (at (j .weights) i) (at (j .values) i) width (row (suc i))
+  -- each row is the greatest over the row before it, by the counts that may be picked
+  row-greatest : (i : ℕ) → i < labels j
+      → GreatestRow (MayPick k (at (j .copies) i)) (row i) (at (j .weights) i) (at (j .values) i) width (row (suc i))
   unfolding GreatestRow
   row-greatest i h c l =
       greatest-may (λ x. x ≤ limit i) (MayPick k (at (j .copies) i)) (row i) (at (j .weights) i) (at (j .values) i) c (row (suc i) c)
@@ -115,7 +119,7 @@ module _ (k : Knapsack) (j : Job) (limit : ℕ → ℕ) (width : ℕ) (cells : L
   unfolding GreatestRow
   some-back i c h l = let t = row-greatest i h c l in record { count = t .count; made = t .made }
 
-  -- ---- the way back
+  -- ---- the trace back
 
   module _ (least : orderOf k ≡ last-least) (budget : ℕ) (wide : budget < width) where
     abbrev Trace : ℕ → ℕ → List ℕ → Type 0
@@ -149,14 +153,14 @@ module _ (k : Knapsack) (j : Job) (limit : ℕ → ℕ) (width : ℕ) (cells : L
     -- the chosen picks of the labels to come, and after them those found, are the chosen picks of all
     pub back-picks : {i c : ℕ} {found : List ℕ} → Trace i c found → (p : List ℕ) → BestPicks k j i c p → BestPicks k j (labels j) budget (p ++ found)
     back-picks begin p best = rw append-nil best
-    back-picks (back {i} {c} {x} {rest} {found} way l e) p best =
-        let (h, hc) = trace-within way in
-        rw (← append-snoc p x found) (back-picks way (p ++ (x ∷ [])) (one-back i c x rest p h hc l e best))
+    back-picks (back {i} {c} {x} {rest} {found} trace l e) p best =
+        let (h, hc) = trace-within trace in
+        rw (← append-snoc p x found) (back-picks trace (p ++ (x ∷ [])) (one-back i c x rest p h hc l e best))
 
   -- what they weigh, and what is left of the budget
   pub back-weight : {budget i c : ℕ} {found : List ℕ} → TraceBack row (j .weights) (j .values) (labels j) budget i c found
       → (p : List ℕ) → length p ≡ i → total (j .weights) (p ++ found) + c ≡ total (j .weights) p + budget
   back-weight begin p long = rw append-nil
-  back-weight (back {i} {c} {x} {rest} {found} way l e) p long =
+  back-weight (back {i} {c} {x} {rest} {found} trace l e) p long =
       rw (← append-snoc p x found)
-      (omega (arith, back-weight way (p ++ (x ∷ [])) (length-append p (x ∷ []) ∙ omega arith), total-with (j .weights) p x i long))
+      (omega (arith, back-weight trace (p ++ (x ∷ [])) (length-append p (x ∷ []) ∙ omega arith), total-with (j .weights) p x i long))

@@ -115,7 +115,8 @@ words-needed limited j = refl
 words-needed free j = refl
 
 -- the table and the picks that were written are those of the knapsack, and the numbers are those of the picks
-packs : (k : Knapsack) (j : Job) (cells picks : List ℕ) → Unrefused (packing k) j (lentOf cells [] picks) → (cells-after picks-after table found : List ℕ) (value weight : ℕ)
+packs : (k : Knapsack) (j : Job) (cells picks : List ℕ) → Unrefused (packing k) j (lentOf cells [] picks)
+    → (cells-after picks-after table found : List ℕ) (value weight : ℕ)
     → length table ≡ roomFor (packing k) j .cells → ValueTable k j table → BestPicks k j (labels j) (j .budget) found
     → value ≡ total (j .values) found → weight ≡ total (j .weights) found → Holds table cells cells-after → Holds found picks picks-after
     → SolvedInCells j cells picks (Says.Knapsack value weight) cells-after picks-after
@@ -124,35 +125,39 @@ packs k j cells picks a cells-after picks-after table found value weight long ri
     solved-in-cells (packing k) j (Says.Knapsack value weight) cells picks cells-after picks-after table found a (sym (words-needed k j))
     (record { picked = chosen; numbers = rw (v, w) }) right long in-cells in-picks
 
--- kinds 1 and 2, by the table that was filled and the way back through it
+-- kinds 1 and 2, by the table that was filled and the trace back through it
 module _ (k : Knapsack) (j : Job) (cells picks table found : List ℕ) (left : ℕ) (is : Rowed k) (a : Unrefused (packing k) j (lentOf cells [] picks))
-    (long : length table ≡ cellCount j) (filled : Filled (j .weights) (j .values) (limitOf (numberOf (packing k)) (j .copies)) (j .budget + 1) (labels j) table)
-    (way : TraceBack (rowOf table (j .budget + 1)) (j .weights) (j .values) (labels j) (j .budget) 0 left found) where
-  abbrev few : (i x : ℕ) → i < labels j → MayPick k (at (j .copies) i) x → x ≤ limitOf (numberOf (packing k)) (j .copies) i
+    (long : length table ≡ cellCount j)
+    (filled : Filled (j .weights) (j .values) (limitOf (numberOf (packing k)) (j .copies)) (j .budget + 1) (labels j) table)
+    (trace : TraceBack (rowOf table (j .budget + 1)) (j .weights) (j .values) (labels j) (j .budget) 0 left found) where
+  abbrev limits : ℕ → ℕ
+  limits = limitOf (numberOf (packing k)) (j .copies)
+
+  abbrev few : (i x : ℕ) → i < labels j → MayPick k (at (j .copies) i) x → x ≤ limits i
   few i x h = limit-few is j i x
 
-  abbrev may : (i x : ℕ) → i < labels j → x ≤ limitOf (numberOf (packing k)) (j .copies) i → MayPick k (at (j .copies) i) x
+  abbrev may : (i x : ℕ) → i < labels j → x ≤ limits i → MayPick k (at (j .copies) i) x
   may i x h = limit-may is j i x
 
   chosen : BestPicks k j (labels j) (j .budget) found
-  chosen = back-picks k j (limitOf (numberOf (packing k)) (j .copies)) (j .budget + 1) table few may filled (order-back is) (j .budget) (omega arith) way [] (picks-none k j left)
+  chosen = back-picks k j limits (j .budget + 1) table few may filled (order-back is) (j .budget) (omega arith) trace [] (picks-none k j left)
 
   pub packs-full : (needed n value : ℕ) → needed ≡ cellCount j → n ≡ labels j → value ≡ at table (labels j * (j .budget + 1) + j .budget)
       → SolvedInCells j cells picks (Says.Knapsack value (j .budget - left)) (table ++ drop needed cells) (found ++ drop n picks)
   unfolding FullTable cellNumber BestPicks
   packs-full needed n value e₁ e₂ e₃ =
-      let best = row-best k j (limitOf (numberOf (packing k)) (j .copies)) (j .budget + 1) table few may filled in
+      let best = row-best k j limits (j .budget + 1) table few may filled in
       packs k j cells picks a (table ++ drop needed cells) (found ++ drop n picks) table found value (j .budget - left)
       (long ∙ sym (full-room is j)) (full-value is j table (λ i c h l. best i c h (omega arith))) chosen
       (e₃ ∙ picks-worth k j (labels j) (j .budget) found chosen (best (labels j) (j .budget) (omega arith) (omega arith)))
-      (omega (arith, back-weight k j (limitOf (numberOf (packing k)) (j .copies)) (j .budget + 1) table few may filled way [] refl, total-none (j .weights)))
+      (omega (arith, back-weight k j limits (j .budget + 1) table few may filled trace [] refl, total-none (j .weights)))
       (holds-front table cells needed (long ∙ sym e₁))
       (holds-front found picks n (chosen .one-of .fits .selection .one-each ∙ sym e₂))
 
--- kind 3, by the row that was filled and the way along the labels
-module _ (j : Job) (cells picks row found : List ℕ) (left : ℕ) (a : Unrefused (packing free) j (lentOf cells [] picks)) (long : length row ≡ j .budget + 1)
-    (climbed : Climbed (j .weights) (j .values) (j .budget + 1) (labels j) row)
-    (way : TraceAlong (at row) (j .weights) (j .values) (j .budget) left found) where
+-- kind 3, by the row that was filled and the trace along the labels
+module _ (j : Job) (cells picks row found : List ℕ) (left : ℕ) (a : Unrefused (packing free) j (lentOf cells [] picks))
+    (long : length row ≡ j .budget + 1) (climbed : Climbed (j .weights) (j .values) (j .budget + 1) (labels j) row)
+    (trace : TraceAlong (at row) (j .weights) (j .values) (j .budget) left found) where
   row-best-values : (c : ℕ) → c ≤ j .budget → BestValue free j (labels j) c (at row c)
   row-best-values c h = climbed-best j (j .budget + 1) row climbed c (omega arith)
 
@@ -160,22 +165,24 @@ module _ (j : Job) (cells picks row found : List ℕ) (left : ℕ) (a : Unrefuse
       → SolvedInCells j cells picks (Says.Knapsack value (j .budget - left)) (row ++ drop (j .budget + 1) cells) (found ++ drop n picks)
   unfolding ValueTable OneRow BestPicks roomFor roomOf
   packs-free n value e₁ e₂ =
-      let chosen = along-picks j (at row) (j .budget) row-best-values left found way in
+      let chosen = along-picks j (at row) (j .budget) row-best-values left found trace in
       packs free j cells picks a (row ++ drop (j .budget + 1) cells) (found ++ drop n picks) row found value (j .budget - left)
       long row-best-values chosen
       (e₂ ∙ picks-worth free j (labels j) (j .budget) found chosen (row-best-values (j .budget) (omega arith)))
-      (omega (arith, along-weight (at row) (j .weights) (j .values) (j .budget) left found way))
+      (omega (arith, along-weight (at row) (j .weights) (j .values) (j .budget) left found trace))
       (holds-front row cells (j .budget + 1) long)
       (holds-front found picks n (chosen .one-of .fits .selection .one-each ∙ sym e₁))
 
 -- ---- the choice among the three
 
 -- kind 3 has no copies, and is the knapsack of any number
-any-free : (j : Job) (cells picks : List ℕ) → j .kind-number ≡ 3 → LetIn j cells picks → Unrefused (packing free) j (lentOf cells [] picks) × (j .copies ≡ [])
+any-free : (j : Job) (cells picks : List ℕ) → j .kind-number ≡ 3 → LetIn j cells picks
+    → Unrefused (packing free) j (lentOf cells [] picks) × (j .copies ≡ [])
 unfolding numberOf hasCopies if
 any-free j cells picks e a = go (a .knapsack) (sym (kind-number (j .kind-number) (packing (a .knapsack)) (a .unrefused .of-kind)) ∙ e) (a .unrefused)
   where
-    go : (k : Knapsack) → numberOf (packing k) ≡ 3 → Unrefused (packing k) j (lentOf cells [] picks) → Unrefused (packing free) j (lentOf cells [] picks) × (j .copies ≡ [])
+    go : (k : Knapsack) → numberOf (packing k) ≡ 3 → Unrefused (packing k) j (lentOf cells [] picks)
+        → Unrefused (packing free) j (lentOf cells [] picks) × (j .copies ≡ [])
     go once n r = absurd (omega arith)
     go limited n r = absurd (omega arith)
     go free n r = (r, empty-of (j .copies) (ready free j cells picks r .valid .copied))
@@ -192,7 +199,8 @@ any-below j cells picks other a = go (a .knapsack) (kind-number (j .kind-number)
 
 -- so a job of kind 3 is one without copies
 pub job-free : (kind budget : ℕ) (ws vs cs cells picks : List ℕ) → kind ≡ 3 → LetIn (jobOf kind (budget ∷ []) ws vs cs) cells picks
-    → (jobOf kind (budget ∷ []) ws vs cs ≡ jobOf 3 (budget ∷ []) ws vs []) × Unrefused (packing free) (jobOf 3 (budget ∷ []) ws vs []) (lentOf cells [] picks)
+    → (jobOf kind (budget ∷ []) ws vs cs ≡ jobOf 3 (budget ∷ []) ws vs [])
+    × Unrefused (packing free) (jobOf 3 (budget ∷ []) ws vs []) (lentOf cells [] picks)
 unfolding jobOf
 job-free kind budget ws vs cs cells picks e a =
     let (r, none-of) = any-free (jobOf kind (budget ∷ []) ws vs cs) cells picks e a in

@@ -10,7 +10,7 @@ use Rattle.meaning.specs.Orders.{first-most}
 use Rattle.rows.specs.Rows.{Least, leadsOn}
 use Rattle.rows.specs.Traces.{Trace}
 
--- kinds 1 and 2: the way back through the rows, from row n at the budget. It has come to row i with budget c left, and `found` are the
+-- kinds 1 and 2: the trace back through the rows, from row n at the budget. It has come to row i with budget c left, and `found` are the
 -- counts of the labels from i on, each the least that its row leaves
 pub data TraceBack (row : ℕ → ℕ → ℕ) (weights values : List ℕ) (n budget : ℕ) : ℕ → ℕ → List ℕ → Type 0 where
   begin : TraceBack row weights values n budget n budget []
@@ -22,6 +22,7 @@ pub data TraceBack (row : ℕ → ℕ → ℕ) (weights values : List ℕ) (n bu
 abbrev pub leadsAlong : (ℕ → ℕ) → List ℕ → List ℕ → ℕ → ℕ → Bool
 leadsAlong row weights values m c = leadsOn row (at weights m) (at values m) c
 
--- kind 3: the way along the labels, from label 0 at the budget. All counts are settled, and c of the budget is left
+-- kind 3: the trace along the labels, from label 0 at the budget. All counts are settled, and c of the budget is left
 unfoldable pub TraceAlong : (ℕ → ℕ) → List ℕ → List ℕ → ℕ → ℕ → List ℕ → Type 0
-TraceAlong row weights values budget c picks = Trace first-most (leadsAlong row weights values) weights (length weights) budget (length weights) c picks
+TraceAlong row weights values budget c picks =
+    Trace first-most (leadsAlong row weights values) weights (length weights) budget (length weights) c picks

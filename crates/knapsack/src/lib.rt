@@ -44,7 +44,9 @@ fn fill(
     requires { ⌜ Bounded width (listFrom (now weights) (now wbytes)) (listFrom (now values) (now vbytes)) ⌝ }
     requires { ⌜ (¬ (kind ≡ 1) → length (listFrom (now copies) (now cbytes)) ≡ length (listFrom (now weights) (now wbytes))) ⌝ }
     requires { ⌜ (length (listFrom (now weights) (now wbytes)) + 1) * width ≡ length (now cells) ⌝ }
-    ensures { λ _. ⌜ Filled (listFrom (now (weights .entry)) (now (wbytes .entry))) (listFrom (now (values .entry)) (now (vbytes .entry))) (limitOf kind (listFrom (now (copies .entry)) (now (cbytes .entry)))) width (length (listFrom (now (weights .entry)) (now (wbytes .entry)))) (now (cells .exit)) ⌝ }
+    ensures { λ _. ⌜ Filled (listFrom (now (weights .entry)) (now (wbytes .entry))) (listFrom (now (values .entry)) (now (vbytes .entry)))
+        (limitOf kind (listFrom (now (copies .entry)) (now (cbytes .entry)))) width
+        (length (listFrom (now (weights .entry)) (now (wbytes .entry)))) (now (cells .exit)) ⌝ }
 {
     rows::set_all(cells, width, 0);
     let n = numbers::list_length(weights, wbytes);
@@ -60,7 +62,7 @@ fn fill(
     }
 }
 
-// The picks of kinds 1 and 2, on the way back through the rows. Gives what is left of the budget.
+// The picks of kinds 1 and 2, by the trace back through the rows. Gives what is left of the budget.
 fn trace_back(
     weights: &[u32],
     wbytes: &[u8],
@@ -71,9 +73,14 @@ fn trace_back(
     picks: &mut [u32],
 ) -> usize
     requires { ⌜ Bounded width (listFrom (now weights) (now wbytes)) (listFrom (now values) (now vbytes)) ⌝ }
-    requires { ⌜ ((length (listFrom (now weights) (now wbytes)) + 1) * width ≡ length (now cells)) × (length (listFrom (now weights) (now wbytes)) ≡ length (now picks)) ⌝ }
-    requires { ⌜ ((i c : ℕ) → i < length (listFrom (now weights) (now wbytes)) → c < width → SomeCount (rowOf (now cells) width i) (at (listFrom (now weights) (now wbytes)) i) (at (listFrom (now values) (now vbytes)) i) c (rowOf (now cells) width (suc i) c)) ⌝ }
-    ensures { λ r. ⌜ TraceBack (rowOf (now (cells .entry)) width) (listFrom (now (weights .entry)) (now (wbytes .entry))) (listFrom (now (values .entry)) (now (vbytes .entry))) (length (listFrom (now (weights .entry)) (now (wbytes .entry)))) (width - 1) 0 r (now (picks .exit)) ⌝ }
+    requires { ⌜ ((length (listFrom (now weights) (now wbytes)) + 1) * width ≡ length (now cells))
+        × (length (listFrom (now weights) (now wbytes)) ≡ length (now picks)) ⌝ }
+    requires { ⌜ ((i c : ℕ) → i < length (listFrom (now weights) (now wbytes)) → c < width
+        → SomeCount (rowOf (now cells) width i) (at (listFrom (now weights) (now wbytes)) i) (at (listFrom (now values) (now vbytes)) i)
+        c (rowOf (now cells) width (suc i) c)) ⌝ }
+    ensures { λ r. ⌜ TraceBack (rowOf (now (cells .entry)) width) (listFrom (now (weights .entry)) (now (wbytes .entry)))
+        (listFrom (now (values .entry)) (now (vbytes .entry))) (length (listFrom (now (weights .entry)) (now (wbytes .entry))))
+        (width - 1) 0 r (now (picks .exit)) ⌝ }
 {
     let mut i = picks.len();
     let mut c = width - 1;
@@ -95,7 +102,8 @@ fn trace_back(
 // The row of kind 3, label by label.
 fn fill_row(weights: &[u32], wbytes: &[u8], values: &[u32], vbytes: &[u8], row: &mut [u32])
     requires { ⌜ Bounded (length (now row)) (listFrom (now weights) (now wbytes)) (listFrom (now values) (now vbytes)) ⌝ }
-    ensures { λ _. ⌜ Climbed (listFrom (now (weights .entry)) (now (wbytes .entry))) (listFrom (now (values .entry)) (now (vbytes .entry))) (length (now (row .entry))) (length (listFrom (now (weights .entry)) (now (wbytes .entry)))) (now (row .exit)) ⌝ }
+    ensures { λ _. ⌜ Climbed (listFrom (now (weights .entry)) (now (wbytes .entry))) (listFrom (now (values .entry)) (now (vbytes .entry)))
+        (length (now (row .entry))) (length (listFrom (now (weights .entry)) (now (wbytes .entry)))) (now (row .exit)) ⌝ }
 {
     let width = row.len();
     rows::set_all(row, width, 0);
@@ -109,7 +117,7 @@ fn fill_row(weights: &[u32], wbytes: &[u8], values: &[u32], vbytes: &[u8], row: 
     }
 }
 
-// The picks of kind 3, on the way along the labels. Gives what is left of the budget.
+// The picks of kind 3, by the trace along the labels. Gives what is left of the budget.
 fn trace_along(
     weights: &[u32],
     wbytes: &[u8],
@@ -120,7 +128,8 @@ fn trace_along(
 ) -> usize
     requires { ⌜ Bounded (length (now row)) (listFrom (now weights) (now wbytes)) (listFrom (now values) (now vbytes)) ⌝ }
     requires { ⌜ Capped (at (now row)) (length (now row)) × (length (listFrom (now weights) (now wbytes)) ≡ length (now picks)) ⌝ }
-    ensures { λ r. ⌜ TraceAlong (at (now (row .entry))) (listFrom (now (weights .entry)) (now (wbytes .entry))) (listFrom (now (values .entry)) (now (vbytes .entry))) (length (now (row .entry)) - 1) r (now (picks .exit)) ⌝ }
+    ensures { λ r. ⌜ TraceAlong (at (now (row .entry))) (listFrom (now (weights .entry)) (now (wbytes .entry)))
+        (listFrom (now (values .entry)) (now (vbytes .entry))) (length (now (row .entry)) - 1) r (now (picks .exit)) ⌝ }
 {
     let n = picks.len();
     rows::set_all(picks, n, 0);
@@ -141,7 +150,7 @@ fn trace_along(
 
 // ---- the doors
 
-// Kinds 1 and 2: the full table, and the way back through it.
+// Kinds 1 and 2: the full table, and the trace back through it.
 fn full_table(
     kind: u32,
     budget: u32,
@@ -154,9 +163,12 @@ fn full_table(
     cells: &mut [u32],
     picks: &mut [u32],
 ) -> Answer
-    requires { ⌜ LetIn (jobFrom kind (budget ∷ []) (now weights) (now wbytes) (now values) (now vbytes) (now copies) (now cbytes)) (now cells) (now picks) ⌝ }
+    requires { ⌜ LetIn (jobFrom kind (budget ∷ []) (now weights) (now wbytes) (now values) (now vbytes) (now copies) (now cbytes))
+        (now cells) (now picks) ⌝ }
     requires { ⌜ kind < 3 ⌝ }
-    ensures { λ r. ⌜ SolvedInCells (jobFrom kind (budget ∷ []) (now (weights .entry)) (now (wbytes .entry)) (now (values .entry)) (now (vbytes .entry)) (now (copies .entry)) (now (cbytes .entry))) (now (cells .entry)) (now (picks .entry)) r (now (cells .exit)) (now (picks .exit)) ⌝ }
+    ensures { λ r. ⌜ SolvedInCells (jobFrom kind (budget ∷ []) (now (weights .entry)) (now (wbytes .entry))
+        (now (values .entry)) (now (vbytes .entry)) (now (copies .entry)) (now (cbytes .entry)))
+        (now (cells .entry)) (now (picks .entry)) r (now (cells .exit)) (now (picks .exit)) ⌝ }
 {
     let n = numbers::list_length(weights, wbytes);
     let width = budget as usize + 1;
@@ -187,7 +199,7 @@ fn full_table(
     }
 }
 
-// Kind 3: one row, and the way along the labels.
+// Kind 3: one row, and the trace along the labels.
 fn one_row(
     budget: u32,
     weights: &[u32],
@@ -197,8 +209,11 @@ fn one_row(
     cells: &mut [u32],
     picks: &mut [u32],
 ) -> Answer
-    requires { ⌜ Unrefused (packing free) (jobOf 3 (budget ∷ []) (listFrom (now weights) (now wbytes)) (listFrom (now values) (now vbytes)) []) (lentOf (now cells) [] (now picks)) ⌝ }
-    ensures { λ r. ⌜ SolvedInCells (jobOf 3 (budget ∷ []) (listFrom (now (weights .entry)) (now (wbytes .entry))) (listFrom (now (values .entry)) (now (vbytes .entry))) []) (now (cells .entry)) (now (picks .entry)) r (now (cells .exit)) (now (picks .exit)) ⌝ }
+    requires { ⌜ Unrefused (packing free) (jobOf 3 (budget ∷ []) (listFrom (now weights) (now wbytes)) (listFrom (now values) (now vbytes)) [])
+        (lentOf (now cells) [] (now picks)) ⌝ }
+    ensures { λ r. ⌜ SolvedInCells (jobOf 3 (budget ∷ []) (listFrom (now (weights .entry)) (now (wbytes .entry)))
+        (listFrom (now (values .entry)) (now (vbytes .entry))) [])
+        (now (cells .entry)) (now (picks .entry)) r (now (cells .exit)) (now (picks .exit)) ⌝ }
 {
     let n = numbers::list_length(weights, wbytes);
     let width = budget as usize + 1;
@@ -230,8 +245,11 @@ pub fn solve(
     cells: &mut [u32],
     picks: &mut [u32],
 ) -> Answer
-    requires { ⌜ LetIn (jobFrom kind (budget ∷ []) (now weights) (now wbytes) (now values) (now vbytes) (now copies) (now cbytes)) (now cells) (now picks) ⌝ }
-    ensures { λ r. ⌜ SolvedInCells (jobFrom kind (budget ∷ []) (now (weights .entry)) (now (wbytes .entry)) (now (values .entry)) (now (vbytes .entry)) (now (copies .entry)) (now (cbytes .entry))) (now (cells .entry)) (now (picks .entry)) r (now (cells .exit)) (now (picks .exit)) ⌝ }
+    requires { ⌜ LetIn (jobFrom kind (budget ∷ []) (now weights) (now wbytes) (now values) (now vbytes) (now copies) (now cbytes))
+        (now cells) (now picks) ⌝ }
+    ensures { λ r. ⌜ SolvedInCells (jobFrom kind (budget ∷ []) (now (weights .entry)) (now (wbytes .entry))
+        (now (values .entry)) (now (vbytes .entry)) (now (copies .entry)) (now (cbytes .entry)))
+        (now (cells .entry)) (now (picks .entry)) r (now (cells .exit)) (now (picks .exit)) ⌝ }
 {
     if kind == 3 {
         return one_row(budget, weights, wbytes, values, vbytes, cells, picks);

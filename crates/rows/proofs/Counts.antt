@@ -3,7 +3,8 @@
 use mathlib.Core.Path.{_≡_, refl, sym, ap, _∙_}
 use mathlib.Core.Logic.{_⊎_, inl, inr}
 use Prim.Native.Nat.{ℕ, zero, suc, _+_, _-_, _*_, _/_, _%_, _≤_, _<_, min}
-use native.Mathlib.Nat.{le-antisymm, mul-add, mul-zero, mul-one, mul-comm, mul-le-mul-left, mul-le-mul-right, mul-assoc, div-add-mod, mod-lt, sub-add-cancel, le-div-iff-mul-le, one-mul}
+use native.Mathlib.Nat.{mul-add, mul-zero, mul-one, one-mul, mul-comm, mul-assoc, mul-le-mul-left, mul-le-mul-right}
+use native.Mathlib.Nat.{le-antisymm, sub-add-cancel, div-add-mod, mod-lt, le-div-iff-mul-le}
 use native.Mathlib.Omega.{arith}
 use Rattle.meaning.specs.Lists.{at}
 use Rattle.meaning.specs.Job.{Job, Knapsack}
@@ -30,7 +31,8 @@ greatest-may May Can f w v c b to from d = record {
 }
 
 -- a count that is over what the whole budget holds makes no difference
-pub greatest-limit : (f : ℕ → ℕ) (w v c b limit budget : ℕ) → 1 ≤ w → c ≤ budget → Greatest (λ x. x ≤ min limit (budget / w)) f w v c b → Greatest (λ x. x ≤ limit) f w v c b
+pub greatest-limit : (f : ℕ → ℕ) (w v c b limit budget : ℕ) → 1 ≤ w → c ≤ budget
+    → Greatest (λ x. x ≤ min limit (budget / w)) f w v c b → Greatest (λ x. x ≤ limit) f w v c b
 greatest-limit f w v c b limit budget pos h =
     greatest-may (λ x. x ≤ min limit (budget / w)) (λ x. x ≤ limit) f w v c b (λ x m. omega arith)
     (λ x l m. let fits : x ≤ budget / w = le-div-iff-mul-le pos .1 (omega (arith, mul-comm x w)) in omega arith)
@@ -60,7 +62,8 @@ greatest-none f w v c = record {
 -- h is `base` raised by s of the label at once over `less`. Where `base` holds the counts of one sort over f, and `less` those of another, h holds
 -- those of the first, and those of the second with s more
 module _ (First Second Both : ℕ → Type 0) (s : ℕ)
-    (either : (x : ℕ) → Both x → First x ⊎ ((s ≤ x) × Second (x - s))) (as-first : (x : ℕ) → First x → Both x) (with-more : (x : ℕ) → Second x → Both (x + s))
+    (either : (x : ℕ) → Both x → First x ⊎ ((s ≤ x) × Second (x - s)))
+    (as-first : (x : ℕ) → First x → Both x) (with-more : (x : ℕ) → Second x → Both (x + s))
     (f base less h : ℕ → ℕ) (w v width : ℕ) (up : Raised base less h (w * s) (v * s) width) (c : ℕ) (inside : c < width)
     (bases : Greatest First f w v c (base c)) (lesses : w * s ≤ c → Greatest Second f w v (c - w * s) (less (c - w * s))) where
   -- no count is worth more than one of the two
@@ -70,7 +73,9 @@ module _ (First Second Both : ℕ → Type 0) (s : ℕ)
         | inl m ↦ inl (bases .above x y m r)
         | inr (large, m) ↦
             let light : w * s ≤ c = omega (arith, r .spent, apart w x s large) in
-            let others = lesses light .above (x - s) (f (r .left) + v * (x - s)) m (record { left = r .left; spent = omega (arith, r .spent, apart w x s large); worth = refl }) in
+            let fewer : Worth f w v (c - w * s) (x - s) (f (r .left) + v * (x - s)) =
+            record { left = r .left; spent = omega (arith, r .spent, apart w x s large); worth = refl } in
+            let others = lesses light .above (x - s) (f (r .left) + v * (x - s)) m fewer in
             inr (light, omega (arith, r .worth, apart v x s large))
       ]
 
@@ -110,10 +115,10 @@ module _ (First Second Both : ℕ → Type 0) (s : ℕ)
 pub greatest-part : (f g h : ℕ → ℕ) (w v m s width : ℕ) → s ≤ suc m → GreatestRow (λ x. x ≤ m) f w v width g → Raised g g h (w * s) (v * s) width
     → GreatestRow (λ x. x ≤ m + s) f w v width h
 unfolding GreatestRow
-greatest-part f g h w v m s width small tops up c inside =
+greatest-part f g h w v m s width small greatest up c inside =
     greatest-raised (λ x. x ≤ m) (λ x. x ≤ m) (λ x. x ≤ m + s) s
     (λ x k. by m x (λ l. inr (omega arith, omega arith)) (λ l. inl l)) (λ x k. omega arith) (λ x k. omega arith)
-    f g g h w v width up c inside (tops c inside) (λ light. tops (c - w * s) (omega arith))
+    f g g h w v width up c inside (greatest c inside) (λ light. greatest (c - w * s) (omega arith))
 
 -- g holds, over f, the label added again and again to g itself: any count is within reach
 module _ (f g : ℕ → ℕ) (w v width : ℕ) (pos : 1 ≤ w) (up : Raised f g g w v width) where
@@ -130,7 +135,8 @@ module _ (f g : ℕ → ℕ) (w v width : ℕ) (pos : 1 ≤ w) (up : Raised f g 
   greatest-any c h = any-below (suc c) c (omega arith) h
 
 -- counts up to m - 1, and then any number of m at once: any count is within reach
-module _ (f g h : ℕ → ℕ) (w v m width : ℕ) (pos : 1 ≤ m) (fewer : GreatestRow (λ x. x ≤ m - 1) f w v width g) (bundles : GreatestRow AnyCount g (w * m) (v * m) width h) where
+module _ (f g h : ℕ → ℕ) (w v m width : ℕ) (pos : 1 ≤ m)
+    (fewer : GreatestRow (λ x. x ≤ m - 1) f w v width g) (bundles : GreatestRow AnyCount g (w * m) (v * m) width h) where
   pub greatest-bundles : GreatestRow AnyCount f w v width h
   unfolding GreatestRow
   greatest-bundles c inside =
@@ -151,28 +157,31 @@ module _ (f g h : ℕ → ℕ) (w v m width : ℕ) (pos : 1 ≤ m) (fewer : Grea
             let weights : w * x ≡ w * s + w * m * q = ap (λ (n : ℕ). w * n) parts ∙ omega (arith, mul-add w s (m * q), mul-assoc w m q) in
             let values : v * x ≡ v * s + v * m * q = ap (λ (n : ℕ). v * n) parts ∙ omega (arith, mul-add v s (m * q), mul-assoc v m q) in
             let mid = r .left + w * s in
-            let under = fewer mid (omega (arith, r .spent)) .above s (f (r .left) + v * s) (omega (arith, mod-lt x pos)) (record { left = r .left; spent = refl; worth = refl }) in
+            let rest : Worth f w v mid s (f (r .left) + v * s) = record { left = r .left; spent = refl; worth = refl } in
+            let under = fewer mid (omega (arith, r .spent)) .above s (f (r .left) + v * s) (omega (arith, mod-lt x pos)) rest in
             omega (arith, r .worth, d .above q (g mid + v * m * q) tt (record { left = mid; spent = omega (arith, r .spent); worth = refl }));
       }
 
 -- ---- what a row comes to
 
--- over a low row, whatever may be picked
-pub greatest-capped : (May : ℕ → Type 0) (f g : ℕ → ℕ) (w v width : ℕ) → 1 ≤ w → v ≤ mostValue → Capped f width → GreatestRow May f w v width g → Capped g width
+-- over a capped row, whatever may be picked
+pub greatest-capped : (May : ℕ → Type 0) (f g : ℕ → ℕ) (w v width : ℕ) → 1 ≤ w → v ≤ mostValue
+    → Capped f width → GreatestRow May f w v width g → Capped g width
 unfolding Capped GreatestRow mostValue
-greatest-capped May f g w v width pos cheap low tops c h =
-    let d = tops c h .made in
-    let x = tops c h .count in
+greatest-capped May f g w v width pos cheap capped greatest c h =
+    let d = greatest c h .made in
+    let x = greatest c h .count in
     let heavy : 1 * x ≤ w * x = mul-le-mul-right x pos in
     let worth : v * x ≤ mostValue * x = mul-le-mul-right x cheap in
-    omega (arith, d .spent, d .worth, low (d .left) (omega (arith, d .spent)), one-mul x)
+    omega (arith, d .spent, d .worth, capped (d .left) (omega (arith, d .spent)), one-mul x)
 
 -- the row of the first i labels with label i is the row of the first i + 1
 pub greatest-best : (k : Knapsack) (j : Job) (i width : ℕ) (f g : ℕ → ℕ) → ((c : ℕ) → c < width → BestValue k j i c (f c))
-    → GreatestRow (MayPick k (at (j .copies) i)) f (at (j .weights) i) (at (j .values) i) width g → (c : ℕ) → c < width → BestValue k j (suc i) c (g c)
+    → GreatestRow (MayPick k (at (j .copies) i)) f (at (j .weights) i) (at (j .values) i) width g
+    → (c : ℕ) → c < width → BestValue k j (suc i) c (g c)
 unfolding GreatestRow
-greatest-best k j i width f g rows tops c h =
-    let d = tops c h in
+greatest-best k j i width f g rows greatest c h =
+    let d = greatest c h in
     let w = at (j .weights) i in
     let v = at (j .values) i in
     best-step k j i c f (λ d l. rows d (omega arith)) (g c)
@@ -180,7 +189,7 @@ greatest-best k j i width f g rows tops c h =
     (d .count) (d .may) (omega (arith, d .made .spent))
     (let same : d .made .left ≡ c - w * d .count = omega (arith, d .made .spent) in d .made .worth ∙ rw same)
 
--- a part of a label's copies: it is lighter than the row is wide, and low itself
+-- a part of a label's copies: it is lighter than the row is wide, and worth no more than the greatest value for each unit
 pub record PartFits (w v part width : ℕ) : Type 0 where
   pub light : w * part < width
   pub cheap : v * part ≤ mostValue * (w * part)
@@ -192,13 +201,13 @@ part-fits w v part most width pos cheap few light =
     let worth : v * part ≤ mostValue * part = mul-le-mul-right part cheap in
     record { light = omega (arith, mul-le-mul-left w few); cheap = omega (arith, one-mul part) }
 
--- a low row stays low where something low is added
+-- a capped row stays so where what is added keeps to the greatest value for each unit of its weight
 pub raised-capped : (f g : ℕ → ℕ) (w v width : ℕ) → v ≤ mostValue * w → Capped f width → Raised f f g w v width → Capped g width
 unfolding Capped mostValue
-raised-capped f g w v width cheap low up c h =
+raised-capped f g w v width cheap capped up c h =
     by c w
-    (λ short. omega (arith, up .short c h short, low c h))
-    (λ light. omega (arith, up .long c h light, low c h, low (c - w) (omega arith)))
+    (λ short. omega (arith, up .short c h short, capped c h))
+    (λ light. omega (arith, up .long c h light, capped c h, capped (c - w) (omega arith)))
 
 -- ---- no second choice is left
 

@@ -9,7 +9,7 @@ pub mod NextRow
 -- what a row says of a count
 pub mod LeastCounts
 pub mod LeadsOn
--- a slice made label by label, and the way through the labels
+-- a slice made label by label, and the trace through the labels
 pub mod Rounds
 pub mod Traces
 -- no second choice is left by any function of this crate

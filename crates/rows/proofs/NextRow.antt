@@ -20,9 +20,10 @@ greatest-one f h w v width up c inside =
     rw zero-add at (greatest-part f f h w v 0 1 width (omega arith) (λ d l. greatest-none f w v d) (rw (mul-one w, mul-one v) up) c inside)
 
 -- a row with the same cells
-row-same : (May : ℕ → Type 0) (f g h : ℕ → ℕ) (w v width : ℕ) → ((c : ℕ) → c < width → g c ≡ h c) → GreatestRow May f w v width g → GreatestRow May f w v width h
+row-same : (May : ℕ → Type 0) (f g h : ℕ → ℕ) (w v width : ℕ) → ((c : ℕ) → c < width → g c ≡ h c)
+    → GreatestRow May f w v width g → GreatestRow May f w v width h
 unfolding GreatestRow
-row-same May f g h w v width e tops c inside = rw (← e c inside) (tops c inside)
+row-same May f g h w v width e greatest c inside = rw (← e c inside) (greatest c inside)
 
 -- s is the table before, t with the row copied up to `start`, u with it raised from there on
 module _ (s t u : List ℕ) (from width w v most start : ℕ)
@@ -58,20 +59,22 @@ module _ (s t u : List ℕ) (from width w v most start : ℕ)
       let zero : 0 ≡ min 1 most = omega arith in
       rw (← zero, same-below c (omega arith)) (greatest-none (λ d. at s (from + d)) w v c))
 
-  first-part : from + width + width ≤ length u → GreatestRow (λ x. x ≤ min 1 most) (λ c. at s (from + c)) w v width (at (partOf u (from + width) width))
+  first-part : from + width + width ≤ length u
+      → GreatestRow (λ x. x ≤ min 1 most) (λ c. at s (from + c)) w v width (at (partOf u (from + width) width))
   first-part fits =
       row-same (λ x. x ≤ min 1 most) (λ c. at s (from + c)) (λ c. at u (from + width + c)) (at (partOf u (from + width) width)) w v width
       (λ c h. sym (part-at u (from + width) width fits c h)) first-one
 
-  -- which leaves the row low
-  pub part-capped : 1 ≤ w → v ≤ mostValue → from + width + width ≤ length u → Capped (λ c. at s (from + c)) width → Capped (at (partOf u (from + width) width)) width
-  part-capped pos cheap fits low =
-      greatest-capped (λ x. x ≤ min 1 most) (λ c. at s (from + c)) (at (partOf u (from + width) width)) w v width pos cheap low (first-part fits)
+  -- which leaves the row capped
+  pub part-capped : 1 ≤ w → v ≤ mostValue → from + width + width ≤ length u → Capped (λ c. at s (from + c)) width
+      → Capped (at (partOf u (from + width) width)) width
+  part-capped pos cheap fits capped =
+      greatest-capped (λ x. x ≤ min 1 most) (λ c. at s (from + c)) (at (partOf u (from + width) width)) w v width pos cheap capped (first-part fits)
 
   -- then up to `limit` of it, by parts in place
   module _ (row : List ℕ) (limit : ℕ) (pos : 1 ≤ w) (fits : from + width + width ≤ length u) (long : length row ≡ width) (within : start ≤ width)
       (is-most : most ≡ min limit ((width - 1) / w)) (parts : Repeated (partOf u (from + width) width) row w v width most) where
-    pub next-made : NextRow s (take (from + width) u ++ (row ++ drop (from + width + width - (from + width)) (drop (from + width) u))) from width w v limit
+    pub next-made : let to = from + width in NextRow s (take to u ++ (row ++ drop (to + width - to) (drop to u))) from width w v limit
     unfolding Repeated GreatestRow
     next-made = record {
       made = λ c l.
@@ -83,8 +86,8 @@ module _ (s t u : List ℕ) (from width w v most start : ℕ)
     }
 
 -- as many as the budget holds are lighter than the row is wide
-pub most-light : (limit w width : ℕ) → 0 < width → w * min limit ((width - 1) / w) < width
-most-light limit w width pos = omega (arith, mul-le-mul-left w (min-le-right limit ((width - 1) / w)), mul-div-le (width - 1) w)
+pub most-light : (limit w width most : ℕ) → 0 < width → most ≡ min limit ((width - 1) / w) → w * most < width
+most-light limit w width most pos e = rw e (omega (arith, mul-le-mul-left w (min-le-right limit ((width - 1) / w)), mul-div-le (width - 1) w))
 
 -- so it is raised from a budget within the row on
 pub start-within : (w most width start : ℕ) → (most ≡ 0 → start ≡ width) → (0 < most → start ≡ w) → w * most < width → start ≤ width

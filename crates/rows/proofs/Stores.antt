@@ -1,4 +1,4 @@
--- Cells that a loop stores one by one.
+-- Cells that a loop stores one by one: what is stored so far, and the loop's invariants made of it.
 -- Assumes nothing.
 use mathlib.Core.Path.{_≡_, refl, sym, ap, ap₂, _∙_}
 use Prim.Native.Nat.{ℕ, suc, _+_, _-_, _*_, _≤_, _<_, max}
@@ -6,7 +6,7 @@ use native.Mathlib.Decide.{decLt}
 use native.Mathlib.Nat.{zero-add}
 use native.Mathlib.Omega.{arith}
 use mathlib.Core.List.{List, _∷_}
-use lib.ListN.{length, set, drop}
+use lib.ListN.{length, set, drop, length-set}
 use lib.Seq.{getD-set-same, getD-set-other, drop-cons, drop-set-lt, lt-length-set}
 use Rattle.meaning.specs.Lists.{at}
 use Rattle.meaning.specs.Bounds.{mostValue}
@@ -67,15 +67,40 @@ module _ (s : List ℕ) (to lo hi : ℕ) (rule : ℕ → ℕ) where
       past = λ k l. at-other t place x k (omega arith) ∙ d .past k l;
     }
 
+-- a loop that stores the cells from lo to hi - 1, from the first on, has come to cell c
+pub record Storing (s : List ℕ) (to lo hi : ℕ) (rule : ℕ → ℕ) (c : ℕ) (t : List ℕ) : Type 0 where
+  pub from : lo ≤ c
+  pub within : c ≤ hi
+  pub long : length t ≡ length s
+  pub stored : Stored s t to lo c rule
+
+module _ (s : List ℕ) (to lo hi : ℕ) (rule : ℕ → ℕ) where
+  pub storing-none : lo ≤ hi → Storing s to lo hi rule lo s
+  storing-none h = record { from = omega arith; within = h; long = refl; stored = stored-none s to lo lo rule (omega arith) }
+
+  -- one cell more
+  pub storing-more : (c place x : ℕ) (t : List ℕ) → c < hi → to + hi ≤ length s → Storing s to lo hi rule c t → place ≡ to + c → x ≡ rule c
+      → Storing s to lo hi rule (c + 1) (set t place x)
+  storing-more c place x t h room d here e = record {
+    from = omega (arith, d .from);
+    within = omega arith;
+    long = simp length-set (d .long);
+    stored = stored-up s to lo c rule t place x (omega (arith, d .long)) (d .stored) (d .from) here e;
+  }
+
+  -- all of them
+  pub storing-all : (c : ℕ) (t : List ℕ) → hi ≤ c → Storing s to lo hi rule c t → Stored s t to lo hi rule
+  storing-all c t h d = let end : c ≡ hi = omega (arith, d .within) in rw end at (d .stored)
+
 -- ---- a row in place, from small budgets up
 
 module _ (rule : ℕ → ℕ → ℕ) (s : List ℕ) (w : ℕ) where
-  pub swept-none : (c : ℕ) → Swept rule s s w c c
+  swept-none : (c : ℕ) → Swept rule s s w c c
   swept-none c = record { made = λ k l h. absurd (omega arith); before = λ k l. refl; past = λ k l. refl }
 
   -- one cell more
-  pub swept-more : (t : List ℕ) (lo c x : ℕ) → c < length t → 1 ≤ w → w ≤ lo → lo ≤ c → Swept rule s t w lo c → x ≡ rule (at t c) (at t (c - w))
-      → Swept rule s (set t c x) w lo (c + 1)
+  swept-more : (t : List ℕ) (lo c x : ℕ) → c < length t → 1 ≤ w → w ≤ lo → lo ≤ c → Swept rule s t w lo c
+      → x ≡ rule (at t c) (at t (c - w)) → Swept rule s (set t c x) w lo (c + 1)
   swept-more t lo c x inside pos light h d e =
       let same : (k : ℕ) → k < c → at (set t c x) k ≡ at t k = λ k l. at-other t c x k (omega arith) in
       record {
@@ -89,7 +114,8 @@ module _ (rule : ℕ → ℕ → ℕ) (s : List ℕ) (w : ℕ) where
       }
 
   -- one stretch after another
-  pub swept-on : (t u : List ℕ) (lo mid hi : ℕ) → 1 ≤ w → lo ≤ mid → mid ≤ hi → Swept rule s t w lo mid → Swept rule t u w mid hi → Swept rule s u w lo hi
+  swept-on : (t u : List ℕ) (lo mid hi : ℕ) → 1 ≤ w → lo ≤ mid → mid ≤ hi → Swept rule s t w lo mid → Swept rule t u w mid hi
+      → Swept rule s u w lo hi
   swept-on t u lo mid hi pos h₁ h₂ d e = record {
     made = λ k l m. by k mid
         (λ b. e .before k b ∙ d .made k l b ∙ ap (rule (at s k)) (sym (e .before (k - w) (omega arith))))
@@ -98,24 +124,57 @@ module _ (rule : ℕ → ℕ → ℕ) (s : List ℕ) (w : ℕ) where
     past = λ k l. e .past k l ∙ d .past k (omega arith);
   }
 
-  -- a whole row: the stretches came to its end, or the first cell to be made lies past it
-  pub swept-all : (t : List ℕ) (c width : ℕ) → width ≤ c → c ≤ max w width → Swept rule s t w w c → Swept rule s t w w width
-  swept-all t c width h l d = record {
-    made = λ k m n. d .made k m (omega arith);
-    before = d .before;
-    past = λ k m. by k c (λ b. d .before k (omega arith)) (λ b. d .past k b);
+-- a loop that sweeps the cells from lo to hi - 1 has come to cell c, cell by cell or stretch by stretch. There may be none to sweep
+pub record Sweeping (rule : ℕ → ℕ → ℕ) (s : List ℕ) (w lo hi c : ℕ) (t : List ℕ) : Type 0 where
+  pub from : lo ≤ c
+  pub within : c ≤ max lo hi
+  pub long : length t ≡ length s
+  pub swept : Swept rule s t w lo c
+
+module _ (rule : ℕ → ℕ → ℕ) (s : List ℕ) (w lo hi : ℕ) where
+  pub sweeping-none : Sweeping rule s w lo hi lo s
+  sweeping-none = record { from = omega arith; within = omega arith; long = refl; swept = swept-none rule s w lo }
+
+  module _ (pos : 1 ≤ w) (light : w ≤ lo) (c : ℕ) (t : List ℕ) (h : c < hi) (d : Sweeping rule s w lo hi c t) where
+    -- one cell more
+    pub sweeping-more : (x : ℕ) → hi ≤ length s → x ≡ rule (at t c) (at t (c - w)) → Sweeping rule s w lo hi (c + 1) (set t c x)
+    sweeping-more x room e = record {
+      from = omega (arith, d .from);
+      within = omega arith;
+      long = simp length-set (d .long);
+      swept = swept-more rule s w t lo c x (omega (arith, d .long)) pos light (d .from) (d .swept) e;
+    }
+
+    -- one stretch more
+    pub sweeping-on : (end : ℕ) (u : List ℕ) → c ≤ end → end ≤ hi → length u ≡ length t → Swept rule t u w c end
+        → Sweeping rule s w lo hi end u
+    sweeping-on end u h₁ h₂ kept e = record {
+      from = omega (arith, d .from);
+      within = omega arith;
+      long = kept ∙ d .long;
+      swept = swept-on rule s w t u lo c end pos (d .from) h₁ (d .swept) e;
+    }
+
+  -- all of them
+  pub sweeping-all : (c : ℕ) (t : List ℕ) → hi ≤ c → Sweeping rule s w lo hi c t → Swept rule s t w lo hi
+  sweeping-all c t h d = record {
+    made = λ k m n. d .swept .made k m (omega arith);
+    before = d .swept .before;
+    past = λ k m. by k c (λ b. d .swept .before k (omega (arith, d .from, d .within))) (λ b. d .swept .past k b);
   }
 
--- a cell that is low stays so with a label more
+-- a cell that keeps to the greatest value for each unit of its budget does so with a label more
 pub capped-more : (x y c w v : ℕ) → x ≤ mostValue * c → w ≤ c → y ≤ mostValue * (c - w) → v ≤ mostValue * w → max x (y + v) ≤ mostValue * c
 unfolding mostValue
 capped-more x y c w v hx h hy hv = omega arith
 
--- a low row with one cell stored that is low
-pub capped-set : (t : List ℕ) (c x width : ℕ) → c < length t → Capped (at t) width → x ≤ mostValue * c → Capped (at (set t c x)) width
-unfolding Capped mostValue
-capped-set t c x width inside low h k l =
-    by k c (λ b. omega (arith, at-other t c x k (omega arith), low k l))
+-- a capped row with one cell stored that was raised by a label
+pub capped-raised : (t : List ℕ) (c x w v width : ℕ) → c < length t → c < width → w ≤ c → v ≤ mostValue * w → Capped (at t) width
+    → x ≡ max (at t c) (at t (c - w) + v) → Capped (at (set t c x)) width
+unfolding Capped
+capped-raised t c x w v width inside here light cheap capped e k l =
+    let more = capped-more (at t c) (at t (c - w)) c w v (capped c here) light (capped (c - w) (omega arith)) cheap in
+    by k c (λ b. rw (at-other t c x k (omega arith)) (capped k l))
     (λ b. by c k
-    (λ b′. omega (arith, at-other t c x k (omega arith), low k l))
-    (λ b′. omega (arith, at-same t c x k inside (omega arith))))
+    (λ b′. rw (at-other t c x k (omega arith)) (capped k l))
+    (λ b′. let same : k ≡ c = omega arith in rw (same, at-same t c x c inside refl, e) more))

@@ -1,4 +1,4 @@
--- The way through the labels finds the chosen list: one argument for kinds 3 and 5.
+-- The trace through the labels finds the chosen list: one argument for kinds 3 and 5.
 -- Assumes nothing.
 use mathlib.Core.Path.{_≡_, refl, sym, ap, _∙_, subst}
 use mathlib.Core.Logic.{inl, inr}
@@ -36,7 +36,7 @@ unfolding turnOf Earlier
 turn-earlier first-is n k m hk hm e = e
 turn-earlier last-is n k m hk hm e = omega arith
 
--- ---- what was spent on the way
+-- ---- what was spent so far
 
 -- counts that are all 0 sum to 0
 zero-sum : (p : List ℕ) → ((m : ℕ) → m < length p → at p m ≡ 0) → sum p ≡ 0
@@ -48,22 +48,22 @@ module _ {o : Order} (most : Most o) (leads : ℕ → ℕ → Bool) (ws : List �
   pub trace-long : {k c : ℕ} {p : List ℕ} → Trace o leads ws n budget k c p → length p ≡ n
   unfolding one-more
   trace-long (start long zeros) = long
-  trace-long (taken {k} {c} {picks = p} way inside on) = length-more p (turnOf o n k) ∙ trace-long way
-  trace-long (passed way inside off) = trace-long way
+  trace-long (taken {k} {c} {picks = p} trace inside on) = length-more p (turnOf o n k) ∙ trace-long trace
+  trace-long (passed trace inside off) = trace-long trace
 
   -- the picks weigh what is not left
   pub trace-spent : {k c : ℕ} {p : List ℕ} → Trace o leads ws n budget k c p → total ws p + c ≡ budget
   unfolding one-more
   trace-spent (start {picks = p} long zeros) = omega (arith, zero-total ws p (zero-sum p (λ m h. zeros m (omega arith))))
-  trace-spent (taken {k} {c} {picks = p} way inside on) =
+  trace-spent (taken {k} {c} {picks = p} trace inside on) =
       let m = turnOf o n k in
-      omega (arith, trace-spent way, more-total ws p m (omega (arith, trace-long way, turn-within most n k inside)), light m c on)
-  trace-spent (passed way inside off) = trace-spent way
+      omega (arith, trace-spent trace, more-total ws p m (omega (arith, trace-long trace, turn-within most n k inside)), light m c on)
+  trace-spent (passed trace inside off) = trace-spent trace
 
   -- so no count passes the budget
   pub trace-few : {k c : ℕ} {p : List ℕ} → Trace o leads ws n budget k c p → (m : ℕ) → 1 ≤ at ws m → at p m + c ≤ budget
-  trace-few {p = p} way m heavy =
-      omega (arith, trace-spent way, total-part ws p m, mul-le-mul-right (at p m) heavy, one-mul (at p m))
+  trace-few {p = p} trace m heavy =
+      omega (arith, trace-spent trace, total-part ws p m, mul-le-mul-right (at p m) heavy, one-mul (at p m))
 
   -- ---- `Good c` are the best lists for c. Where a label leads on, they are, as far as they use it, those for what it leaves with one
   -- more of it, and where it doesn't, none of them uses it
@@ -105,14 +105,15 @@ module _ {o : Order} (most : Most o) (leads : ℕ → ℕ → Bool) (ws : List �
       settled = λ q g l h. absurd (omega arith);
       on = λ q r chosen t.
           subst (Chosen o n (Good budget))
-          (ext-getD 0 q r (long budget q (chosen .one-of) ∙ sym (t .counts)) (λ m h. let h′ : m < n = omega (arith, long budget q (chosen .one-of)) in omega (arith, t .each m h′, zeros m h′)))
+          (ext-getD 0 q r (long budget q (chosen .one-of) ∙ sym (t .counts))
+          (λ m h. let h′ : m < n = omega (arith, long budget q (chosen .one-of)) in omega (arith, t .each m h′, zeros m h′)))
           chosen;
     }
-    come first (taken {k} {c} {picks = p} way inside on) =
-        let d = come first way in
+    come first (taken {k} {c} {picks = p} trace inside on) =
+        let d = come first trace in
         let m = turnOf o n k in
         let m< = turn-within most n k inside in
-        let within : c ≤ budget = omega (arith, trace-spent way) in
+        let within : c ≤ budget = omega (arith, trace-spent trace) in
         record {
           best = some-left m c m< within on;
           settled = λ q g l h.
@@ -121,17 +122,18 @@ module _ {o : Order} (most : Most o) (leads : ℕ → ℕ → Bool) (ws : List �
           on = λ q r chosen t.
               d .on (one-more q m) r
               (greedy-step o most n (Good c) (Good (c - at ws m)) m m< (long c) (long (c - at ws m)) (fewer m c m< within on)
-              (λ i h earlier q′ g. subst (λ (x : ℕ). at q′ x ≡ 0) (turn-back most n i h) (d .settled q′ g (turnOf o n i) (turn-earlier most n k i inside h earlier)))
+              (λ i h earlier q′ g.
+              subst (λ (x : ℕ). at q′ x ≡ 0) (turn-back most n i h) (d .settled q′ g (turnOf o n i) (turn-earlier most n k i inside h earlier)))
               q chosen (more m c m< within on q (chosen .one-of)))
-              (together-more p q r m m< (trace-long way) (long (c - at ws m) q (chosen .one-of)) t);
+              (together-more p q r m m< (trace-long trace) (long (c - at ws m) q (chosen .one-of)) t);
         }
-    come first (passed {k} {c} {picks = p} way inside off) =
-        let d = come first way in
+    come first (passed {k} {c} {picks = p} trace inside off) =
+        let d = come first trace in
         record {
           best = d .best;
           settled = λ q g l h.
               elim (ℕ-discrete l k) [
-                | yes e ↦ rw e (unused (turnOf o n k) c (turn-within most n k inside) (omega (arith, trace-spent way)) off q g)
+                | yes e ↦ rw e (unused (turnOf o n k) c (turn-within most n k inside) (omega (arith, trace-spent trace)) off q g)
                 | no other ↦ d .settled q g l (omega arith)
               ];
           on = d .on;
@@ -139,12 +141,14 @@ module _ {o : Order} (most : Most o) (leads : ℕ → ℕ → Bool) (ws : List �
 
     -- where all counts are settled, the picks are the chosen list: the only best list for what is left is of zeros
     pub trace-chosen : (c : ℕ) (p : List ℕ) → (q : List ℕ) × Good budget q → Trace o leads ws n budget n c p → Chosen o n (Good budget) p
-    trace-chosen c p first way =
-        let d = come first way in
+    trace-chosen c p first trace =
+        let d = come first trace in
         let (q, good) = d .best in
         let zero-at : (q′ : List ℕ) → Good c q′ → (m : ℕ) → m < n → at q′ m ≡ 0 =
         λ q′ g m h. subst (λ (x : ℕ). at q′ x ≡ 0) (turn-back most n m h) (d .settled q′ g (turnOf o n m) (turn-within most n m h)) in
         d .on q p
         (only-choice o n (Good c) q good
-        (λ q′ g. ext-getD 0 q′ q (long c q′ g ∙ sym (long c q good)) (λ m h. let h′ : m < n = omega (arith, long c q′ g) in zero-at q′ g m h′ ∙ sym (zero-at q good m h′))))
-        (record { counts = trace-long way; each = λ m h. omega (arith, zero-at q good m h) })
+        (λ q′ g.
+        ext-getD 0 q′ q (long c q′ g ∙ sym (long c q good))
+        (λ m h. let h′ : m < n = omega (arith, long c q′ g) in zero-at q′ g m h′ ∙ sym (zero-at q good m h′))))
+        (record { counts = trace-long trace; each = λ m h. omega (arith, zero-at q good m h) })

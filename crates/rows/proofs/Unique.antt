@@ -1,4 +1,4 @@
--- No second choice is left: two slices that meet the promise of a function of this crate are the same. That two least counts are is `least-unique` (Counts).
+-- No second choice is left: two slices that meet the promise of a function of this crate are the same. Two least counts: `least-unique` (Counts).
 -- A slice keeps its length through a call, which no record of cells says again: these laws are handed it.
 -- Assumes nothing.
 use mathlib.Core.Path.{_≡_, sym, _∙_}
@@ -53,7 +53,7 @@ module _ (n : ℕ) (t t′ : List ℕ) (long : length t ≡ n) (long′ : length
       rw here at (greatest-unique (d .made (k - to) (omega arith)) (e .made (k - to) (omega arith))))
       (d .before) (d .past) (e .before) (e .past)
 
-  -- `add_any_number`: every cell of the row is topped
+  -- `add_any_number`: every cell of the row is the greatest worth
   pub greatest-row-unique : (May : ℕ → Type 0) (f : ℕ → ℕ) (w v : ℕ) → GreatestRow May f w v n (at t) → GreatestRow May f w v n (at t′) → t ≡ t′
   unfolding GreatestRow
   greatest-row-unique May f w v d e = same-places (λ k h. greatest-unique (d k h) (e k h))

@@ -30,7 +30,7 @@ pub record Greatest (May : ℕ → Type 0) (f : ℕ → ℕ) (w v c b : ℕ) : T
 abbrev pub AnyCount : ℕ → Type 0
 AnyCount x = Unit
 
--- g is such a row: each of its cells is topped over f, for budgets below `width`
+-- g is such a row: each of its cells is the greatest worth over f, for budgets below `width`
 unfoldable pub GreatestRow : (ℕ → Type 0) → (ℕ → ℕ) → ℕ → ℕ → ℕ → (ℕ → ℕ) → Type 0
 GreatestRow May f w v width g = (c : ℕ) → c < width → Greatest May f w v c (g c)
 
@@ -82,7 +82,7 @@ pub record Bundled (s t : List ℕ) (w v width m : ℕ) : Type 0 where
   pub few : m < 32
   pub fits : w * m < 4_294_967_296
   pub fewer : GreatestRow (λ x. x ≤ m - 1) (at s) w v width (at t)
-  pub low : Capped (at t) width
+  pub capped : Capped (at t) width
 
 -- t is s with the row after the one at `from` made of it and up to `limit` of the label; all other cells are kept
 pub record NextRow (s t : List ℕ) (from width w v limit : ℕ) : Type 0 where

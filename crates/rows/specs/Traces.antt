@@ -14,7 +14,7 @@ turnOf last-least n k = n - suc k
 turnOf first-most n k = k
 turnOf last-most n k = n - suc k
 
--- the way through the labels from the budget. It has settled the counts of k labels, and c of the budget is left; `picks` are the counts
+-- the trace through the labels from the budget. It has settled the counts of k labels, and c of the budget is left; `picks` are the counts
 -- so far, 0 for labels still to come. One more of the label whose turn it is is taken wherever it leads on
 pub data Trace (o : Order) (leads : ℕ → ℕ → Bool) (weights : List ℕ) (n budget : ℕ) : ℕ → ℕ → List ℕ → Type 0 where
   start : {picks : List ℕ} → length picks ≡ n → ((m : ℕ) → m < n → at picks m ≡ 0) → Trace o leads weights n budget 0 budget picks

@@ -5,7 +5,8 @@ ghost use Prim.Native.Nat.{ℕ, _+_, _-_, _*_, _/_, _≤_, _<_, max, min};
 ghost use lib.ListN.{length};
 ghost use Rattle.meaning.specs.Lists.{at};
 ghost use Rattle.meaning.specs.Bounds.{mostBudget, mostValue};
-ghost use Rattle.rows.specs.Rows.{GreatestRow, AnyCount, SomeCount, Least, Raised, Swept, raisedBy, Stored, FirstAlone, Capped, Repeated, Bundled, NextRow, leadsOn};
+ghost use Rattle.rows.specs.Rows.{Stored, FirstAlone, Swept, raisedBy, Raised, Capped, Repeated, Bundled, NextRow};
+ghost use Rattle.rows.specs.Rows.{GreatestRow, AnyCount, SomeCount, Least, leadsOn};
 
 // The lesser of two numbers.
 fn lesser(a: u32, b: u32) -> u32
@@ -65,7 +66,8 @@ fn copy(cells: &mut [u32], from: usize, to: usize, count: usize)
 fn raise(cells: &mut [u32], from: usize, to: usize, width: usize, w: usize, v: u32)
     requires { ⌜ (w ≤ width) × ((from + width ≤ to) × (to + width ≤ length (now cells))) ⌝ }
     requires { ⌜ ((c : ℕ) → c + w < width → at (now cells) (from + c) + v < 4_294_967_296) ⌝ }
-    ensures { λ _. ⌜ Stored (now (cells .entry)) (now (cells .exit)) to w width (λ c. max (at (now (cells .entry)) (from + c)) (at (now (cells .entry)) (from + (c - w)) + v)) ⌝ }
+    ensures { λ _. ⌜ Stored (now (cells .entry)) (now (cells .exit)) to w width
+        (λ c. max (at (now (cells .entry)) (from + c)) (at (now (cells .entry)) (from + (c - w)) + v)) ⌝ }
 {
     let mut c = w;
     while c < width {
@@ -93,9 +95,12 @@ fn add_one(row: &mut [u32], w: u32, v: u32)
     }
 }
 
+// One more than the greatest budget (`mostBudget`), and so above the weight of whatever a row holds. A remainder by it changes no such
+// weight, and tells the compiler that the weight is small: only then does the pass over the row run in vectors.
+const BUDGETS: u32 = 65_536;
+
 // A row that holds up to one of a label is made to hold up to `most` of it, in parts as large as keep every count within reach: 1, 2, 4
-// and so on, and what is left. A part's weight is below the remainder's divisor, which tells the compiler so: only then does the pass
-// run in vectors.
+// and so on, and what is left.
 fn add_parts(row: &mut [u32], w: u32, v: u32, most: u32)
     requires { ⌜ (1 ≤ w) × ((v ≤ mostValue) × ((length (now row) ≤ mostBudget + 1) × (w * most < length (now row)))) ⌝ }
     requires { ⌜ Capped (at (now row)) (length (now row)) ⌝ }
@@ -104,7 +109,7 @@ fn add_parts(row: &mut [u32], w: u32, v: u32, most: u32)
     let mut m = lesser(1, most);
     while m < most {
         let part = lesser(m + 1, most - m);
-        add_one(row, w * part % 65_536, v * part);
+        add_one(row, w * part % BUDGETS, v * part);
         m += part;
     }
 }
@@ -150,6 +155,9 @@ fn climb(row: &mut [u32], w: u32, v: u32)
     }
 }
 
+// So much weighs enough: a stretch of so many cells runs in vectors. What weighs less is also told to the compiler, by a remainder (BUDGETS).
+const HEAVY: u32 = 16;
+
 // Light labels are bundled: the row is made to hold fewer than a bundle of the label, and the size of a bundle is given. A bundle is
 // heavy enough for stretches that run in vectors, or is the label alone.
 fn bundle(row: &mut [u32], w: u32, v: u32) -> u32
@@ -158,8 +166,8 @@ fn bundle(row: &mut [u32], w: u32, v: u32) -> u32
     ensures { λ r. ⌜ Bundled (now (row .entry)) (now (row .exit)) w v (length (now (row .entry))) r ⌝ }
 {
     let mut m: u32 = 1;
-    while w * m < 16 {
-        add_one(row, w * m % 16, v * m);
+    while w * m < HEAVY {
+        add_one(row, w * m % HEAVY, v * m);
         m *= 2;
     }
     m

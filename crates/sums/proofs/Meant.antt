@@ -46,10 +46,12 @@ module _ (j : Job) (i t : ℕ) where
   tells-with h (is-so r e) (is-so _ e′) = is-so (reached-without j i t r) (omega arith)
   tells-with h (is-so r e) (is-not _ e′) = is-so (reached-without j i t r) (omega arith)
   tells-with h (is-not none e) (is-so r e′) = is-so (subst (Reached j (suc i)) (omega arith) (reached-with j i (t - w) r)) (omega arith)
-  tells-with h (is-not none e) (is-not none′ e′) = is-not (λ r. elim (reached-either j i t r) [ inl old ↦ none old | inr new ↦ none′ (new .1) ]) (omega arith)
+  tells-with h (is-not none e) (is-not none′ e′) =
+      is-not (λ r. elim (reached-either j i t r) [ inl old ↦ none old | inr new ↦ none′ (new .1) ]) (omega arith)
 
 -- each bit tells whether its total is reached
-pub marked-tells : (j : Job) (len : ℕ) (words : List ℕ) → Marked (j .weights) len (labels j) words → (t : ℕ) → t < 64 * len → Tells (Reached j (labels j) t) (bit words t)
+pub marked-tells : (j : Job) (len : ℕ) (words : List ℕ) → Marked (j .weights) len (labels j) words
+    → (t : ℕ) → t < 64 * len → Tells (Reached j (labels j) t) (bit words t)
 marked-tells j len words =
     each-round _ _ (λ i s. (t : ℕ) → t < 64 * len → Tells (Reached j i t) (bit s t)) (labels j)
     (λ s d t h. by 0 t
@@ -70,8 +72,8 @@ tells-within j n t h (is-so r e) = is-so (record { reached = r; within = h }) e
 tells-within j n t h (is-not none e) = is-not (λ r. none (r .reached)) e
 
 -- the words of all labels, trimmed
-pub bit-table : (j : Job) (len : ℕ) (s words : List ℕ) → len ≡ j .budget / 64 + 1 → Marked (j .weights) len (labels j) s → Trimmed s words (j .budget) len
-    → ((m : ℕ) → at words m < 2 ^ 64) → BitTable j words
+pub bit-table : (j : Job) (len : ℕ) (s words : List ℕ) → len ≡ j .budget / 64 + 1 → Marked (j .weights) len (labels j) s
+    → Trimmed s words (j .budget) len → ((m : ℕ) → at words m < 2 ^ 64) → BitTable j words
 bit-table j len s words e d cut narrow = record {
   set = λ t h. by (j .budget) t
       (λ b. is-not (λ r. absurd (omega (arith, r .within))) (cut .above t b (omega arith)))
@@ -107,7 +109,8 @@ module _ (j : Job) (words : List ℕ) (len : ℕ) (long : len ≡ j .budget / 64
       (λ t r. let h : t < 64 * (j .budget / 64 + 1) = omega (arith, r .within) in (upTo-in (64 * len) t (omega arith), true-tells (d .set t h) r))
 
   -- the answer
-  pub tabled : (told : Bool) (totals : ℕ) → told ≡ isSet words (j .budget) → totals ≡ tally (isSet words) (upTo (64 * len)) → Tabled j (Says.Sums told totals) words
+  pub tabled : (told : Bool) (totals : ℕ) → told ≡ isSet words (j .budget) → totals ≡ tally (isSet words) (upTo (64 * len))
+      → Tabled j (Says.Sums told totals) words
   unfolding YesOrNo isSet
   tabled told totals e₁ e₂ = record {
     gives = record {
@@ -133,8 +136,8 @@ unfolding roomFor roomOf lentOf
 roomy j words ok = kept subset-sums j (lentOf [] words []) ok .words-room
 
 -- the needed words hold the table, and the others what they held
-pub solved : (j : Job) (a : Answer) (words table : List ℕ) → Unrefused subset-sums j (lentOf [] words []) → length table ≡ j .budget / 64 + 1 → Tabled j a table
-    → SolvedInWords j words a (table ++ drop (j .budget / 64 + 1) words)
+pub solved : (j : Job) (a : Answer) (words table : List ℕ) → Unrefused subset-sums j (lentOf [] words [])
+    → length table ≡ j .budget / 64 + 1 → Tabled j a table → SolvedInWords j words a (table ++ drop (j .budget / 64 + 1) words)
 unfolding Gives TableHolds roomFor roomOf lentOf
 solved j a words table ok long d =
     solved-in-words subset-sums j a words (table ++ drop (j .budget / 64 + 1) words) table ok refl refl (d .gives) (d .table) long

@@ -34,7 +34,8 @@ const FEW: usize = 16;
 // the first that has. A word takes the bits of two, and the two aren't joined before: only so does the loop run in vectors.
 fn add_in_vectors(words: &mut [u64], q: usize, r: usize) -> usize
     requires { ⌜ (q < length (now words)) × ((0 < r) × (r < 64)) ⌝ }
-    ensures { λ m. ⌜ ((q < m) × (m ≤ length (now (words .entry)))) × Added (now (words .entry)) (now (words .exit)) (64 * q + r) m (length (now (words .entry))) ⌝ }
+    ensures { λ m. ⌜ ((q < m) × (m ≤ length (now (words .entry))))
+        × Added (now (words .entry)) (now (words .exit)) (64 * q + r) m (length (now (words .entry))) ⌝ }
 {
     let mut m = words.len();
     if m <= FEW {
@@ -82,7 +83,8 @@ fn add_label(words: &mut [u64], w: u32)
 // The words of all labels.
 fn fill(weights: &[u32], wbytes: &[u8], words: &mut [u64])
     requires { ⌜ 0 < length (now words) ⌝ }
-    ensures { λ _. ⌜ Marked (listFrom (now (weights .entry)) (now (wbytes .entry))) (length (now (words .entry))) (length (listFrom (now (weights .entry)) (now (wbytes .entry)))) (now (words .exit)) ⌝ }
+    ensures { λ _. ⌜ Marked (listFrom (now (weights .entry)) (now (wbytes .entry))) (length (now (words .entry)))
+        (length (listFrom (now (weights .entry)) (now (wbytes .entry)))) (now (words .exit)) ⌝ }
 {
     rows::first_alone(words);
     let n = numbers::list_length(weights, wbytes);
@@ -145,7 +147,8 @@ fn table(budget: u32, weights: &[u32], wbytes: &[u8], words: &mut [u64]) -> Answ
 // Kind 4: the words, yes or no, and the number of totals of a job that no refusal meets.
 pub fn solve(budget: u32, weights: &[u32], wbytes: &[u8], words: &mut [u64]) -> Answer
     requires { ⌜ Unrefused subset-sums (weightsFrom 4 (budget ∷ []) (now weights) (now wbytes)) (lentOf [] (now words) []) ⌝ }
-    ensures { λ r. ⌜ SolvedInWords (weightsFrom 4 (budget ∷ []) (now (weights .entry)) (now (wbytes .entry))) (now (words .entry)) r (now (words .exit)) ⌝ }
+    ensures { λ r. ⌜ SolvedInWords (weightsFrom 4 (budget ∷ []) (now (weights .entry)) (now (wbytes .entry)))
+        (now (words .entry)) r (now (words .exit)) ⌝ }
 {
     let needed = (budget / 64 + 1) as usize;
     table(budget, weights, wbytes, &mut words[..needed])

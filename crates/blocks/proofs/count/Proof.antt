@@ -1,25 +1,22 @@
 -- `blocks::count` meets its contract: the amounts so far are swept, each by the new ways one size before it.
 -- Assumes nothing.
-use mathlib.Core.Path.{_≡_, refl}
-use Prim.Native.Nat.{_-_, _≤_, max}
+use Prim.Native.Nat.{_-_}
 use native.Mathlib.Omega.{arith}
-use lib.ListN.{length, length-set}
-use Rattle.rows.specs.Rows.{Swept}
-use Rattle.rows.proofs.Stores.{swept-none, swept-more, swept-all}
+use lib.ListN.{length}
+use Rattle.rows.proofs.Stores.{Sweeping, sweeping-none, sweeping-more, sweeping-all}
 use Rattle.blocks.specs.Sizes.{waysOf}
 use borrow.Author.Needs.{needs}
 use Rattle.blocks.proofs.count.Statement.{statement}
 use Rattle.blocks.proofs.count.Tie as tie
 
 abbrev Inv-loop : tie.InvT-loop
-Inv-loop words₀ w w' a₀ words a =
-    (w' ≤ a) × (a ≤ max w' (length words₀)) × (length words ≡ length words₀) × Swept waysOf words₀ words w' w' a
+Inv-loop words₀ w w' a₀ words a = Sweeping waysOf words₀ w' w' (length words₀) a words
 
 abbrev μ-loop : tie.MeasureT-loop
 μ-loop words₀ w w' a₀ words a = length words₀ - a
 
 loop-holds : tie.Need-loop-holds Inv-loop μ-loop
-loop-holds c = let a = c .before .args in (omega arith, omega arith, refl, swept-none waysOf (a .words .now) (a .w) (a .w))
+loop-holds c = let a = c .before .args in sweeping-none waysOf (a .words .now) (a .w) (a .w) (length (a .words .now))
 
 mul-ways-of : tie.Need-mul-ways-of Inv-loop μ-loop
 mul-ways-of c = search needs
@@ -53,22 +50,21 @@ loop-less c = search needs
 
 loop-again : tie.Need-loop-again Inv-loop μ-loop
 loop-again c =
-    let a = c .before .before .before .before .before .before .args in
-    let l = c .before .before .before .before .loop in (
-      omega arith,
-      omega arith,
-      simp length-set (l .inv .2),
-      swept-more waysOf (a .words .now) (a .w) (l .words) (a .w) (l .a) (c .ways-of .result) (omega arith) (omega arith) (omega arith) (l .inv .0) (l .inv .3) (c .ways-of .ensures),
-    )
+    let head = c .before .before .before .before in
+    let l = head .loop in
+    let s = head .before .before in
+    let a = s .args in
+    sweeping-more waysOf (a .words .now) (a .w) (a .w) (length (a .words .now)) (s .pre) (omega arith)
+    (l .a) (l .words) (omega arith) (l .inv) (c .ways-of .result) (omega arith) (c .ways-of .ensures)
 
 same-length : tie.Need-same-length Inv-loop μ-loop
-same-length c = c .before .loop .inv .2
+same-length c = c .before .loop .inv .long
 
 returns : tie.Need-returns Inv-loop μ-loop
 returns c =
     let l = c .before .loop in
     let a = c .before .before .before .args in
-    swept-all waysOf (a .words .now) (a .w) (l .words) (l .a) (length (a .words .now)) (omega arith) (l .inv .1) (l .inv .3)
+    sweeping-all waysOf (a .words .now) (a .w) (a .w) (length (a .words .now)) (l .a) (l .words) (omega arith) (l .inv)
 
 pub count-spec : {M : Type 1} → statement M
 count-spec =

@@ -44,10 +44,17 @@ module _ (s : tie.Start) where
   lent : length (take (s .args .budget + 1) (s .args .cells .now)) ≡ s .args .budget + 1
   lent = length-take-le (s .args .budget + 1) (s .args .cells .now) (ok .cells-room)
 
+-- the function's entry, and the call of `fill_fewest` from where the last cell isn't the mark
+abbrev entry : tie.After-list-length → tie.Start
+entry c = c .before .before .before .before .before
+
+abbrev filled : tie.Else1 → tie.After-fill-fewest
+filled c = c .before .before .before .before
+
 -- what the call of `fill_fewest` leaves
 module _ (f : tie.After-fill-fewest) where
   abbrev start : tie.Start
-  start = f .before .before .before .before .before .before .before
+  start = entry (f .before .before)
 
   abbrev row : List ℕ
   row = f .fill-fewest .last .1 .1 .0
@@ -77,7 +84,8 @@ module _ (f : tie.After-fill-fewest) where
 
   -- and the first picks are one for each size
   picks-long : length (take (f .before .before .list-length .result) (start .args .picks .now)) ≡ length (sizes start)
-  picks-long = length-take-le (f .before .before .list-length .result) (start .args .picks .now) (omega (arith, counted, ok start .picks-room)) ∙ counted
+  picks-long =
+      length-take-le (f .before .before .list-length .result) (start .args .picks .now) (omega (arith, counted, ok start .picks-room)) ∙ counted
 
 list-length-requires : tie.Need-list-length-requires
 list-length-requires c κs = search needs
@@ -86,13 +94,13 @@ add-width : tie.Need-add-width
 add-width c = search needs
 
 slice-relend-prefix-fill-fewest : tie.Need-slice-relend-prefix-fill-fewest
-slice-relend-prefix-fill-fewest c = ok (c .before .before .before .before .before) .cells-room
+slice-relend-prefix-fill-fewest c = ok (entry c) .cells-room
 
 slice-aggregate-fill-fewest : tie.Need-slice-aggregate-fill-fewest
-slice-aggregate-fill-fewest c = sym (lent (c .before .before .before .before .before .before))
+slice-aggregate-fill-fewest c = sym (lent (entry (c .before)))
 
 fill-fewest-requires : tie.Need-fill-fewest-requires
-fill-fewest-requires c κs = let s = c .before .before .before .before .before .before in rw (lent s) (ok s .bounds)
+fill-fewest-requires c κs = let s = entry (c .before) in rw (lent s) (ok s .bounds)
 
 sub-blocks : tie.Need-sub-blocks
 sub-blocks c = search needs
@@ -111,22 +119,23 @@ unfolding jobOf noWay
 returns c =
     let f = c .before .before .before .before in
     let s = start f in
-    no-blocks (job s) (s .args .cells .now) (s .args .picks .now) (row f) (s .pre) (ok s .bounds) (row-long f) (row-grown f) _ (last f) (c .if1 .taken)
+    no-blocks (job s) (s .args .cells .now) (s .args .picks .now) (row f) (s .pre) (ok s .bounds) (row-long f) (row-grown f)
+    _ (last f) (c .if1 .taken)
 
 slice-reshare-prefix-trace-down : tie.Need-slice-reshare-prefix-trace-down
-slice-reshare-prefix-trace-down c = room (c .before .before .before .before)
+slice-reshare-prefix-trace-down c = room (filled c)
 
 slice-aggregate-trace-down : tie.Need-slice-aggregate-trace-down
-slice-aggregate-trace-down c = let f = c .before .before .before .before .before in sym (row-long f) ∙ ap length (sym (row-front f))
+slice-aggregate-trace-down c = let f = filled (c .before) in sym (row-long f) ∙ ap length (sym (row-front f))
 
 slice-relend-prefix-trace-down : tie.Need-slice-relend-prefix-trace-down
-slice-relend-prefix-trace-down c = let f = c .before .before .before .before .before in omega (arith, counted f, ok (start f) .picks-room)
+slice-relend-prefix-trace-down c = let f = filled (c .before) in omega (arith, counted f, ok (start f) .picks-room)
 
 slice-aggregate-trace-down-2 : tie.Need-slice-aggregate-trace-down-2
-slice-aggregate-trace-down-2 c = let f = c .before .before .before .before .before .before in counted f ∙ sym (picks-long f)
+slice-aggregate-trace-down-2 c = let f = filled (c .before .before) in counted f ∙ sym (picks-long f)
 
 trace-down-requires : tie.Need-trace-down-requires
-trace-down-requires c κs = let f = c .before .before .before .before .before .before in rw (row-front f, row-long f) (ok (start f) .bounds, sym (picks-long f))
+trace-down-requires c κs = let f = filled (c .before .before) in rw (row-front f, row-long f) (ok (start f) .bounds, sym (picks-long f))
 
 same-length-2 : tie.Need-same-length-2
 same-length-2 c = search needs
@@ -137,11 +146,15 @@ same-length-3 c = search needs
 returns-2 : tie.Need-returns-2
 unfolding jobOf labels noWay
 returns-2 c =
-    let w = c .before .before in
-    let f = w .before .before .before .before .before .before .before in
+    let traced = c .before .before in
+    let found = traced .trace-down .last .1 .1 .1 .0 in
+    let other = traced .before .before .before in
+    let f = filled other in
     let s = start f in
-    let way : TraceDown (at (row f)) (sizes s) (s .args .budget) (w .trace-down .last .1 .1 .1 .0) = rw (row-front f, row-long f, add-sub-cancel) at (w .trace-down .ensures) in
-    blocks-laid (job s) (s .args .cells .now) (s .args .picks .now) (row f) (s .pre) (ok s .bounds) (row-long f) (row-grown f) _ _ (w .trace-down .last .1 .1 .1 .0) (last f) (w .before .before .before .if1 .left) (counted f) way
+    let trace : TraceDown (at (row f)) (sizes s) (s .args .budget) found =
+    rw (row-front f, row-long f, add-sub-cancel) at (traced .trace-down .ensures) in
+    blocks-laid (job s) (s .args .cells .now) (s .args .picks .now) (row f) (s .pre) (ok s .bounds) (row-long f) (row-grown f)
+    _ _ found (last f) (other .if1 .left) (counted f) trace
 
 pub fewest-spec : {M : Type 1} → statement M
 fewest-spec =

@@ -1,24 +1,21 @@
 -- `blocks::lay_stretch` meets its contract: the amounts so far are swept, each by the new cell one size before it.
 -- Assumes nothing.
-use mathlib.Core.Path.{_≡_, refl}
-use Prim.Native.Nat.{_-_, _≤_}
+use Prim.Native.Nat.{_-_}
 use native.Mathlib.Omega.{arith}
-use lib.ListN.{length, length-set}
-use Rattle.rows.specs.Rows.{Swept}
-use Rattle.rows.proofs.Stores.{swept-none, swept-more}
+use Rattle.rows.proofs.Stores.{Sweeping, sweeping-none, sweeping-more, sweeping-all}
 use Rattle.blocks.specs.Sizes.{fewerOf}
 use borrow.Author.Needs.{needs}
 use Rattle.blocks.proofs.lay_stretch.Statement.{statement}
 use Rattle.blocks.proofs.lay_stretch.Tie as tie
 
 abbrev Inv-loop : tie.InvT-loop
-Inv-loop row₀ from to w a₀ row a = (from ≤ a) × (a ≤ to) × (length row ≡ length row₀) × Swept fewerOf row₀ row w from a
+Inv-loop row₀ from to w a₀ row a = Sweeping fewerOf row₀ w from to a row
 
 abbrev μ-loop : tie.MeasureT-loop
 μ-loop row₀ from to w a₀ row a = to - a
 
 loop-holds : tie.Need-loop-holds Inv-loop μ-loop
-loop-holds c = let s = c .before in (omega arith, omega arith, refl, swept-none fewerOf (s .args .row .now) (s .args .w) (s .args .from))
+loop-holds c = let a = c .before .args in sweeping-none fewerOf (a .row .now) (a .w) (a .from) (a .to)
 
 mul-fewer : tie.Need-mul-fewer Inv-loop μ-loop
 mul-fewer c = search needs
@@ -52,22 +49,21 @@ loop-less c = search needs
 
 loop-again : tie.Need-loop-again Inv-loop μ-loop
 loop-again c =
-    let a = c .before .before .before .before .before .before .args in
-    let l = c .before .before .before .before .loop in (
-      omega arith,
-      omega arith,
-      simp length-set (l .inv .2),
-      swept-more fewerOf (a .row .now) (a .w) (l .row) (a .from) (l .a) (c .fewer .result) (omega arith) (omega arith) (omega arith) (omega arith) (l .inv .3) (c .fewer .ensures),
-    )
+    let turn = c .before .before .before in
+    let l = turn .before .loop in
+    let s = turn .before .before .before in
+    let a = s .args in
+    sweeping-more fewerOf (a .row .now) (a .w) (a .from) (a .to) (s .pre .0) (s .pre .1 .0)
+    (l .a) (l .row) (turn .loop-test .taken) (l .inv) (c .fewer .result) (s .pre .1 .1 .1) (c .fewer .ensures)
 
 same-length : tie.Need-same-length Inv-loop μ-loop
-same-length c = c .before .loop .inv .2
+same-length c = c .before .loop .inv .long
 
 returns : tie.Need-returns Inv-loop μ-loop
 returns c =
     let l = c .before .loop in
-    let end : l .a ≡ c .before .before .before .args .to = omega arith in
-    rw end at (l .inv .3)
+    let a = c .before .before .before .args in
+    sweeping-all fewerOf (a .row .now) (a .w) (a .from) (a .to) (l .a) (l .row) (omega arith) (l .inv)
 
 pub lay-stretch-spec : {M : Type 1} → statement M
 lay-stretch-spec =

@@ -2,7 +2,10 @@
 -- Assumes nothing.
 use mathlib.Core.Path.{_≡_}
 use Prim.Native.Nat.{ℕ}
-use mathlib.Core.List.{List}
+use mathlib.Core.List.{List, [], _∷_}
+use Rattle.meaning.specs.Job.{jobOf, block-ways}
+use Rattle.meaning.specs.Lent.{lentOf}
+use Rattle.meaning.specs.Solved.{Unrefused}
 use Rattle.meaning.specs.SolvedIn.{SolvedInCells, SolvedInWords}
 use Rattle.numbers.specs.TwoSlices.{listFrom}
 use Rattle.blocks.proofs.BlocksDoor.{asks-blocks, asks-ways}
@@ -10,14 +13,20 @@ use borrow.Author.Needs.{needs}
 use Rattle.blocks.proofs.solve.Statement.{statement}
 use Rattle.blocks.proofs.solve.Tie as tie
 
+-- the function's entry, from the test of the kind
+abbrev entry : tie.After-slice-known3 → tie.Start
+entry c = c .before .before .before .before .before
+
 -- the sizes that the function is handed
 abbrev sizes : tie.Start → List ℕ
 sizes s = listFrom (s .args .weights .now) (s .args .wbytes .now)
 
 fewest-requires : tie.Need-fewest-requires
 fewest-requires c κs =
-    let s = c .before .before .before .before .before .before .before .before in
-    asks-blocks (s .args .budget) (s .args .kind) (sizes s) (s .args .cells .now) (s .args .words .now) (s .args .picks .now) (c .before .before .if1 .taken) (s .pre)
+    let five = c .before .before in
+    let s = entry (five .before) in
+    let a = s .args in
+    asks-blocks (a .budget) (a .kind) (sizes s) (a .cells .now) (a .words .now) (a .picks .now) (five .if1 .taken) (s .pre)
 
 same-length : tie.Need-same-length
 same-length c = search needs
@@ -28,14 +37,22 @@ same-length-2 c = search needs
 returns : tie.Need-returns
 unfolding SolvedInCells
 returns c =
-    let s = c .before .before .before .before .before .before .before .before .before .before .before .before .before in
-    let five : s .args .kind ≡ 5 = c .before .before .before .before .before .before .before .if1 .taken in
-    rw five (c .before .before .before .before .fewest .ensures (s .args .words .now))
+    let laid = c .before .before .before .before in
+    let five = laid .before .before .before in
+    let s = entry (five .before) in
+    let kind : s .args .kind ≡ 5 = five .if1 .taken in
+    rw kind (laid .fewest .ensures (s .args .words .now))
+
+-- any other kind asks for ways
+asked : (c : tie.Else1) → let s = entry (c .before) in
+    (s .args .kind ≡ 6) × Unrefused block-ways (jobOf 6 (s .args .budget ∷ []) (sizes s) [] []) (lentOf [] (s .args .words .now) [])
+asked c =
+    let s = entry (c .before) in
+    let a = s .args in
+    asks-ways (a .budget) (a .kind) (sizes s) (a .cells .now) (a .words .now) (a .picks .now) (c .if1 .left) (s .pre)
 
 ways-requires : tie.Need-ways-requires
-ways-requires c κs =
-    let s = c .before .before .before .before .before .before .before in
-    asks-ways (s .args .budget) (s .args .kind) (sizes s) (s .args .cells .now) (s .args .words .now) (s .args .picks .now) (c .before .if1 .left) (s .pre) .1
+ways-requires c κs = asked (c .before) .1
 
 same-length-3 : tie.Need-same-length-3
 same-length-3 c = search needs
@@ -43,9 +60,11 @@ same-length-3 c = search needs
 returns-2 : tie.Need-returns-2
 unfolding SolvedInWords
 returns-2 c =
-    let s = c .before .before .before .before .before .before .before .before .before .before in
-    let six = asks-ways (s .args .budget) (s .args .kind) (sizes s) (s .args .cells .now) (s .args .words .now) (s .args .picks .now) (c .before .before .before .before .if1 .left) (s .pre) .0 in
-    rw six (c .before .before .ways .ensures (s .args .cells .now) (s .args .picks .now))
+    let counted = c .before .before in
+    let other = counted .before .before in
+    let s = entry (other .before) in
+    let kind : s .args .kind ≡ 6 = asked other .0 in
+    rw kind (counted .ways .ensures (s .args .cells .now) (s .args .picks .now))
 
 pub solve-spec : {M : Type 1} → statement M
 solve-spec =

@@ -1,4 +1,4 @@
--- `blocks::trace_down` meets its contract: the way has come down to size i; each turn lays one block of it, or passes it.
+-- `blocks::trace_down` meets its contract: the trace has come down to size i; each turn lays one block of it, or passes it.
 -- Assumes nothing.
 use mathlib.Core.Path.{_≡_, refl, sym, subst, _∙_}
 use Prim.Native.Nat.{ℕ, _+_, _-_, _≤_, _<_}
@@ -7,15 +7,11 @@ use mathlib.Core.Bool.{Bool, true, false}
 use mathlib.Core.List.{List}
 use lib.ListN.{length, length-set}
 use Rattle.meaning.specs.Lists.{at}
-use Rattle.meaning.specs.Orders.{last-most}
 use Rattle.meaning.specs.Bounds.{mostBudget}
-use Rattle.meaning.proofs.Greedy.{last-is}
 use Rattle.numbers.specs.TwoSlices.{listFrom}
-use Rattle.rows.specs.Traces.{Trace, start}
-use Rattle.rows.proofs.Traces.{trace-few}
 use Rattle.rows.proofs.Stores.{stored-each}
-use Rattle.blocks.specs.Sizes.{leavesFewer, leadsDown}
-use Rattle.blocks.proofs.Laying.{down-light, down-taken, down-passed}
+use Rattle.blocks.specs.Sizes.{leavesFewer}
+use Rattle.blocks.proofs.Laying.{DownTo, down-light, down-begins, down-few, down-taken, down-passed}
 use borrow.Author.Needs.{needs}
 use Rattle.blocks.proofs.trace_down.Statement.{statement}
 use Rattle.blocks.proofs.trace_down.Tie as tie
@@ -25,14 +21,25 @@ Inv-loop weights wbytes row picks₀ n i₀ a₀ picks i a =
     (i ≤ length (listFrom weights wbytes))
     × (a < length row)
     × (length picks ≡ length picks₀)
-    × Trace last-most (leadsDown (at row) (listFrom weights wbytes)) (listFrom weights wbytes) (length (listFrom weights wbytes)) (length row - 1) (length (listFrom weights wbytes) - i) a picks
+    × DownTo (at row) (listFrom weights wbytes) (length row - 1) i a picks
 
 abbrev μ-loop : tie.MeasureT-loop
 μ-loop weights wbytes row picks₀ n i₀ a₀ picks i a = i + a
 
--- the function's entry, from the loop's head
+-- the function's entry
+abbrev begun : tie.After-set-all Inv-loop μ-loop → tie.Start Inv-loop μ-loop
+begun c = c .before .before .before .before .before .before
+
+-- the picks of no blocks, from the loop's head, and the entry from there
+abbrev cleared : tie.At-loop Inv-loop μ-loop → tie.After-set-all Inv-loop μ-loop
+cleared c = c .before .before .before
+
 abbrev entry : tie.At-loop Inv-loop μ-loop → tie.Start Inv-loop μ-loop
-entry c = c .before .before .before .before .before .before .before .before .before
+entry c = begun (cleared c)
+
+-- a turn's head, from its test
+abbrev head : tie.After-leads Inv-loop μ-loop → tie.At-loop Inv-loop μ-loop
+head c = c .before .before .before
 
 -- the sizes that the function is handed
 abbrev sizes : tie.Start Inv-loop μ-loop → List ℕ
@@ -44,27 +51,25 @@ inside c = omega (arith, c .before .loop .inv .0)
 
 -- the picks are one for each size
 lent : (c : tie.At-loop Inv-loop μ-loop) → length (c .loop .picks) ≡ length (sizes (entry c))
-lent c = c .loop .inv .2 ∙ c .before .before .before .set-all .kept .0 ∙ sym (entry c .pre .1)
+lent c = c .loop .inv .2 ∙ cleared c .set-all .kept .0 ∙ sym (entry c .pre .1)
 
--- whether one of it leads on
-abbrev leading : tie.At-loop Inv-loop μ-loop → Bool
-leading head = let s = entry head in leadsDown (at (s .args .row .now)) (sizes s) (head .loop .i - 1) (head .loop .a)
+-- whether one of a size leads on
+abbrev leading : tie.At-loop Inv-loop μ-loop → ℕ → Bool
+leading h w = leavesFewer (at (entry h .args .row .now)) w (h .loop .a)
 
-on : (c : tie.Then1 Inv-loop μ-loop) → leading (c .before .before .before .before) ≡ true
+on : (c : tie.Then1 Inv-loop μ-loop) → let h = head (c .before) in leading h (at (sizes (entry h)) (h .loop .i - 1)) ≡ true
 on c =
-    let head = c .before .before .before .before in
-    subst (λ (w : ℕ). leavesFewer (at (entry head .args .row .now)) w (head .loop .a) ≡ true) (c .before .before .item .ensures) (sym (c .before .leads .ensures) ∙ c .if1 .taken)
+    subst (λ (w : ℕ). leading (head (c .before)) w ≡ true) (c .before .before .item .ensures) (sym (c .before .leads .ensures) ∙ c .if1 .taken)
 
-off : (c : tie.Else1 Inv-loop μ-loop) → leading (c .before .before .before .before) ≡ false
+off : (c : tie.Else1 Inv-loop μ-loop) → let h = head (c .before) in leading h (at (sizes (entry h)) (h .loop .i - 1)) ≡ false
 off c =
-    let head = c .before .before .before .before in
-    subst (λ (w : ℕ). leavesFewer (at (entry head .args .row .now)) w (head .loop .a) ≡ false) (c .before .before .item .ensures) (sym (c .before .leads .ensures) ∙ c .if1 .left)
+    subst (λ (w : ℕ). leading (head (c .before)) w ≡ false) (c .before .before .item .ensures) (sym (c .before .leads .ensures) ∙ c .if1 .left)
 
-light : (c : tie.Then1 Inv-loop μ-loop) → c .before .before .item .result ≤ c .before .before .before .before .loop .a
+light : (c : tie.Then1 Inv-loop μ-loop) → c .before .before .item .result ≤ head (c .before) .loop .a
 light c =
-    let head = c .before .before .before .before in
-    let s = entry head in
-    rw (c .before .before .item .ensures) (down-light (at (s .args .row .now)) (sizes s) (head .loop .i - 1) (head .loop .a) (on c))
+    let h = head (c .before) in
+    let s = entry h in
+    omega (arith, c .before .before .item .ensures, down-light (at (s .args .row .now)) (sizes s) (h .loop .i - 1) (h .loop .a) (on c))
 
 whole : (c : tie.Then1 Inv-loop μ-loop) → 1 ≤ c .before .before .item .result
 whole c =
@@ -75,17 +80,18 @@ set-all-requires : tie.Need-set-all-requires Inv-loop μ-loop
 set-all-requires c κs = search needs
 
 sub-a : tie.Need-sub-a Inv-loop μ-loop
-sub-a c = omega (arith, c .before .before .before .before .before .before .before .before .pre .0 .wide)
+sub-a c = omega (arith, begun (c .before .before) .pre .0 .wide)
 
 loop-holds : tie.Need-loop-holds Inv-loop μ-loop
 loop-holds c =
-    let s = c .before .before .before .before .before .before .before .before in
-    let z = c .before .before .set-all in
-    let none-yet : length (sizes s) - length (s .args .picks .now) ≡ 0 = omega (arith, s .pre .1) in (
+    let first = c .before .before in
+    let s = begun first in
+    let z = first .set-all in (
       omega (arith, s .pre .1),
       omega (arith, s .pre .0 .wide),
       refl,
-      rw none-yet (start {picks = z .last .0} (z .kept .0 ∙ sym (s .pre .1)) (λ m h. stored-each _ _ _ (λ k. 0) (z .ensures) m (omega (arith, s .pre .1)))),
+      down-begins (at (s .args .row .now)) (sizes s) (length (s .args .row .now) - 1) (length (s .args .picks .now)) (z .last .0)
+          (z .kept .0 ∙ sym (s .pre .1)) (sym (s .pre .1)) (λ m h. stored-each _ _ _ (λ k. 0) (z .ensures) m (omega (arith, s .pre .1))),
     )
 
 sub-item : tie.Need-sub-item Inv-loop μ-loop
@@ -118,10 +124,10 @@ add-picks c =
     let turn = c .before .before .before .before in
     let s = entry (turn .before) in
     let l = turn .before .loop in
+    let whole = s .pre .0 .whole (l .i - 1) (inside turn) in
     omega (
       arith,
-      trace-few last-is (leadsDown (at (s .args .row .now)) (sizes s)) (sizes s) (length (sizes s)) (length (s .args .row .now) - 1) (down-light (at (s .args .row .now)) (sizes s))
-          (l .inv .3) (l .i - 1) (s .pre .0 .whole (l .i - 1) (inside turn)),
+      down-few (at (s .args .row .now)) (sizes s) (length (s .args .row .now) - 1) (l .i) (l .a) (l .picks) (l .inv .3) (l .i - 1) whole,
       s .pre .0 .narrow,
     )
 
@@ -135,12 +141,13 @@ loop-again : tie.Need-loop-again Inv-loop μ-loop
 loop-again c =
     let turn = c .before .before .before .before in
     let s = entry (turn .before) in
+    let row = s .args .row .now in
     let l = turn .before .loop in (
       l .inv .0,
       omega (arith, light (c .before), whole (c .before)),
       simp length-set (l .inv .2),
       rw (c .before .before .before .item .ensures)
-          (down-taken (at (s .args .row .now)) (sizes s) (length (s .args .row .now) - 1) (l .i) (l .a) (l .picks) (turn .loop-test .taken) (l .inv .0) (l .inv .3) (on (c .before))),
+          (down-taken (at row) (sizes s) (length row - 1) (l .i) (l .a) (l .picks) (turn .loop-test .taken) (l .inv .0) (l .inv .3) (on (c .before))),
     )
 
 sub-i : tie.Need-sub-i Inv-loop μ-loop
@@ -153,11 +160,12 @@ loop-again-2 : tie.Need-loop-again-2 Inv-loop μ-loop
 loop-again-2 c =
     let turn = c .before .before .before in
     let s = entry (turn .before) in
+    let row = s .args .row .now in
     let l = turn .before .loop in (
       omega (arith, inside turn),
       l .inv .1,
       l .inv .2,
-      down-passed (at (s .args .row .now)) (sizes s) (length (s .args .row .now) - 1) (l .i) (l .a) (l .picks) (turn .loop-test .taken) (l .inv .0) (l .inv .3) (off c),
+      down-passed (at row) (sizes s) (length row - 1) (l .i) (l .a) (l .picks) (turn .loop-test .taken) (l .inv .0) (l .inv .3) (off c),
     )
 
 same-length : tie.Need-same-length Inv-loop μ-loop
@@ -167,7 +175,7 @@ returns : tie.Need-returns Inv-loop μ-loop
 returns c =
     let l = c .before .loop in
     let all : length (sizes (entry (c .before))) - l .i ≡ length (sizes (entry (c .before))) = omega arith in
-    record { left = l .a; way = rw all at (l .inv .3) }
+    record { left = l .a; trace = rw all at (l .inv .3) }
 
 pub trace-down-spec : {M : Type 1} → statement M
 trace-down-spec =

@@ -39,10 +39,17 @@ module _ (s : tie.Start) where
   lent : length (take (s .args .budget + 1) (s .args .words .now)) ≡ s .args .budget + 1
   lent = length-take-le (s .args .budget + 1) (s .args .words .now) words-room
 
+-- the call of `fill_ways` from where the last word isn't the mark, and the entry from where the words are lent
+abbrev filled : tie.Else1 → tie.After-fill-ways
+filled c = c .before .before .before .before
+
+abbrev entry : tie.After-fill-ways-arg → tie.Start
+entry c = c .before .before .before .before
+
 -- what the call of `fill_ways` leaves
 module _ (f : tie.After-fill-ways) where
   abbrev start : tie.Start
-  start = f .before .before .before .before .before
+  start = entry (f .before)
 
   abbrev row : List ℕ
   row = f .fill-ways .last .1 .1 .0
@@ -70,10 +77,10 @@ slice-relend-prefix-fill-ways : tie.Need-slice-relend-prefix-fill-ways
 slice-relend-prefix-fill-ways c = words-room (c .before .before .before)
 
 slice-aggregate-fill-ways : tie.Need-slice-aggregate-fill-ways
-slice-aggregate-fill-ways c = sym (lent (c .before .before .before .before))
+slice-aggregate-fill-ways c = sym (lent (entry c))
 
 fill-ways-requires : tie.Need-fill-ways-requires
-fill-ways-requires c κs = let s = c .before .before .before .before in rw (lent s) (bounds s)
+fill-ways-requires c κs = rw (lent (entry c)) (bounds (entry c))
 
 sub-if1 : tie.Need-sub-if1
 sub-if1 c = search needs
@@ -92,7 +99,8 @@ unfolding jobOf tooMany
 returns c =
     let f = c .before .before .before .before in
     let s = start f in
-    too-many (job s) (s .args .words .now) (row f) (s .pre) (bounds s) (row-long f) (row-grown f) (at (words f) (s .args .budget + 1 - 1)) (last f) (c .if1 .taken)
+    too-many (job s) (s .args .words .now) (row f) (s .pre) (bounds s) (row-long f) (row-grown f)
+    (at (words f) (s .args .budget + 1 - 1)) (last f) (c .if1 .taken)
 
 sub-t6 : tie.Need-sub-t6
 sub-t6 c = search needs
@@ -101,7 +109,7 @@ mul-t10 : tie.Need-mul-t10
 mul-t10 c = search needs
 
 slice-read-t12 : tie.Need-slice-read-t12
-slice-read-t12 c = inside (c .before .before .before .before .before)
+slice-read-t12 c = inside (filled (c .before))
 
 same-length-2 : tie.Need-same-length-2
 same-length-2 c = search needs
@@ -109,9 +117,10 @@ same-length-2 c = search needs
 returns-2 : tie.Need-returns-2
 unfolding jobOf tooMany
 returns-2 c =
-    let f = c .before .before .before .before .before in
+    let f = filled (c .before) in
     let s = start f in
-    ways-counted (job s) (s .args .words .now) (row f) (s .pre) (bounds s) (row-long f) (row-grown f) (at (words f) (s .args .budget + 1 - 1)) (last f) (c .before .if1 .left)
+    ways-counted (job s) (s .args .words .now) (row f) (s .pre) (bounds s) (row-long f) (row-grown f)
+    (at (words f) (s .args .budget + 1 - 1)) (last f) (c .before .if1 .left)
 
 pub ways-spec : {M : Type 1} → statement M
 ways-spec =

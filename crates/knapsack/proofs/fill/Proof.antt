@@ -1,4 +1,4 @@
--- `knapsack::fill` meets its contract: the rows so far are filled, and the last of them is low enough to make the next (`filled-capped`).
+-- `knapsack::fill` meets its contract: the rows so far are filled, and the last of them is capped, which the next asks (`filled-capped`).
 -- Assumes nothing.
 use mathlib.Core.Path.{_≡_, refl, _∙_}
 use Prim.Native.Nat.{ℕ, _+_, _-_, _*_, _≤_, _<_}
@@ -23,9 +23,20 @@ Inv-loop kind weights wbytes values vbytes copies cbytes width cells₀ n i₀ f
 abbrev μ-loop : tie.MeasureT-loop
 μ-loop kind weights wbytes values vbytes copies cbytes width cells₀ n i₀ from₀ cells i from = n - i
 
--- the function's entry, from the loop's head
+-- the function's entry
+abbrev begun : tie.After-set-all-arg Inv-loop μ-loop → tie.Start Inv-loop μ-loop
+begun c = c .before .before .before .before .before .before .before .before
+
+-- the cells of no labels, from the loop's head, and the entry from there
+abbrev cleared : tie.At-loop Inv-loop μ-loop → tie.After-set-all Inv-loop μ-loop
+cleared c = c .before .before .before .before
+
 abbrev entry : tie.At-loop Inv-loop μ-loop → tie.Start Inv-loop μ-loop
-entry c = c .before .before .before .before .before .before .before .before .before .before .before .before .before
+entry c = begun (cleared c .before)
+
+-- a turn, from where its label's limit is known
+abbrev turn : tie.After-allowed Inv-loop μ-loop → tie.In-loop Inv-loop μ-loop
+turn c = c .before .before .before
 
 -- the lists that the function is handed
 module _ (s : tie.Start Inv-loop μ-loop) where
@@ -39,67 +50,70 @@ module _ (s : tie.Start Inv-loop μ-loop) where
   limits = limitOf (s .args .kind) (listFrom (s .args .copies .now) (s .args .cbytes .now))
 
 long : (c : tie.At-loop Inv-loop μ-loop) → length (c .loop .cells) ≡ length (entry c .args .cells .now)
-long c = c .loop .inv .2 ∙ c .before .before .before .before .set-all .kept .0
+long c = c .loop .inv .2 ∙ cleared c .set-all .kept .0
 
 -- label i is one of the labels
 inside : (c : tie.In-loop Inv-loop μ-loop) → c .before .loop .i < length (weights (entry (c .before)))
 inside c = omega (arith, c .before .before .list-length .ensures)
 
 -- and its row is within the table
-room : (c : tie.In-loop Inv-loop μ-loop) → c .before .loop .from + entry (c .before) .args .width + entry (c .before) .args .width ≤ length (entry (c .before) .args .cells .now)
+room : (c : tie.In-loop Inv-loop μ-loop) → let a = entry (c .before) .args in c .before .loop .from + a .width + a .width ≤ length (a .cells .now)
 room c =
     let s = entry (c .before) in
     let n = length (weights s) in
     omega (arith, rows-within (c .before .loop .i) n (s .args .width) (inside c), s .pre .1 .1, c .before .loop .inv .1)
 
 set-all-requires : tie.Need-set-all-requires Inv-loop μ-loop
-set-all-requires c κs =
-    let s = c .before .before .before .before .before .before .before .before in
-    omega (arith, one-row-more (length (weights s)) (s .args .width), s .pre .1 .1)
+set-all-requires c κs = let s = begun c in omega (arith, one-row-more (length (weights s)) (s .args .width), s .pre .1 .1)
 
 list-length-requires : tie.Need-list-length-requires Inv-loop μ-loop
 list-length-requires c κs = search needs
 
 loop-holds : tie.Need-loop-holds Inv-loop μ-loop
 loop-holds c =
-    let s = c .before .before .before .before .before .before .before .before .before .before .before .before in
-    let a = s .args in
-    let zeros = c .before .before .before .set-all in
-    (omega arith, omega (arith, zero-mul (a .width)), refl, filled-none (weights s) (values s) (limits s) (a .width) (a .cells .now) (zeros .last .0) (zeros .ensures))
+    let first = c .before .before .before in
+    let zeros = first .set-all in
+    let s = begun (first .before) in
+    let a = s .args in (
+      omega arith,
+      omega (arith, zero-mul (a .width)),
+      refl,
+      filled-none (weights s) (values s) (limits s) (a .width) (a .cells .now) (zeros .last .0) (zeros .ensures),
+    )
 
 item-requires : tie.Need-item-requires Inv-loop μ-loop
 item-requires c κs = inside c
 
 item-requires-2 : tie.Need-item-requires-2 Inv-loop μ-loop
-item-requires-2 c κs =
-    let turn = c .before in
-    rw (entry (turn .before) .pre .0 .valued) (inside turn)
+item-requires-2 c κs = rw (entry (c .before .before) .pre .0 .valued) (inside (c .before))
 
 allowed-requires : tie.Need-allowed-requires Inv-loop μ-loop
-allowed-requires c κs =
-    λ other.
-    let turn = c .before .before in
-    rw (entry (turn .before) .pre .1 .0 other) (inside turn)
+allowed-requires c κs = λ other. rw (entry (c .before .before .before) .pre .1 .0 other) (inside (c .before .before))
 
 next-row-requires : tie.Need-next-row-requires Inv-loop μ-loop
 next-row-requires c κs =
-    let turn = c .before .before .before .before in
-    let head = turn .before in
+    let now = turn (c .before) in
+    let w = c .before .before .before .item .ensures in
+    let v = c .before .before .item2 .ensures in
+    let head = now .before in
     let l = head .loop in
     let s = entry head in
     let a = s .args in
     let b = s .pre .0 in (
-      (b .wide, (b .narrow, omega (arith, room turn, long head))),
+      (b .wide, (b .narrow, omega (arith, room now, long head))),
       (
-        (rw (c .before .before .before .item .ensures) (b .heavy (l .i) (inside turn)), rw (c .before .before .item2 .ensures) (b .cheap (l .i) (inside turn))),
-        rw (l .inv .1) (filled-capped (weights s) (values s) (limits s) (a .width) b (l .i) (l .cells) (omega (arith, inside turn)) (l .inv .3) (l .i) (omega arith)),
+        (rw w (b .heavy (l .i) (inside now)), rw v (b .cheap (l .i) (inside now))),
+        rw (l .inv .1)
+            (filled-capped (weights s) (values s) (limits s) (a .width) b (l .i) (l .cells)
+            (omega (arith, inside now)) (l .inv .3) (l .i) (omega arith)),
       ),
     )
 
 add-from : tie.Need-add-from Inv-loop μ-loop
 add-from c =
-    let turn = c .before .before .before .before .before .before .before in
-    omega (arith, room turn, entry (turn .before) .good)
+    let made = c .before .before in
+    let now = turn (made .before .before) in
+    omega (arith, room now, entry (now .before) .good)
 
 add-i : tie.Need-add-i Inv-loop μ-loop
 add-i c = search needs
@@ -109,20 +123,20 @@ loop-less c = search needs
 
 loop-again : tie.Need-loop-again Inv-loop μ-loop
 loop-again c =
-    let turn = c .before .before .before .before .before .before .before in
-    let head = turn .before in
-    let l = head .loop in
-    let s = entry head in
-    let a = s .args in
-    let item = c .before .before .before .before .before .before in
-    let item2 = c .before .before .before .before .before in
-    let most = c .before .before .before .before in
-    let row = c .before .before .next-row in (
+    let made = c .before .before in
+    let row = made .next-row in
+    let known = made .before .before in
+    let limit = known .allowed in
+    let v = known .before .item2 in
+    let w = known .before .before .item in
+    let l = turn known .before .loop in
+    let s = entry (turn known .before) in
+    let a = s .args in (
       omega arith,
       omega (arith, one-row-more (l .i) (a .width), l .inv .1),
       row .kept .0 ∙ l .inv .2,
-      filled-more (weights s) (values s) (limits s) (a .width) (l .i) (l .from)
-          (item .item .result) (item2 .item2 .result) (most .allowed .result) (l .cells) (row .last .0) (l .inv .1) (item .item .ensures) (item2 .item2 .ensures) (most .allowed .ensures) (l .inv .3) (row .ensures),
+      filled-more (weights s) (values s) (limits s) (a .width) (l .i) (l .from) (w .result) (v .result) (limit .result) (l .cells) (row .last .0)
+          (l .inv .1) (w .ensures) (v .ensures) (limit .ensures) (l .inv .3) (row .ensures),
     )
 
 same-length : tie.Need-same-length Inv-loop μ-loop

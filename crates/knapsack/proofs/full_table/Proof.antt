@@ -19,7 +19,7 @@ use Rattle.rows.proofs.Parts.{front-part, front-room, front-last}
 use Rattle.knapsack.specs.Tables.{Bounded, limitOf, rowOf, Filled}
 use Rattle.knapsack.specs.Traces.{TraceBack}
 use Rattle.knapsack.proofs.FullRows.{one-row-more, some-back, trace-within}
-use Rattle.knapsack.proofs.KnapsackDoor.{Rowed, rowed, ready, bounded, limit-few, limit-may, full-room, copies-long, packs-full}
+use Rattle.knapsack.proofs.KnapsackDoor.{Rowed, rowed, Ready, ready, bounded, limit-few, limit-may, full-room, copies-long, packs-full}
 use Rattle.knapsack.proofs.full_table.Statement.{statement}
 use Rattle.knapsack.proofs.full_table.Tie as tie
 
@@ -47,21 +47,25 @@ module _ (s : tie.Start) where
   is : Rowed knapsack
   is = rowed knapsack (rw numbered at (s .pre .1))
 
+  keeps : Ready knapsack job (s .args .cells .now) (s .args .picks .now)
+  unfolding jobOf
+  keeps = ready knapsack job (s .args .cells .now) (s .args .picks .now) (s .pre .0 .unrefused)
+
   bounds : Bounded (s .args .budget + 1) weights values
   unfolding jobOf
-  bounds = bounded knapsack job (ready knapsack job (s .args .cells .now) (s .args .picks .now) (s .pre .0 .unrefused) .valid)
+  bounds = bounded knapsack job (keeps .valid)
 
   cells-room : (length weights + 1) * (s .args .budget + 1) ≤ length (s .args .cells .now)
   unfolding jobOf labels cellCount
-  cells-room = rw (full-room is job) at (ready knapsack job (s .args .cells .now) (s .args .picks .now) (s .pre .0 .unrefused) .cells-room)
+  cells-room = rw (full-room is job) at (keeps .cells-room)
 
   picks-room : length weights ≤ length (s .args .picks .now)
   unfolding jobOf labels
-  picks-room = ready knapsack job (s .args .cells .now) (s .args .picks .now) (s .pre .0 .unrefused) .picks-room
+  picks-room = keeps .picks-room
 
   copied : ¬ (s .args .kind ≡ 1) → length copies ≡ length weights
   unfolding jobOf labels
-  copied other = copies-long is job (ready knapsack job (s .args .cells .now) (s .args .picks .now) (s .pre .0 .unrefused) .valid) (rw numbered at other)
+  copied other = copies-long is job (keeps .valid) (rw numbered at other)
 
 -- how many cells and picks are needed
 module _ (l : tie.After-list-length) where
@@ -104,26 +108,40 @@ module _ (f : tie.After-fill) where
   table-front : take (needed listed) (table ++ drop (needed listed) (start .args .cells .now)) ≡ table
   table-front = front-part table (start .args .cells .now) (needed listed) table-long
 
-  filled : Filled (weights start) (values start) (limitOf (numberOf (packing (knapsack start))) (copies start)) (start .args .budget + 1) (length (weights start)) table
+  table-room : needed listed ≤ length (table ++ drop (needed listed) (start .args .cells .now))
+  table-room = front-room table (start .args .cells .now) (needed listed) table-long
+
+  abbrev limits : ℕ → ℕ
+  limits = limitOf (numberOf (packing (knapsack start))) (copies start)
+
+  abbrev row : ℕ → ℕ → ℕ
+  row = rowOf table (start .args .budget + 1)
+
+  filled : Filled (weights start) (values start) limits (start .args .budget + 1) (length (weights start)) table
   filled = rw (numbered start) at (f .fill .ensures)
 
   some-count : (i c : ℕ) → i < length (weights start) → c < start .args .budget + 1
-      → SomeCount (rowOf table (start .args .budget + 1) i) (at (weights start) i) (at (values start) i) c (rowOf table (start .args .budget + 1) (suc i) c)
+      → SomeCount (row i) (at (weights start) i) (at (values start) i) c (row (suc i) c)
   unfolding jobOf labels
   some-count =
-      some-back (knapsack start) (job start) (limitOf (numberOf (packing (knapsack start))) (copies start)) (start .args .budget + 1) table
+      some-back (knapsack start) (job start) limits (start .args .budget + 1) table
       (λ i x h. limit-few (is start) (job start) i x) (λ i x h. limit-may (is start) (job start) i x) filled
+
+-- the call of `fill`, from where its table is lent
+abbrev lent-from : tie.After-trace-back-arg2 → tie.After-fill
+lent-from c = c .before .before .before .before
 
 -- what the call of `trace_back` leaves
 module _ (w : tie.After-trace-back) where
   abbrev after-fill : tie.After-fill
-  after-fill = w .before .before .before .before .before
+  after-fill = lent-from (w .before)
 
   abbrev found : List ℕ
   found = w .trace-back .last .1 .1 .1 .1 .1 .1 .0
 
-  way : let s = start after-fill in TraceBack (rowOf (table after-fill) (s .args .budget + 1)) (weights s) (values s) (length (weights s)) (s .args .budget) 0 (w .trace-back .result) found
-  way = rw (table-front after-fill, add-sub-cancel) at (w .trace-back .ensures)
+  trace : let s = start after-fill in
+      TraceBack (row after-fill) (weights s) (values s) (length (weights s)) (s .args .budget) 0 (w .trace-back .result) found
+  trace = rw (table-front after-fill, add-sub-cancel) at (w .trace-back .ensures)
 
 list-length-requires : tie.Need-list-length-requires
 list-length-requires c κs = search needs
@@ -144,10 +162,13 @@ slice-aggregate-fill : tie.Need-slice-aggregate-fill
 slice-aggregate-fill c = sym (cells-long (c .before))
 
 fill-requires : tie.Need-fill-requires
-fill-requires c κs = let s = at-start (c .before) in (bounds s, (copied s, sym (needed-is (c .before)) ∙ sym (cells-long (c .before))))
+fill-requires c κs =
+    let l = c .before in
+    let s = at-start l in
+    (bounds s, (copied s, sym (needed-is l) ∙ sym (cells-long l)))
 
 slice-reshare-prefix-trace-back : tie.Need-slice-reshare-prefix-trace-back
-slice-reshare-prefix-trace-back c = let f = c .before .before in front-room (table f) (start f .args .cells .now) (needed (listed f)) (table-long f)
+slice-reshare-prefix-trace-back c = table-room (c .before .before)
 
 slice-aggregate-trace-back : tie.Need-slice-aggregate-trace-back
 slice-aggregate-trace-back c = let f = c .before .before .before in sym (table-long f) ∙ ap length (sym (table-front f))
@@ -156,12 +177,13 @@ slice-relend-prefix-trace-back : tie.Need-slice-relend-prefix-trace-back
 slice-relend-prefix-trace-back c = picks-enough (listed (c .before .before .before))
 
 slice-aggregate-trace-back-2 : tie.Need-slice-aggregate-trace-back-2
-slice-aggregate-trace-back-2 c = let l = listed (c .before .before .before .before) in l .list-length .ensures ∙ sym (picks-long l)
+slice-aggregate-trace-back-2 c = let l = listed (lent-from c) in l .list-length .ensures ∙ sym (picks-long l)
 
 trace-back-requires : tie.Need-trace-back-requires
 trace-back-requires c κs =
-    let f = c .before .before .before .before in
-    rw (table-front f) (bounds (start f), ((sym (needed-is (listed f)) ∙ sym (table-long f), sym (picks-long (listed f))), some-count f))
+    let f = lent-from c in
+    let l = listed f in
+    rw (table-front f) (bounds (start f), ((sym (needed-is l) ∙ sym (table-long f), sym (picks-long l)), some-count f))
 
 sub-t15 : tie.Need-sub-t15
 sub-t15 c = search needs
@@ -170,14 +192,17 @@ mul-t23 : tie.Need-mul-t23
 mul-t23 c = let l = listed (after-fill (c .before .before)) in omega (arith, cells-enough l, at-start l .good)
 
 slice-read-t25 : tie.Need-slice-read-t25
-slice-read-t25 c = let f = after-fill (c .before .before .before) in let s = start f in omega (arith, table-long f, needed-is (listed f), one-row-more (length (weights s)) (s .args .budget + 1), front-room (table f) (s .args .cells .now) (needed (listed f)) (table-long f))
+slice-read-t25 c =
+    let f = after-fill (c .before .before .before) in
+    let s = start f in
+    omega (arith, table-room f, needed-is (listed f), one-row-more (length (weights s)) (s .args .budget + 1))
 
 cast-t26 : tie.Need-cast-t26
 unfolding mostBudget
-cast-t26 c = let w = c .before .before .before in omega (arith, trace-within (way w) .1, bounds (start (after-fill w)) .narrow)
+cast-t26 c = let w = c .before .before .before in omega (arith, trace-within (trace w) .1, bounds (start (after-fill w)) .narrow)
 
 sub-t27 : tie.Need-sub-t27
-sub-t27 c = trace-within (way (c .before .before .before)) .1
+sub-t27 c = trace-within (trace (c .before .before .before)) .1
 
 same-length : tie.Need-same-length
 same-length c = search needs
@@ -194,9 +219,10 @@ returns c =
     let s = start f in
     let a = s .args in
     let more = one-row-more (length (weights s)) (a .budget + 1) in
-    let last = front-last (table f) (a .cells .now) (needed l) (table-long f) (length (weights s) * (a .budget + 1) + a .budget) (omega (arith, needed-is l, more)) in
-    packs-full (knapsack s) (job s) (a .cells .now) (a .picks .now) (table f) (found w) (w .trace-back .result) (is s) (s .pre .0 .unrefused) (table-long f ∙ needed-is l) (filled f) (way w)
-    (needed l) (l .list-length .result) _ (needed-is l) (l .list-length .ensures) last
+    let place = length (weights s) * (a .budget + 1) + a .budget in
+    let last = front-last (table f) (a .cells .now) (needed l) (table-long f) place (omega (arith, needed-is l, more)) in
+    packs-full (knapsack s) (job s) (a .cells .now) (a .picks .now) (table f) (found w) (w .trace-back .result) (is s) (s .pre .0 .unrefused)
+    (table-long f ∙ needed-is l) (filled f) (trace w) (needed l) (l .list-length .result) _ (needed-is l) (l .list-length .ensures) last
 
 pub full-table-spec : {M : Type 1} → statement M
 full-table-spec =

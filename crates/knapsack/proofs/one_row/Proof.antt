@@ -39,18 +39,27 @@ module _ (s : tie.Start) where
 
   ok : Kept
   unfolding jobOf labels roomFor roomOf
-  ok = let r = ready free job (s .args .cells .now) (s .args .picks .now) (s .pre) in record { cells-room = r .cells-room; picks-room = r .picks-room; bounds = bounded free job (r .valid) }
+  ok =
+      let r = ready free job (s .args .cells .now) (s .args .picks .now) (s .pre) in
+      record { cells-room = r .cells-room; picks-room = r .picks-room; bounds = bounded free job (r .valid) }
+
+  lent : length (take (s .args .budget + 1) (s .args .cells .now)) ≡ s .args .budget + 1
+  lent = length-take-le (s .args .budget + 1) (s .args .cells .now) (ok .cells-room)
+
+-- the function's entry
+abbrev entry : tie.After-list-length → tie.Start
+entry c = c .before .before .before .before .before .before .before
 
 -- what the call of `fill_row` leaves
 module _ (f : tie.After-fill-row) where
   abbrev start : tie.Start
-  start = f .before .before .before .before .before .before .before .before .before
+  start = entry (f .before .before)
 
   abbrev row : List ℕ
   row = f .fill-row .last .1 .1 .1 .1 .0
 
   row-long : length row ≡ start .args .budget + 1
-  row-long = f .fill-row .kept .1 .1 .1 .1 .0 ∙ length-take-le (start .args .budget + 1) (start .args .cells .now) (ok start .cells-room)
+  row-long = f .fill-row .kept .1 .1 .1 .1 .0 ∙ lent start
 
   -- the first cells of the slice are the row
   row-front : take (start .args .budget + 1) (row ++ drop (start .args .budget + 1) (start .args .cells .now)) ≡ row
@@ -63,26 +72,33 @@ module _ (f : tie.After-fill-row) where
   labelled = f .before .before .list-length .ensures
 
   row-climbed : Climbed (weights start) (values start) (start .args .budget + 1) (length (weights start)) row
-  row-climbed = rw (length-take-le (start .args .budget + 1) (start .args .cells .now) (ok start .cells-room)) at (f .fill-row .ensures)
+  row-climbed = rw (lent start) at (f .fill-row .ensures)
 
   -- and the first picks are one for each label
   picks-long : length (take (f .before .before .list-length .result) (start .args .picks .now)) ≡ length (weights start)
-  picks-long = length-take-le (f .before .before .list-length .result) (start .args .picks .now) (omega (arith, labelled, ok start .picks-room)) ∙ labelled
+  picks-long =
+      length-take-le (f .before .before .list-length .result) (start .args .picks .now) (omega (arith, labelled, ok start .picks-room)) ∙ labelled
+
+-- the call of `fill_row`, from where its row is lent
+abbrev lent-from : tie.After-trace-along-arg2 → tie.After-fill-row
+lent-from c = c .before .before .before .before
 
 -- what the call of `trace_along` leaves
 module _ (w : tie.After-trace-along) where
   abbrev filled : tie.After-fill-row
-  filled = w .before .before .before .before .before
+  filled = lent-from (w .before)
 
   abbrev found : List ℕ
   found = w .trace-along .last .1 .1 .1 .1 .1 .0
 
-  way : let s = start filled in TraceAlong (at (row filled)) (weights s) (values s) (s .args .budget) (w .trace-along .result) found
-  way = rw (row-front filled, row-long filled, add-sub-cancel) at (w .trace-along .ensures)
+  trace : let s = start filled in TraceAlong (at (row filled)) (weights s) (values s) (s .args .budget) (w .trace-along .result) found
+  trace = rw (row-front filled, row-long filled, add-sub-cancel) at (w .trace-along .ensures)
 
   -- what is left is no more than the budget
   within : w .trace-along .result ≤ start filled .args .budget
-  within = let s = start filled in omega (arith, along-weight (at (row filled)) (weights s) (values s) (s .args .budget) (w .trace-along .result) found way)
+  within =
+      let s = start filled in
+      omega (arith, along-weight (at (row filled)) (weights s) (values s) (s .args .budget) (w .trace-along .result) found trace)
 
 list-length-requires : tie.Need-list-length-requires
 list-length-requires c κs = search needs
@@ -91,13 +107,13 @@ add-width : tie.Need-add-width
 add-width c = search needs
 
 slice-relend-prefix-fill-row : tie.Need-slice-relend-prefix-fill-row
-slice-relend-prefix-fill-row c = ok (c .before .before .before .before .before .before .before) .cells-room
+slice-relend-prefix-fill-row c = ok (entry c) .cells-room
 
 slice-aggregate-fill-row : tie.Need-slice-aggregate-fill-row
-slice-aggregate-fill-row c = let s = c .before .before .before .before .before .before .before .before in sym (length-take-le (s .args .budget + 1) (s .args .cells .now) (ok s .cells-room))
+slice-aggregate-fill-row c = sym (lent (entry (c .before)))
 
 fill-row-requires : tie.Need-fill-row-requires
-fill-row-requires c κs = let s = c .before .before .before .before .before .before .before .before in rw (length-take-le (s .args .budget + 1) (s .args .cells .now) (ok s .cells-room)) (ok s .bounds)
+fill-row-requires c κs = let s = entry (c .before) in rw (lent s) (ok s .bounds)
 
 slice-reshare-prefix-trace-along : tie.Need-slice-reshare-prefix-trace-along
 slice-reshare-prefix-trace-along c = room (c .before .before)
@@ -109,14 +125,15 @@ slice-relend-prefix-trace-along : tie.Need-slice-relend-prefix-trace-along
 slice-relend-prefix-trace-along c = let f = c .before .before .before in omega (arith, labelled f, ok (start f) .picks-room)
 
 slice-aggregate-trace-along-2 : tie.Need-slice-aggregate-trace-along-2
-slice-aggregate-trace-along-2 c = let f = c .before .before .before .before in labelled f ∙ sym (picks-long f)
+slice-aggregate-trace-along-2 c = let f = lent-from c in labelled f ∙ sym (picks-long f)
 
 trace-along-requires : tie.Need-trace-along-requires
 trace-along-requires c κs =
-    let f = c .before .before .before .before in
+    let f = lent-from c in
     let s = start f in
-    let a = s .args in
-    rw (row-front f, row-long f) (ok s .bounds, (climbed-capped (weights s) (values s) (a .budget + 1) (length (weights s)) (row f) (ok s .bounds) (omega arith) (row-climbed f), sym (picks-long f)))
+    let b = ok s .bounds in
+    let capped = climbed-capped (weights s) (values s) (s .args .budget + 1) (length (weights s)) (row f) b (omega arith) (row-climbed f) in
+    rw (row-front f, row-long f) (b, (capped, sym (picks-long f)))
 
 sub-t11 : tie.Need-sub-t11
 sub-t11 c = search needs
@@ -125,7 +142,7 @@ mul-t19 : tie.Need-mul-t19
 mul-t19 c = search needs
 
 slice-read-t21 : tie.Need-slice-read-t21
-slice-read-t21 c = omega (arith, room (c .before .before .before .before .before .before .before .before))
+slice-read-t21 c = omega (arith, room (filled (c .before .before .before)))
 
 cast-t22 : tie.Need-cast-t22
 unfolding mostBudget
@@ -148,7 +165,8 @@ returns c =
     let s = start f in
     let a = s .args in
     let last = front-last (row f) (a .cells .now) (a .budget + 1) (row-long f) (a .budget) refl in
-    packs-free (job s) (a .cells .now) (a .picks .now) (row f) (found w) (w .trace-along .result) (s .pre) (row-long f) (row-climbed f) (way w) _ _ (labelled f) last
+    packs-free (job s) (a .cells .now) (a .picks .now) (row f) (found w) (w .trace-along .result) (s .pre)
+    (row-long f) (row-climbed f) (trace w) _ _ (labelled f) last
 
 pub one-row-spec : {M : Type 1} → statement M
 one-row-spec =

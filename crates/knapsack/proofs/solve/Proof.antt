@@ -29,11 +29,15 @@ module _ (s : tie.Start) where
   abbrev bare : Job
   bare = jobOf 3 (s .args .budget ∷ []) weights values []
 
+-- the function's entry, from the test of the kind
+abbrev entry : tie.After-slice-known2 → tie.Start
+entry c = c .before .before .before .before .before .before .before .before
+
 -- where the kind is 3, it is one without copies
-three : (c : tie.Then1) → let s = c .before .before .before .before .before .before .before .before .before in
+three : (c : tie.Then1) → let s = entry (c .before) in
     (job s ≡ bare s) × Unrefused (packing free) (bare s) (lentOf (s .args .cells .now) [] (s .args .picks .now))
 three c =
-    let s = c .before .before .before .before .before .before .before .before .before in
+    let s = entry (c .before) in
     let a = s .args in
     job-free (a .kind) (a .budget) (weights s) (values s) (copies s) (a .cells .now) (a .picks .now) (c .if1 .taken) (s .pre)
 
@@ -53,7 +57,7 @@ full-table-requires : tie.Need-full-table-requires
 unfolding jobOf
 full-table-requires c κs =
     let other = c .before .before in
-    let s = other .before .before .before .before .before .before .before .before .before in
+    let s = entry (other .before) in
     (s .pre, any-below (job s) (s .args .cells .now) (s .args .picks .now) (other .if1 .left) (s .pre))
 
 same-length-3 : tie.Need-same-length-3

@@ -1,4 +1,4 @@
--- `knapsack::trace_along` meets its contract: the way has come to a label; each turn takes one of it, which weighs something, or passes it.
+-- `knapsack::trace_along` meets its contract: the trace has come to a label; each turn takes one of it, which weighs something, or passes it.
 -- Assumes nothing.
 use mathlib.Core.Path.{_≡_, refl, sym, _∙_}
 use native.Mathlib.Numerals.{add-one}
@@ -9,15 +9,12 @@ use mathlib.Core.List.{List}
 use lib.ListN.{length, length-set}
 use borrow.Author.Needs.{needs}
 use Rattle.meaning.specs.Lists.{at}
-use Rattle.meaning.specs.Orders.{first-most}
 use Rattle.meaning.specs.Bounds.{mostBudget}
-use Rattle.meaning.proofs.Greedy.{first-is}
 use Rattle.numbers.specs.TwoSlices.{listFrom}
-use Rattle.rows.specs.Traces.{Trace, turnOf, start, taken, passed}
-use Rattle.rows.proofs.Traces.{trace-few}
+use Rattle.rows.specs.Traces.{turnOf, taken, passed}
 use Rattle.rows.proofs.Stores.{stored-each}
 use Rattle.knapsack.specs.Traces.{leadsAlong, TraceAlong}
-use Rattle.knapsack.proofs.FreeRow.{along-light}
+use Rattle.knapsack.proofs.FreeRow.{AlongTo, along-light, along-begins, along-few}
 use Rattle.knapsack.proofs.trace_along.Statement.{statement}
 use Rattle.knapsack.proofs.trace_along.Tie as tie
 
@@ -26,7 +23,7 @@ Inv-loop weights wbytes values vbytes row picks₀ n label₀ c₀ picks label c
     (label ≤ length (listFrom weights wbytes))
     × (c < length row)
     × (length picks ≡ length picks₀)
-    × Trace first-most (leadsAlong (at row) (listFrom weights wbytes) (listFrom values vbytes)) (listFrom weights wbytes) (length (listFrom weights wbytes)) (length row - 1) label c picks
+    × AlongTo (at row) (listFrom weights wbytes) (listFrom values vbytes) (length row - 1) label c picks
 
 abbrev μ-loop : tie.MeasureT-loop
 μ-loop weights wbytes values vbytes row picks₀ n label₀ c₀ picks label c = length picks₀ - label + c
@@ -39,13 +36,35 @@ module _ (s : tie.Start Inv-loop μ-loop) where
   abbrev values : List ℕ
   values = listFrom (s .args .values .now) (s .args .vbytes .now)
 
--- the function's entry, from the loop's head
+-- the function's entry
+abbrev begun : tie.After-set-all-arg Inv-loop μ-loop → tie.Start Inv-loop μ-loop
+begun c = c .before .before .before .before .before .before .before
+
+-- the picks of no labels, from the loop's head, and the entry from there
+abbrev cleared : tie.At-loop Inv-loop μ-loop → tie.After-set-all Inv-loop μ-loop
+cleared c = c .before .before .before
+
 abbrev entry : tie.At-loop Inv-loop μ-loop → tie.Start Inv-loop μ-loop
-entry c = c .before .before .before .before .before .before .before .before .before .before .before
+entry c = begun (cleared c .before)
+
+-- a turn, from its test
+abbrev turn : tie.After-leads Inv-loop μ-loop → tie.In-loop Inv-loop μ-loop
+turn c = c .before .before .before
+
+-- the weight and the value of its label
+module _ (c : tie.After-leads Inv-loop μ-loop) where
+  abbrev label : ℕ
+  label = turn c .before .loop .label
+
+  weight : c .before .before .item .result ≡ at (weights (entry (turn c .before))) label
+  weight = c .before .before .item .ensures
+
+  value : c .before .item2 .result ≡ at (values (entry (turn c .before))) label
+  value = c .before .item2 .ensures
 
 -- the picks are as many as were lent
-lent : (c : tie.At-loop Inv-loop μ-loop) → length (c .before .before .before .set-all .last .0) ≡ length (weights (entry c))
-lent c = c .before .before .before .set-all .kept .0 ∙ sym (entry c .pre .1 .1)
+lent : (c : tie.At-loop Inv-loop μ-loop) → length (cleared c .set-all .last .0) ≡ length (weights (entry c))
+lent c = cleared c .set-all .kept .0 ∙ sym (entry c .pre .1 .1)
 
 -- the label is one of the labels
 inside : (c : tie.In-loop Inv-loop μ-loop) → c .before .loop .label < length (weights (entry (c .before)))
@@ -55,22 +74,22 @@ inside c = omega (arith, c .before .loop .inv .0, lent (c .before))
 abbrev leading : tie.At-loop Inv-loop μ-loop → Bool
 leading head = let s = entry head in leadsAlong (at (s .args .row .now)) (weights s) (values s) (head .loop .label) (head .loop .c)
 
-on : (c : tie.Then1 Inv-loop μ-loop) → leading (c .before .before .before .before .before) ≡ true
-on c = rw (← c .before .before .before .item .ensures, ← c .before .before .item2 .ensures) (sym (c .before .leads .ensures) ∙ c .if1 .taken)
+on : (c : tie.Then1 Inv-loop μ-loop) → leading (turn (c .before) .before) ≡ true
+on c = rw (← weight (c .before), ← value (c .before)) (sym (c .before .leads .ensures) ∙ c .if1 .taken)
 
-off : (c : tie.Else1 Inv-loop μ-loop) → leading (c .before .before .before .before .before) ≡ false
-off c = rw (← c .before .before .before .item .ensures, ← c .before .before .item2 .ensures) (sym (c .before .leads .ensures) ∙ c .if1 .left)
+off : (c : tie.Else1 Inv-loop μ-loop) → leading (turn (c .before) .before) ≡ false
+off c = rw (← weight (c .before), ← value (c .before)) (sym (c .before .leads .ensures) ∙ c .if1 .left)
 
-light : (c : tie.Then1 Inv-loop μ-loop) → c .before .before .before .item .result ≤ c .before .before .before .before .before .loop .c
+light : (c : tie.Then1 Inv-loop μ-loop) → c .before .before .before .item .result ≤ turn (c .before) .before .loop .c
 light c =
-    let head = c .before .before .before .before .before in
+    let head = turn (c .before) .before in
     let s = entry head in
-    rw (c .before .before .before .item .ensures) (along-light (at (s .args .row .now)) (weights s) (values s) (head .loop .label) (head .loop .c) (on c))
+    omega (arith, weight (c .before), along-light (at (s .args .row .now)) (weights s) (values s) (head .loop .label) (head .loop .c) (on c))
 
 heavy : (c : tie.Then1 Inv-loop μ-loop) → 1 ≤ c .before .before .before .item .result
 heavy c =
-    let turn = c .before .before .before .before in
-    rw (c .before .before .before .item .ensures) (entry (turn .before) .pre .0 .heavy (turn .before .loop .label) (inside turn))
+    let now = turn (c .before) in
+    omega (arith, weight (c .before), entry (now .before) .pre .0 .heavy (now .before .loop .label) (inside now))
 
 set-all-requires : tie.Need-set-all-requires Inv-loop μ-loop
 set-all-requires c κs = search needs
@@ -80,22 +99,32 @@ sub-c c = search needs
 
 loop-holds : tie.Need-loop-holds Inv-loop μ-loop
 loop-holds c =
-    let s = c .before .before .before .before .before .before .before .before .before .before in
-    let z = c .before .before .set-all in
-    (omega arith, omega (arith, s .pre .0 .wide), refl, start {picks = z .last .0} (z .kept .0 ∙ sym (s .pre .1 .1)) (λ m h. stored-each _ _ _ (λ k. 0) (z .ensures) m (omega (arith, s .pre .1 .1))))
+    let first = c .before .before in
+    let s = begun (first .before) in
+    let row = s .args .row .now in
+    let z = first .set-all in
+    let begins =
+    along-begins (at row) (weights s) (values s) (length row - 1) (z .last .0) (z .kept .0 ∙ sym (s .pre .1 .1))
+    (λ m h. stored-each _ _ _ (λ k. 0) (z .ensures) m (omega (arith, s .pre .1 .1))) in
+    (omega arith, omega (arith, s .pre .0 .wide), refl, begins)
 
 item-requires : tie.Need-item-requires Inv-loop μ-loop
 item-requires c κs = inside c
 
 item-requires-2 : tie.Need-item-requires-2 Inv-loop μ-loop
-item-requires-2 c κs = let turn = c .before in rw (entry (turn .before) .pre .0 .valued) (inside turn)
+item-requires-2 c κs = rw (entry (c .before .before) .pre .0 .valued) (inside (c .before))
 
 leads-requires : tie.Need-leads-requires Inv-loop μ-loop
 leads-requires c κs =
-    let turn = c .before .before in
-    let s = entry (turn .before) in
+    let now = c .before .before in
+    let l = now .before .loop in
+    let s = entry (now .before) in
     let b = s .pre .0 in
-    ((rw (c .before .item .ensures) (b .heavy (turn .before .loop .label) (inside turn)), (rw (c .item2 .ensures) (b .cheap (turn .before .loop .label) (inside turn)), (omega arith, b .narrow))), s .pre .1 .0)
+    let w = c .before .item .ensures in
+    let v = c .item2 .ensures in (
+      (rw w (b .heavy (l .label) (inside now)), (rw v (b .cheap (l .label) (inside now)), (omega arith, b .narrow))),
+      s .pre .1 .0,
+    )
 
 cast-c : tie.Need-cast-c Inv-loop μ-loop
 cast-c c = omega (arith, light c)
@@ -112,13 +141,14 @@ slice-read-picks c = search needs
 add-picks : tie.Need-add-picks Inv-loop μ-loop
 unfolding mostBudget
 add-picks c =
-    let turn = c .before .before .before .before .before in
-    let s = entry (turn .before) in
-    let l = turn .before .loop in
+    let now = turn (c .before .before) in
+    let l = now .before .loop in
+    let s = entry (now .before) in
+    let row = s .args .row .now in
+    let heavy = s .pre .0 .heavy (l .label) (inside now) in
     omega (
       arith,
-      trace-few first-is (leadsAlong (at (s .args .row .now)) (weights s) (values s)) (weights s) (length (weights s)) (length (s .args .row .now) - 1) (along-light (at (s .args .row .now)) (weights s) (values s))
-          (l .inv .3) (l .label) (s .pre .0 .heavy (l .label) (inside turn)),
+      along-few (at row) (weights s) (values s) (length row - 1) (l .label) (l .c) (l .picks) (l .inv .3) (l .label) heavy,
       s .pre .0 .narrow,
     )
 
@@ -131,26 +161,26 @@ loop-less c = omega (arith, light (c .before), heavy (c .before))
 loop-again : tie.Need-loop-again Inv-loop μ-loop
 unfolding turnOf
 loop-again c =
-    let turn = c .before .before .before .before .before in
-    let l = turn .before .loop in (
+    let test = c .before .before in
+    let l = turn test .before .loop in (
       l .inv .0,
       omega (arith, light (c .before), heavy (c .before)),
       simp length-set (l .inv .2),
-      rw (add-one, c .before .before .before .before .item .ensures) (taken (l .inv .3) (inside turn) (on (c .before))),
+      rw (add-one, weight test) (taken (l .inv .3) (inside (turn test)) (on (c .before))),
     )
 
 add-label : tie.Need-add-label Inv-loop μ-loop
 add-label c = search needs
 
 loop-less-2 : tie.Need-loop-less-2 Inv-loop μ-loop
-loop-less-2 c = let turn = c .before .before .before .before in omega (arith, inside turn, lent (turn .before))
+loop-less-2 c = let now = turn (c .before) in omega (arith, inside now, lent (now .before))
 
 loop-again-2 : tie.Need-loop-again-2 Inv-loop μ-loop
 unfolding turnOf
 loop-again-2 c =
-    let turn = c .before .before .before .before in
-    let l = turn .before .loop in
-    (omega (arith, inside turn), l .inv .1, l .inv .2, rw add-one (passed (l .inv .3) (inside turn) (off c)))
+    let now = turn (c .before) in
+    let l = now .before .loop in
+    (omega (arith, inside now), l .inv .1, l .inv .2, rw add-one (passed (l .inv .3) (inside now) (off c)))
 
 same-length : tie.Need-same-length Inv-loop μ-loop
 same-length c = search needs

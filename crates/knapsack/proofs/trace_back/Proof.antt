@@ -1,4 +1,4 @@
--- `knapsack::trace_back` meets its contract: the way has come back to row i, and the picks from i on are the counts that it found (`trace-more`).
+-- `knapsack::trace_back` meets its contract: the trace has come back to row i, and the picks from i on are the counts that it found (`trace-more`).
 -- Assumes nothing.
 use native.Mathlib.Nat.{suc-mul}
 use lib.Seq.{drop-length}
@@ -22,14 +22,22 @@ Inv-loop weights wbytes values vbytes width cells picks₀ i₀ c₀ picks i c =
     (i ≤ length picks₀)
     × (c < width)
     × (length picks ≡ length picks₀)
-    × TraceBack (rowOf cells width) (listFrom weights wbytes) (listFrom values vbytes) (length (listFrom weights wbytes)) (width - 1) i c (drop i picks)
+    × TraceBack (rowOf cells width) (listFrom weights wbytes) (listFrom values vbytes)
+    (length (listFrom weights wbytes)) (width - 1) i c (drop i picks)
 
 abbrev μ-loop : tie.MeasureT-loop
 μ-loop weights wbytes values vbytes width cells picks₀ i₀ c₀ picks i c = i
 
--- the function's entry, from the loop's head
+-- the function's entry
+abbrev begun : tie.After-slice-known Inv-loop μ-loop → tie.Start Inv-loop μ-loop
+begun c = c .before .before .before .before .before .before
+
 abbrev entry : tie.At-loop Inv-loop μ-loop → tie.Start Inv-loop μ-loop
-entry c = c .before .before .before .before .before .before .before
+entry c = begun (c .before)
+
+-- a turn, from where its label's weight and value are known
+abbrev turn : tie.After-item2 Inv-loop μ-loop → tie.In-loop Inv-loop μ-loop
+turn c = c .before .before
 
 -- the lists that the function is handed
 module _ (s : tie.Start Inv-loop μ-loop) where
@@ -44,7 +52,8 @@ inside : (c : tie.In-loop Inv-loop μ-loop) → c .before .loop .i - 1 < length 
 inside c = omega (arith, entry (c .before) .pre .1 .0 .1)
 
 -- and its rows are within the table
-room : (c : tie.In-loop Inv-loop μ-loop) → (c .before .loop .i - 1) * entry (c .before) .args .width + entry (c .before) .args .width + c .before .loop .c < length (entry (c .before) .args .cells .now)
+room : (c : tie.In-loop Inv-loop μ-loop) → let a = entry (c .before) .args in let l = c .before .loop in
+    (l .i - 1) * a .width + a .width + l .c < length (a .cells .now)
 room c =
     let s = entry (c .before) in
     let n = length (weights s) in
@@ -55,7 +64,7 @@ sub-c c = search needs
 
 loop-holds : tie.Need-loop-holds Inv-loop μ-loop
 loop-holds c =
-    let s = c .before .before .before .before .before .before in
+    let s = begun c in
     let a = s .args in
     let n = s .pre .1 .0 .1 in
     (omega arith, omega (arith, s .pre .0 .wide), refl, rw (n, drop-length (a .picks .now)) begin)
@@ -67,32 +76,34 @@ item-requires : tie.Need-item-requires Inv-loop μ-loop
 item-requires c κs = inside c
 
 item-requires-2 : tie.Need-item-requires-2 Inv-loop μ-loop
-item-requires-2 c κs = let turn = c .before in rw (entry (turn .before) .pre .0 .valued) (inside turn)
+item-requires-2 c κs = rw (entry (c .before .before) .pre .0 .valued) (inside (c .before))
 
 mul-from : tie.Need-mul-from Inv-loop μ-loop
-mul-from c = omega (arith, room (c .before .before))
+mul-from c = omega (arith, room (turn c))
 
 add-goal : tie.Need-add-goal Inv-loop μ-loop
-add-goal c = omega (arith, room (c .before .before))
+add-goal c = omega (arith, room (turn c))
 
 add-goal-2 : tie.Need-add-goal-2 Inv-loop μ-loop
-add-goal-2 c = omega (arith, room (c .before .before))
+add-goal-2 c = omega (arith, room (turn c))
 
 mul-goal : tie.Need-mul-goal Inv-loop μ-loop
-mul-goal c = omega (arith, room (c .before .before), entry (c .before .before .before) .good)
+mul-goal c = omega (arith, room (turn c), entry (turn c .before) .good)
 
 shared-slice-read-goal : tie.Need-shared-slice-read-goal Inv-loop μ-loop
-shared-slice-read-goal c = omega (arith, room (c .before .before .before))
+shared-slice-read-goal c = omega (arith, room (turn (c .before)))
 
 least-count-requires : tie.Need-least-count-requires Inv-loop μ-loop
 unfolding mostBudget
 least-count-requires c κs =
-    let turn = c .before .before .before in
-    let head = turn .before in
-    let s = entry head in
-    let m = head .loop .i - 1 in (
-      (rw (c .before .before .item .ensures) (s .pre .0 .heavy m (inside turn)), (omega (arith, s .pre .0 .narrow), omega (arith, room turn))),
-      rw (c .before .before .item .ensures, c .before .item2 .ensures) (rw suc-mul at (s .pre .1 .1 m (head .loop .c) (inside turn) (head .loop .inv .1))),
+    let w = c .before .before .item .ensures in
+    let v = c .before .item2 .ensures in
+    let now = turn (c .before) in
+    let l = now .before .loop in
+    let s = entry (now .before) in
+    let m = l .i - 1 in (
+      (rw w (s .pre .0 .heavy m (inside now)), (omega (arith, s .pre .0 .narrow), omega (arith, room now))),
+      rw (w, v) (rw suc-mul at (s .pre .1 .1 m (l .c) (inside now) (l .inv .1))),
     )
 
 mul-picks : tie.Need-mul-picks Inv-loop μ-loop
@@ -101,13 +112,17 @@ mul-picks c = search needs
 slice-write-picks : tie.Need-slice-write-picks Inv-loop μ-loop
 slice-write-picks c = search needs
 
+-- what is picked weighs no more than the greatest budget
+spent : (c : tie.After-least-count Inv-loop μ-loop) → c .before .before .before .item .result * c .least-count .result ≤ mostBudget
+spent c = omega (arith, c .least-count .ensures .made .spent, entry (turn (c .before .before) .before) .pre .0 .narrow)
+
 mul-c : tie.Need-mul-c Inv-loop μ-loop
 unfolding mostBudget
-mul-c c = omega (arith, c .least-count .ensures .made .spent, entry (c .before .before .before .before .before) .pre .0 .narrow)
+mul-c c = omega (arith, spent c)
 
 cast-c : tie.Need-cast-c Inv-loop μ-loop
 unfolding mostBudget
-cast-c c = omega (arith, c .least-count .ensures .made .spent, entry (c .before .before .before .before .before) .pre .0 .narrow)
+cast-c c = omega (arith, spent c)
 
 sub-c-2 : tie.Need-sub-c-2 Inv-loop μ-loop
 sub-c-2 c = omega (arith, c .least-count .ensures .made .spent)
@@ -117,12 +132,12 @@ loop-less c = search needs
 
 loop-again : tie.Need-loop-again Inv-loop μ-loop
 loop-again c =
-    let head = c .before .before .before .before .before in
+    let w = c .before .before .before .item .ensures in
+    let v = c .before .before .item2 .ensures in
+    let head = turn (c .before .before) .before in
     let l = head .loop in
     let s = entry head in
     let a = s .args in
-    let w = c .before .before .before .item .ensures in
-    let v = c .before .before .item2 .ensures in
     let least = c .least-count in (
       omega arith,
       omega arith,

@@ -12,10 +12,15 @@ use Rattle.rows.proofs.add_any_number.Statement.{statement}
 use Rattle.rows.proofs.add_any_number.Tie as tie
 
 -- a bundle weighs something
-heavy : (c : tie.After-bundle) → 1 ≤ c .before .before .before .args .w * c .bundle .result
+-- the function's entry, from the call of `bundle`
+abbrev entry : tie.After-bundle → tie.Start
+entry c = c .before .before .before
+
+-- a bundle weighs something
+heavy : (c : tie.After-bundle) → 1 ≤ entry c .args .w * c .bundle .result
 heavy c =
     let m = c .bundle .result in
-    omega (arith, mul-le-mul-right m (c .before .before .before .pre .0 .0), one-mul m, c .bundle .ensures .some-of)
+    omega (arith, mul-le-mul-right m (entry c .pre .0 .0), one-mul m, c .bundle .ensures .some-of)
 
 bundle-requires : tie.Need-bundle-requires
 bundle-requires c κs = search needs
@@ -26,27 +31,35 @@ mul-climb c = search needs
 mul-climb-2 : tie.Need-mul-climb-2
 unfolding mostValue
 mul-climb-2 c =
-    let s = c .before .before .before .before .before .before in
-    let b = c .before .before .before .bundle in
-    omega (arith, mul-le-mul-right (b .result) (s .pre .0 .1 .0), b .ensures .few)
+    let bundled = c .before .before .before in
+    let b = bundled .bundle in
+    omega (arith, mul-le-mul-right (b .result) (entry bundled .pre .0 .1 .0), b .ensures .few)
 
 climb-requires : tie.Need-climb-requires
 climb-requires c κs =
-    let s = c .before .before .before .before .before .before in
-    let b = c .before .before .before .bundle in
-    rw (b .kept .0) ((heavy (c .before .before .before), (part-fits (s .args .w) (s .args .v) (b .result) (b .result) (s .args .w * b .result + 1) (s .pre .0 .0) (s .pre .0 .1 .0) (omega arith) (omega arith) .cheap, s .pre .0 .1 .1)), b .ensures .low)
+    let bundled = c .before .before .before in
+    let b = bundled .bundle in
+    let s = entry bundled in
+    let w = s .args .w in
+    let m = b .result in
+    let part = part-fits w (s .args .v) m m (w * m + 1) (s .pre .0 .0) (s .pre .0 .1 .0) (omega arith) (omega arith) in
+    rw (b .kept .0) ((heavy bundled, (part .cheap, s .pre .0 .1 .1)), b .ensures .capped)
 
 same-length : tie.Need-same-length
 same-length c = search needs
 
 returns : tie.Need-returns
 returns c =
-    let up = c .before .before .climb in
-    let at-bundle = c .before .before .before .before .before .before in
-    let b = at-bundle .bundle in
-    let a = at-bundle .before .before .before .args in
-    greatest-bundles (at (a .row .now)) (at (b .last .0)) (at (up .last .0)) (a .w) (a .v) (b .result) (length (a .row .now)) (b .ensures .some-of) (b .ensures .fewer)
-    (greatest-any (at (b .last .0)) (at (up .last .0)) (a .w * b .result) (a .v * b .result) (length (a .row .now)) (heavy at-bundle) (rw (b .kept .0) at (up .ensures)))
+    let climbed = c .before .before in
+    let bundled = climbed .before .before .before .before in
+    let up = climbed .climb in
+    let b = bundled .bundle in
+    let a = entry bundled .args in
+    let width = length (a .row .now) in
+    let w = a .w * b .result in
+    let v = a .v * b .result in
+    greatest-bundles (at (a .row .now)) (at (b .last .0)) (at (up .last .0)) (a .w) (a .v) (b .result) width (b .ensures .some-of) (b .ensures .fewer)
+    (greatest-any (at (b .last .0)) (at (up .last .0)) w v width (heavy bundled) (rw (b .kept .0) at (up .ensures)))
 
 pub add-any-number-spec : {M : Type 1} → statement M
 add-any-number-spec =

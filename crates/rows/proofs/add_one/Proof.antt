@@ -2,8 +2,9 @@
 -- Assumes nothing.
 use native.Mathlib.Nat.{zero-add}
 use mathlib.Core.Path.{_≡_, _∙_}
-use Prim.Native.Nat.{_+_, _-_, _≤_, max, min}
+use Prim.Native.Nat.{ℕ, _+_, _-_, _≤_, max, min}
 use native.Mathlib.Omega.{arith}
+use mathlib.Core.List.{List}
 use lib.ListN.{length, length-set}
 use borrow.Author.Needs.{needs}
 use Rattle.meaning.specs.Lists.{at}
@@ -12,11 +13,23 @@ use Rattle.rows.proofs.Stores.{stored-down}
 use Rattle.rows.proofs.add_one.Statement.{statement}
 use Rattle.rows.proofs.add_one.Tie as tie
 
+-- the better of none of the label and one
+abbrev better : List ℕ → ℕ → ℕ → ℕ → ℕ
+better row w v k = max (at row k) (at row (k - w) + v)
+
 abbrev Inv-loop : tie.InvT-loop
-Inv-loop row₀ w v w' c₀ row c = (min w' (length row₀) ≤ c) × (c ≤ length row₀) × (length row ≡ length row₀) × Stored row₀ row 0 c (length row₀) (λ k. max (at row₀ k) (at row₀ (k - w') + v))
+Inv-loop row₀ w v w' c₀ row c =
+    (min w' (length row₀) ≤ c)
+    × (c ≤ length row₀)
+    × (length row ≡ length row₀)
+    × Stored row₀ row 0 c (length row₀) (better row₀ w' v)
 
 abbrev μ-loop : tie.MeasureT-loop
 μ-loop row₀ w v w' c₀ row c = c
+
+-- the function's entry, from the loop's head
+abbrev entry : tie.At-loop Inv-loop μ-loop → tie.Start Inv-loop μ-loop
+entry c = c .before .before
 
 loop-holds : tie.Need-loop-holds Inv-loop μ-loop
 loop-holds c = search needs
@@ -41,8 +54,9 @@ slice-read-with c = search needs
 
 add-with : tie.Need-add-with Inv-loop μ-loop
 add-with c =
-    let start = c .before .before .before .before .before in
-    let l = c .before .before .before .loop in
+    let head = c .before .before .before in
+    let start = entry head in
+    let l = head .loop in
     let k = l .c - 1 - start .args .w in
     omega (arith, l .inv .3 .before k (omega arith), start .pre k (omega arith))
 
@@ -60,13 +74,15 @@ loop-less c = search needs
 
 loop-again : tie.Need-loop-again Inv-loop μ-loop
 loop-again c =
-    let a = c .before .before .before .before .before .before .args in
-    let l = c .before .before .before .before .loop in
+    let head = c .before .before .before .before in
+    let a = entry head .args in
+    let l = head .loop in
     let kept = l .inv .3 .before in (
       omega arith,
       omega arith,
       simp length-set (l .inv .2),
-      stored-down (a .row .now) 0 (l .c) (length (a .row .now)) (λ k. max (at (a .row .now) k) (at (a .row .now) (k - a .w) + a .v)) (l .row) (l .c - 1) (c .greater .result) (omega arith) (l .inv .3) (omega arith) (omega arith) (omega arith)
+      stored-down (a .row .now) 0 (l .c) (length (a .row .now)) (better (a .row .now) (a .w) (a .v)) (l .row) (l .c - 1) (c .greater .result)
+          (omega arith) (l .inv .3) (omega arith) (omega arith) (omega arith)
           (c .greater .ensures ∙ rw (kept (l .c - 1) (omega arith), kept (l .c - 1 - a .w) (omega arith))),
     )
 

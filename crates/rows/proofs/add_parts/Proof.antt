@@ -19,7 +19,8 @@ Inv-loop row₀ w v most m₀ row m =
     × (m ≤ most)
     × (length row ≡ length row₀)
     × Capped (at row) (length row₀)
-    × ((f : ℕ → ℕ) → GreatestRow (λ x. x ≤ min 1 most) f w v (length row₀) (at row₀) → GreatestRow (λ x. x ≤ m) f w v (length row₀) (at row))
+    × ((f : ℕ → ℕ) → GreatestRow (λ x. x ≤ min 1 most) f w v (length row₀) (at row₀)
+    → GreatestRow (λ x. x ≤ m) f w v (length row₀) (at row))
 
 abbrev μ-loop : tie.MeasureT-loop
 μ-loop row₀ w v most m₀ row m = most - m
@@ -28,16 +29,24 @@ abbrev μ-loop : tie.MeasureT-loop
 abbrev entry : tie.At-loop Inv-loop μ-loop → tie.Start Inv-loop μ-loop
 entry c = c .before .before .before
 
-fits : (c : tie.After-add-one-arg Inv-loop μ-loop) → let a = entry (c .before .before .before) .args in PartFits (a .w) (a .v) (c .before .lesser2 .result) (length (a .row .now))
+-- the entry from a call of `add_one`, and the part that is added there
+abbrev added-to : tie.After-add-one-arg Inv-loop μ-loop → tie.Start Inv-loop μ-loop
+added-to c = entry (c .before .before .before)
+
+abbrev part : tie.After-add-one-arg Inv-loop μ-loop → ℕ
+part c = c .before .lesser2 .result
+
+fits : (c : tie.After-add-one-arg Inv-loop μ-loop) → let a = added-to c .args in PartFits (a .w) (a .v) (part c) (length (a .row .now))
 fits c =
-    let s = entry (c .before .before .before) in
+    let s = added-to c in
     let a = s .args in
-    part-fits (a .w) (a .v) (c .before .lesser2 .result) (a .most) (length (a .row .now)) (s .pre .0 .0) (s .pre .0 .1 .0) (omega (arith, c .before .lesser2 .ensures)) (s .pre .0 .1 .1 .1)
+    part-fits (a .w) (a .v) (part c) (a .most) (length (a .row .now)) (s .pre .0 .0) (s .pre .0 .1 .0)
+    (omega (arith, c .before .lesser2 .ensures)) (s .pre .0 .1 .1 .1)
 
 -- a part's weight is below the remainder's divisor
-whole : (c : tie.After-add-one-arg Inv-loop μ-loop) → let a = entry (c .before .before .before) .args in a .w * c .before .lesser2 .result % 65_536 ≡ a .w * c .before .lesser2 .result
+whole : (c : tie.After-add-one-arg Inv-loop μ-loop) → let w = added-to c .args .w * part c in w % 65_536 ≡ w
 unfolding mostBudget
-whole c = mod-eq-of-lt (omega (arith, fits c .light, entry (c .before .before .before) .pre .0))
+whole c = mod-eq-of-lt (omega (arith, fits c .light, added-to c .pre .0))
 
 lesser-requires : tie.Need-lesser-requires Inv-loop μ-loop
 lesser-requires c κs = search needs
@@ -46,7 +55,7 @@ loop-holds : tie.Need-loop-holds Inv-loop μ-loop
 loop-holds c =
     let s = c .before .before in
     let one : c .lesser .result ≡ min 1 (s .args .most) = c .lesser .ensures in
-    (omega arith, omega arith, refl, s .pre .1, rw one (λ f tops. tops))
+    (omega arith, omega arith, refl, s .pre .1, rw one (λ f greatest. greatest))
 
 add-lesser : tie.Need-add-lesser Inv-loop μ-loop
 add-lesser c = search needs
@@ -59,18 +68,18 @@ lesser-requires-2 c κs = search needs
 
 mul-add-one : tie.Need-mul-add-one Inv-loop μ-loop
 unfolding mostValue mostBudget
-mul-add-one c = omega (arith, fits c .light, entry (c .before .before .before) .pre .0)
+mul-add-one c = omega (arith, fits c .light, added-to c .pre .0)
 
 mul-add-one-2 : tie.Need-mul-add-one-2 Inv-loop μ-loop
 unfolding mostValue mostBudget
-mul-add-one-2 c = omega (arith, fits c, entry (c .before .before .before) .pre .0)
+mul-add-one-2 c = omega (arith, fits c, added-to c .pre .0)
 
 add-one-requires : tie.Need-add-one-requires Inv-loop μ-loop
 unfolding Capped mostValue mostBudget
 add-one-requires c κs =
     λ d h.
     let l = c .before .before .before .loop in
-    omega (arith, l .inv .3 d (omega (arith, l .inv .2)), fits c .cheap, whole c, l .inv .2, entry (c .before .before .before) .pre .0)
+    omega (arith, l .inv .3 d (omega (arith, l .inv .2)), fits c .cheap, whole c, l .inv .2, added-to c .pre .0)
 
 add-m : tie.Need-add-m Inv-loop μ-loop
 add-m c = search needs
@@ -81,18 +90,20 @@ loop-less c = search needs
 loop-again : tie.Need-loop-again Inv-loop μ-loop
 unfolding GreatestRow
 loop-again c =
-    let head = c .before .before .before .before .before .before in
-    let a = entry head .args in
-    let l = head .loop in
-    let part = c .before .before .before .before .lesser2 in
-    let up = c .before .before .add-one in
-    let raised = rw (whole (c .before .before .before), l .inv .2) at (up .ensures) in (
-      omega (arith, part .ensures),
-      omega (arith, part .ensures),
-      up .kept .0 ∙ l .inv .2,
-      raised-capped (at (l .row)) (at (up .last .0)) (a .w * part .result) (a .v * part .result) (length (a .row .now)) (fits (c .before .before .before) .cheap) (l .inv .3) raised,
-      λ f tops.
-          greatest-part f (at (l .row)) (at (up .last .0)) (a .w) (a .v) (l .m) (part .result) (length (a .row .now)) (omega (arith, part .ensures)) (l .inv .4 f tops) raised,
+    let up = c .before .before in
+    let call = up .before in
+    let least = call .before .lesser2 .ensures in
+    let l = call .before .before .before .loop in
+    let a = added-to call .args in
+    let width = length (a .row .now) in
+    let after = at (up .add-one .last .0) in
+    let raised = rw (whole call, l .inv .2) at (up .add-one .ensures) in (
+      omega (arith, least),
+      omega (arith, least),
+      up .add-one .kept .0 ∙ l .inv .2,
+      raised-capped (at (l .row)) after (a .w * part call) (a .v * part call) width (fits call .cheap) (l .inv .3) raised,
+      λ f greatest.
+          greatest-part f (at (l .row)) after (a .w) (a .v) (l .m) (part call) width (omega (arith, least)) (l .inv .4 f greatest) raised,
     )
 
 same-length : tie.Need-same-length Inv-loop μ-loop
@@ -101,10 +112,10 @@ same-length c = search needs
 returns : tie.Need-returns Inv-loop μ-loop
 unfolding Repeated
 returns c =
-    λ f tops.
+    λ f greatest.
     let l = c .before .loop in
     let all : l .m ≡ entry (c .before) .args .most = omega arith in
-    rw (← all) (l .inv .4 f tops)
+    rw (← all) (l .inv .4 f greatest)
 
 pub add-parts-spec : {M : Type 1} → statement M
 add-parts-spec =

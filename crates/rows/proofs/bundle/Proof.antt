@@ -1,7 +1,7 @@
 -- `rows::bundle` meets its contract: a row with fewer than m of the label holds fewer than twice as many, once m are raised (`greatest-part`).
 -- Assumes nothing.
 use mathlib.Core.Path.{_≡_, refl, _∙_}
-use Prim.Native.Nat.{_+_, _-_, _*_, _%_, _≤_, _<_}
+use Prim.Native.Nat.{ℕ, _+_, _-_, _*_, _%_, _≤_, _<_}
 use native.Mathlib.Nat.{mod-eq-of-lt, mul-one, one-mul, mul-assoc, mul-le-mul-right}
 use native.Mathlib.Omega.{arith}
 use lib.ListN.{length}
@@ -29,29 +29,34 @@ abbrev μ-loop : tie.MeasureT-loop
 abbrev entry : tie.At-loop Inv-loop μ-loop → tie.Start Inv-loop μ-loop
 entry c = c .before .before
 
+-- the entry from a call of `add_one`, and the bundle that is added there
+abbrev added-to : tie.After-add-one-arg Inv-loop μ-loop → tie.Start Inv-loop μ-loop
+added-to c = entry (c .before .before)
+
+abbrev size : tie.After-add-one-arg Inv-loop μ-loop → ℕ
+size c = c .before .before .loop .m
+
 -- a bundle that is to grow is light
-fits : (c : tie.After-add-one-arg Inv-loop μ-loop) → let a = entry (c .before .before) .args in PartFits (a .w) (a .v) (c .before .before .loop .m) 16
+fits : (c : tie.After-add-one-arg Inv-loop μ-loop) → let a = added-to c .args in PartFits (a .w) (a .v) (size c) 16
 fits c =
-    let s = entry (c .before .before) in
-    let m = c .before .before .loop .m in
-    part-fits (s .args .w) (s .args .v) m m 16 (s .pre .0 .0) (s .pre .0 .1 .0) (omega arith) (c .before .loop-test .taken)
+    let s = added-to c in
+    part-fits (s .args .w) (s .args .v) (size c) (size c) 16 (s .pre .0 .0) (s .pre .0 .1 .0) (omega arith) (c .before .loop-test .taken)
 
 -- and small
-small : (c : tie.After-add-one-arg Inv-loop μ-loop) → (1 ≤ c .before .before .loop .m) × (c .before .before .loop .m < 16)
+small : (c : tie.After-add-one-arg Inv-loop μ-loop) → (1 ≤ size c) × (size c < 16)
 small c =
-    let s = entry (c .before .before) in
-    let m = c .before .before .loop .m in
-    (c .before .before .loop .inv .0, omega (arith, mul-le-mul-right m (s .pre .0 .0), one-mul m, fits c .light))
+    (c .before .before .loop .inv .0, omega (arith, mul-le-mul-right (size c) (added-to c .pre .0 .0), one-mul (size c), fits c .light))
 
 -- its weight is below the remainder's divisor
-whole : (c : tie.After-add-one-arg Inv-loop μ-loop) → let a = entry (c .before .before) .args in a .w * c .before .before .loop .m % 16 ≡ a .w * c .before .before .loop .m
+whole : (c : tie.After-add-one-arg Inv-loop μ-loop) → let w = added-to c .args .w * size c in w % 16 ≡ w
 whole c = mod-eq-of-lt (fits c .light)
 
 loop-holds : tie.Need-loop-holds Inv-loop μ-loop
 unfolding GreatestRow
 loop-holds c =
     let s = c .before in
-    (omega arith, omega arith, omega (arith, mul-one (s .args .w)), refl, s .pre .1, λ d h. greatest-none (at (s .args .row .now)) (s .args .w) (s .args .v) d)
+    let a = s .args in
+    (omega arith, omega arith, omega (arith, mul-one (a .w)), refl, s .pre .1, λ d h. greatest-none (at (a .row .now)) (a .w) (a .v) d)
 
 mul-loop : tie.Need-mul-loop Inv-loop μ-loop
 mul-loop c = search needs
@@ -68,7 +73,7 @@ unfolding Capped mostValue mostBudget
 add-one-requires c κs =
     λ d h.
     let l = c .before .before .loop in
-    omega (arith, l .inv .4 d (omega (arith, l .inv .3)), fits c, whole c, l .inv .3, entry (c .before .before) .pre .0)
+    omega (arith, l .inv .4 d (omega (arith, l .inv .3)), fits c, whole c, l .inv .3, added-to c .pre .0)
 
 mul-m : tie.Need-mul-m Inv-loop μ-loop
 mul-m c = search needs
@@ -79,18 +84,20 @@ loop-less c = omega (arith, small (c .before .before .before))
 loop-again : tie.Need-loop-again Inv-loop μ-loop
 unfolding GreatestRow
 loop-again c =
-    let here = c .before .before .before in
-    let l = here .before .before .loop in
-    let a = entry (here .before .before) .args in
-    let up = c .before .before .add-one in
-    let raised = rw (whole here, l .inv .3) at (up .ensures) in (
-      omega (arith, small here),
-      omega (arith, small here),
-      omega (arith, fits here .light, mul-assoc (a .w) (l .m) 2),
-      up .kept .0 ∙ l .inv .3,
-      raised-capped (at (l .row)) (at (up .last .0)) (a .w * l .m) (a .v * l .m) (length (a .row .now)) (fits here .cheap) (l .inv .4) raised,
+    let up = c .before .before in
+    let call = up .before in
+    let l = call .before .before .loop in
+    let a = added-to call .args in
+    let width = length (a .row .now) in
+    let after = at (up .add-one .last .0) in
+    let raised = rw (whole call, l .inv .3) at (up .add-one .ensures) in (
+      omega (arith, small call),
+      omega (arith, small call),
+      omega (arith, fits call .light, mul-assoc (a .w) (l .m) 2),
+      up .add-one .kept .0 ∙ l .inv .3,
+      raised-capped (at (l .row)) after (a .w * l .m) (a .v * l .m) width (fits call .cheap) (l .inv .4) raised,
       λ d h.
-          let all = greatest-part (at (a .row .now)) (at (l .row)) (at (up .last .0)) (a .w) (a .v) (l .m - 1) (l .m) (length (a .row .now)) (omega arith) (l .inv .5) raised d h in
+          let all = greatest-part (at (a .row .now)) (at (l .row)) after (a .w) (a .v) (l .m - 1) (l .m) width (omega arith) (l .inv .5) raised d h in
           let count : l .m - 1 + l .m ≡ l .m * 2 - 1 = omega arith in
           rw (← count) all,
     )
@@ -101,7 +108,7 @@ same-length c = search needs
 returns : tie.Need-returns Inv-loop μ-loop
 returns c =
     let inv = c .before .loop .inv in
-    record { some-of = inv .0; few = inv .1; fits = inv .2; fewer = inv .5; low = inv .4 }
+    record { some-of = inv .0; few = inv .1; fits = inv .2; fewer = inv .5; capped = inv .4 }
 
 pub bundle-spec : {M : Type 1} → statement M
 bundle-spec =

@@ -1,24 +1,22 @@
 -- `rows::copy` meets its contract: the cells so far are stored, and the row that is read lies before them, as it was.
 -- Assumes nothing.
-use mathlib.Core.Path.{_≡_, refl}
-use Prim.Native.Nat.{_+_, _-_, _≤_}
+use mathlib.Core.Path.{refl}
+use Prim.Native.Nat.{_+_, _-_}
 use native.Mathlib.Omega.{arith}
-use lib.ListN.{length, length-set}
 use borrow.Author.Needs.{needs}
 use Rattle.meaning.specs.Lists.{at}
-use Rattle.rows.specs.Rows.{Stored}
-use Rattle.rows.proofs.Stores.{stored-up}
+use Rattle.rows.proofs.Stores.{Storing, storing-none, storing-more, storing-all}
 use Rattle.rows.proofs.copy.Statement.{statement}
 use Rattle.rows.proofs.copy.Tie as tie
 
 abbrev Inv-loop : tie.InvT-loop
-Inv-loop cells₀ from to count c₀ cells c = (c ≤ count) × (length cells ≡ length cells₀) × Stored cells₀ cells to 0 c (λ k. at cells₀ (from + k))
+Inv-loop cells₀ from to count c₀ cells c = Storing cells₀ to 0 count (λ k. at cells₀ (from + k)) c cells
 
 abbrev μ-loop : tie.MeasureT-loop
 μ-loop cells₀ from to count c₀ cells c = count - c
 
 loop-holds : tie.Need-loop-holds Inv-loop μ-loop
-loop-holds c = search needs
+loop-holds c = let a = c .args in storing-none (a .cells .now) (a .to) 0 (a .count) (λ k. at (a .cells .now) (a .from + k)) (omega arith)
 
 add-cells : tie.Need-add-cells Inv-loop μ-loop
 add-cells c = search needs
@@ -46,22 +44,22 @@ loop-less c = search needs
 
 loop-again : tie.Need-loop-again Inv-loop μ-loop
 loop-again c =
-    let a = c .before .before .before .args in
-    let l = c .before .before .loop in (
-      omega arith,
-      simp length-set (l .inv .1),
-      stored-up (a .cells .now) (a .to) 0 (l .c) (λ k. at (a .cells .now) (a .from + k)) (l .cells) (a .to + l .c) (at (l .cells) (a .from + l .c)) (omega arith) (l .inv .2) (omega arith) refl
-          (l .inv .2 .before (a .from + l .c) (omega arith)),
-    )
+    let turn = c .before in
+    let s = turn .before .before in
+    let a = s .args in
+    let l = turn .before .loop in
+    storing-more (a .cells .now) (a .to) 0 (a .count) (λ k. at (a .cells .now) (a .from + k))
+    (l .c) (a .to + l .c) (at (l .cells) (a .from + l .c)) (l .cells) (turn .loop-test .taken)
+    (s .pre .1) (l .inv) refl (l .inv .stored .before (a .from + l .c) (omega arith))
 
 same-length : tie.Need-same-length Inv-loop μ-loop
-same-length c = c .before .loop .inv .1
+same-length c = c .before .loop .inv .long
 
 returns : tie.Need-returns Inv-loop μ-loop
 returns c =
+    let a = c .before .before .args in
     let l = c .before .loop in
-    let all : l .c ≡ c .before .before .args .count = omega arith in
-    rw all at (l .inv .2)
+    storing-all (a .cells .now) (a .to) 0 (a .count) (λ k. at (a .cells .now) (a .from + k)) (l .c) (l .cells) (omega arith) (l .inv)
 
 pub copy-spec : {M : Type 1} → statement M
 copy-spec =

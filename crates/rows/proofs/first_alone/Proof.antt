@@ -1,23 +1,22 @@
 -- `rows::first_alone` meets its contract: the words so far are 0, and the 1 is stored after them all.
 -- Assumes nothing.
-use mathlib.Core.Path.{_≡_, refl, _∙_}
-use Prim.Native.Nat.{ℕ, _-_, _≤_, _<_}
+use mathlib.Core.Path.{refl}
+use Prim.Native.Nat.{_-_}
 use native.Mathlib.Omega.{arith}
-use lib.ListN.{length, length-set}
+use lib.ListN.{length}
 use borrow.Author.Needs.{needs}
-use Rattle.meaning.specs.Lists.{at}
-use Rattle.rows.proofs.Stores.{alone, by, at-same, at-other}
+use Rattle.rows.proofs.Stores.{alone, stored-each, Storing, storing-none, storing-more, storing-all}
 use Rattle.rows.proofs.first_alone.Statement.{statement}
 use Rattle.rows.proofs.first_alone.Tie as tie
 
 abbrev Inv-loop : tie.InvT-loop
-Inv-loop words₀ m₀ words m = (m ≤ length words₀) × (length words ≡ length words₀) × ((k : ℕ) → k < m → at words k ≡ 0)
+Inv-loop words₀ m₀ words m = Storing words₀ 0 0 (length words₀) (λ k. 0) m words
 
 abbrev μ-loop : tie.MeasureT-loop
 μ-loop words₀ m₀ words m = length words₀ - m
 
 loop-holds : tie.Need-loop-holds Inv-loop μ-loop
-loop-holds c = (omega arith, refl, λ k h. absurd (omega arith))
+loop-holds c = let words = c .args .words .now in storing-none words 0 0 (length words) (λ k. 0) (omega arith)
 
 mul-words : tie.Need-mul-words Inv-loop μ-loop
 mul-words c = search needs
@@ -33,8 +32,9 @@ loop-less c = search needs
 
 loop-again : tie.Need-loop-again Inv-loop μ-loop
 loop-again c =
+    let words = c .before .before .args .words .now in
     let l = c .before .loop in
-    (omega arith, simp length-set (l .inv .1), λ k h. by k (l .m) (λ b. at-other (l .words) (l .m) 0 k (omega arith) ∙ l .inv .2 k b) (λ b. at-same (l .words) (l .m) 0 k (omega arith) (omega arith)))
+    storing-more words 0 0 (length words) (λ k. 0) (l .m) (l .m) 0 (l .words) (omega arith) (omega arith) (l .inv) (omega arith) refl
 
 slice-write-words-2 : tie.Need-slice-write-words-2 Inv-loop μ-loop
 slice-write-words-2 c = search needs
@@ -43,7 +43,11 @@ same-length : tie.Need-same-length Inv-loop μ-loop
 same-length c = search needs
 
 returns : tie.Need-returns Inv-loop μ-loop
-returns c = let l = c .before .loop in alone (l .words) 1 0 (length (c .before .before .args .words .now)) (omega arith) (λ m h. l .inv .2 m (omega arith))
+returns c =
+    let words = c .before .before .args .words .now in
+    let l = c .before .loop in
+    alone (l .words) 1 0 (length words) (omega arith)
+    (stored-each words (l .words) (length words) (λ k. 0) (storing-all words 0 0 (length words) (λ k. 0) (l .m) (l .words) (omega arith) (l .inv)))
 
 pub first-alone-spec : {M : Type 1} → statement M
 first-alone-spec =

@@ -1,4 +1,4 @@
--- `rows::leads` meets its contract: a label that is too heavy leads nowhere, and where it fits the sum does too, since the row is low.
+-- `rows::leads` meets its contract: a label that is too heavy leads nowhere, and where it fits the sum does too, since the row is capped.
 -- Assumes nothing.
 use Prim.Native.Nat.{_-_}
 use native.Mathlib.Omega.{arith}

@@ -13,18 +13,27 @@ use Rattle.rows.proofs.least_count.Statement.{statement}
 use Rattle.rows.proofs.least_count.Tie as tie
 
 abbrev Inv-loop : tie.InvT-loop
-Inv-loop cells from c w v goal x₀ left₀ rest₀ x left rest = (left + w * x ≡ c) × (rest + v * x ≡ goal) × ((y : ℕ) → y < x → ¬ Worth (λ d. at cells (from + d)) w v c y goal)
+Inv-loop cells from c w v goal x₀ left₀ rest₀ x left rest =
+    (left + w * x ≡ c)
+    × (rest + v * x ≡ goal)
+    × ((y : ℕ) → y < x → ¬ Worth (λ d. at cells (from + d)) w v c y goal)
 
 abbrev μ-loop : tie.MeasureT-loop
 μ-loop cells from c w v goal x₀ left₀ rest₀ x left rest = left
 
+-- the row that is read
+abbrev row : tie.Start Inv-loop μ-loop → ℕ → ℕ
+row s d = at (s .args .cells .now) (s .args .from + d)
+
 -- the count under trial is not the one
-on : (c : tie.Then1 Inv-loop μ-loop) → let a = c .before .before .before .args in let l = c .before .before .loop in GoesOn (λ d. at (a .cells .now) (a .from + d)) (a .w) (a .v) (a .c) (a .goal) (l .x) (l .left) (l .rest)
+on : (c : tie.Then1 Inv-loop μ-loop) → let s = c .before .before .before in let a = s .args in let l = c .before .before .loop in
+    GoesOn (row s) (a .w) (a .v) (a .c) (a .goal) (l .x) (l .left) (l .rest)
 on c =
-    let start = c .before .before .before in
-    let a = start .args in
+    let s = c .before .before .before in
+    let a = s .args in
     let l = c .before .before .loop in
-    goes-on (λ d. at (a .cells .now) (a .from + d)) (a .w) (a .v) (a .c) (a .goal) (l .x) (l .left) (l .rest) (l .inv .0) (l .inv .1) (l .inv .2) (c .if1 .taken) (start .pre .0 .0) (start .pre .1)
+    goes-on (row s) (a .w) (a .v) (a .c) (a .goal) (l .x) (l .left) (l .rest)
+    (l .inv .0) (l .inv .1) (l .inv .2) (c .if1 .taken) (s .pre .0 .0) (s .pre .1)
 
 loop-holds : tie.Need-loop-holds Inv-loop μ-loop
 loop-holds c = (omega (arith, mul-zero (c .args .w)), omega (arith, mul-zero (c .args .v)), λ y h. absurd (omega arith))
@@ -59,9 +68,10 @@ loop-again c =
 
 returns : tie.Need-returns Inv-loop μ-loop
 returns c =
-    let a = c .before .before .before .args in
+    let s = c .before .before .before in
+    let a = s .args in
     let l = c .before .before .loop in
-    found (λ d. at (a .cells .now) (a .from + d)) (a .w) (a .v) (a .c) (a .goal) (l .x) (l .left) (l .rest) (l .inv .0) (l .inv .1) (l .inv .2) (c .if1 .left)
+    found (row s) (a .w) (a .v) (a .c) (a .goal) (l .x) (l .left) (l .rest) (l .inv .0) (l .inv .1) (l .inv .2) (c .if1 .left)
 
 pub least-count-spec : {M : Type 1} → statement M
 least-count-spec =

@@ -1,7 +1,7 @@
 -- `rows::next_row` meets its contract: copied and raised, the row holds up to one of the label, and the parts add the others (`next-made`).
 -- Assumes nothing.
 use mathlib.Core.Path.{_∙_}
-use Prim.Native.Nat.{_+_, _*_, _≤_, _<_}
+use Prim.Native.Nat.{ℕ, _+_, _*_, _≤_, _<_}
 use native.Mathlib.Omega.{arith}
 use lib.ListN.{length}
 use borrow.Author.Needs.{needs}
@@ -22,32 +22,50 @@ most-held-requires c κs = search needs
 raised-from-requires : tie.Need-raised-from-requires
 raised-from-requires c κs = search needs
 
+-- the function's entry and the calls, each from the one after it
+abbrev entry : tie.After-raised-from → tie.Start
+entry c = c .before .before .before
+
+abbrev most-of : tie.After-raised-from → ℕ
+most-of c = c .before .most-held .result
+
+abbrev reach : tie.After-copy → tie.After-raised-from
+reach c = c .before .before
+
+abbrev copied : tie.After-raise → tie.After-copy
+copied c = c .before .before .before .before
+
 -- as many as may be picked are lighter than the row is wide
-light : (c : tie.After-raised-from) → c .before .before .before .args .w * c .before .most-held .result < c .before .before .before .args .width
+light : (c : tie.After-raised-from) → entry c .args .w * most-of c < entry c .args .width
 light c =
-    let a = c .before .before .before .args in
-    rw (c .before .most-held .ensures) (most-light (a .limit) (a .w) (a .width) (c .before .before .before .pre .0 .0))
+    let a = entry c .args in
+    most-light (a .limit) (a .w) (a .width) (most-of c) (entry c .pre .0 .0) (c .before .most-held .ensures)
 
 -- and the row is copied no further than it is wide
-short : (c : tie.After-raised-from) → c .raised-from .result ≤ c .before .before .before .args .width
+short : (c : tie.After-raised-from) → c .raised-from .result ≤ entry c .args .width
 short c =
-    let a = c .before .before .before .args in
-    start-within (a .w) (c .before .most-held .result) (a .width) (c .raised-from .result) (c .raised-from .ensures .0) (c .raised-from .ensures .1) (light c)
+    let a = entry c .args in
+    let start = c .raised-from in
+    start-within (a .w) (most-of c) (a .width) (start .result) (start .ensures .0) (start .ensures .1) (light c)
+
+-- the new row is within the table
+fits : (c : tie.After-raise) → let a = entry (reach (copied c)) .args in a .from + a .width + a .width ≤ length (c .raise .last .0)
+fits c = omega (arith, c .raise .kept .0, copied c .copy .kept .0, entry (reach (copied c)) .pre .0)
 
 copy-requires : tie.Need-copy-requires
 copy-requires c κs =
-    let start = c .before .before .before .before in
-    (omega (arith, short (c .before)), omega (arith, short (c .before), start .pre .0))
+    let to = c .before in
+    (omega (arith, short to), omega (arith, short to, entry to .pre .0))
 
 raise-requires : tie.Need-raise-requires
 unfolding Capped mostValue mostBudget
 raise-requires c κs =
-    let start = c .before .before .before .before .before .before .before .before in
-    let a = start .args in
-    let reach = c .before .before .before .before .before in
-    let copy = c .before .before .before .copy in (
-      (short reach, (omega arith, omega (arith, copy .kept .0, start .pre .0))),
-      λ d h. omega (arith, copy .ensures .before (a .from + d) (omega arith), start .pre .1 .1 d (omega arith), start .pre .0, start .pre .1 .0),
+    let call = c .before .before .before in
+    let copy = call .copy in
+    let s = entry (reach call) in
+    let a = s .args in (
+      (short (reach call), (omega arith, omega (arith, copy .kept .0, s .pre .0))),
+      λ d h. omega (arith, copy .ensures .before (a .from + d) (omega arith), s .pre .1 .1 d (omega arith), s .pre .0, s .pre .1 .0),
     )
 
 add-add-parts : tie.Need-add-add-parts
@@ -67,18 +85,18 @@ part-add-parts-end c = search needs
 
 add-parts-requires : tie.Need-add-parts-requires
 add-parts-requires c κs =
-    let raise = c .before .before .before in
-    let copy = raise .before .before .before .before in
-    let reach = copy .before .before in
-    let start = reach .before .before .before in
-    let a = start .args in
-    let u = raise .raise .last .0 in
-    let to = a .from + a .width in
-    let fits : to + a .width ≤ length u = omega (arith, raise .raise .kept .0, copy .copy .kept .0, start .pre .0) in
-    rw (part-long u to (a .width) fits) (
-      (start .pre .1 .0 .0, (start .pre .1 .0 .1, (start .pre .0 .1 .0, light reach))),
-      part-capped (a .cells .now) (copy .copy .last .0) u (a .from) (a .width) (a .w) (a .v) (reach .before .most-held .result) (reach .raised-from .result) (reach .raised-from .ensures .0) (reach .raised-from .ensures .1)
-          (copy .copy .ensures) (raise .raise .ensures) (start .pre .1 .0 .0) (start .pre .1 .0 .1) fits (start .pre .1 .1),
+    let raised = c .before .before .before in
+    let copy = copied raised .copy in
+    let to = reach (copied raised) in
+    let start = to .raised-from in
+    let s = entry to in
+    let a = s .args in
+    let u = raised .raise .last .0 in
+    rw (part-long u (a .from + a .width) (a .width) (fits raised)) (
+      (s .pre .1 .0 .0, (s .pre .1 .0 .1, (s .pre .0 .1 .0, light to))),
+      part-capped (a .cells .now) (copy .last .0) u (a .from) (a .width) (a .w) (a .v) (most-of to)
+          (start .result) (start .ensures .0) (start .ensures .1) (copy .ensures)
+          (raised .raise .ensures) (s .pre .1 .0 .0) (s .pre .1 .0 .1) (fits raised) (s .pre .1 .1),
     )
 
 same-length : tie.Need-same-length
@@ -86,18 +104,20 @@ same-length c = search needs
 
 returns : tie.Need-returns
 returns c =
-    let parts = c .before .before .add-parts in
-    let raise = c .before .before .before .before .before .before in
-    let copy = raise .before .before .before .before in
-    let reach = copy .before .before in
-    let start = reach .before .before .before in
-    let a = start .args in
-    let u = raise .raise .last .0 in
-    let to = a .from + a .width in
-    let fits : to + a .width ≤ length u = omega (arith, raise .raise .kept .0, copy .copy .kept .0, start .pre .0) in
-    let long = part-long u to (a .width) fits in
-    next-made (a .cells .now) (copy .copy .last .0) u (a .from) (a .width) (a .w) (a .v) (reach .before .most-held .result) (reach .raised-from .result) (reach .raised-from .ensures .0) (reach .raised-from .ensures .1)
-    (copy .copy .ensures) (raise .raise .ensures) (parts .last .0) (a .limit) (start .pre .1 .0 .0) fits (parts .kept .0 ∙ long) (short reach) (reach .before .most-held .ensures) (rw long at (parts .ensures))
+    let added = c .before .before in
+    let parts = added .add-parts in
+    let raised = added .before .before .before .before in
+    let copy = copied raised .copy in
+    let to = reach (copied raised) in
+    let start = to .raised-from in
+    let s = entry to in
+    let a = s .args in
+    let u = raised .raise .last .0 in
+    let long = part-long u (a .from + a .width) (a .width) (fits raised) in
+    next-made (a .cells .now) (copy .last .0) u (a .from) (a .width) (a .w) (a .v) (most-of to)
+    (start .result) (start .ensures .0) (start .ensures .1) (copy .ensures)
+    (raised .raise .ensures) (parts .last .0) (a .limit) (s .pre .1 .0 .0) (fits raised) (parts .kept .0 ∙ long) (short to)
+    (to .before .most-held .ensures) (rw long at (parts .ensures))
 
 pub next-row-spec : {M : Type 1} → statement M
 next-row-spec =

@@ -1,24 +1,34 @@
 -- `rows::raise` meets its contract: each cell so far is made of two of the row before, which lies before all stores and is as it was.
 -- Assumes nothing.
 use mathlib.Core.Path.{_≡_, refl, ap, _∙_}
-use Prim.Native.Nat.{_+_, _-_, _≤_, max}
+use Prim.Native.Nat.{ℕ, _+_, _-_, max}
 use native.Mathlib.Omega.{arith}
-use lib.ListN.{length, length-set}
+use mathlib.Core.List.{List}
 use borrow.Author.Needs.{needs}
 use Rattle.meaning.specs.Lists.{at}
-use Rattle.rows.specs.Rows.{Stored}
-use Rattle.rows.proofs.Stores.{stored-up}
+use Rattle.rows.proofs.Stores.{Storing, storing-none, storing-more, storing-all}
 use Rattle.rows.proofs.raise.Statement.{statement}
 use Rattle.rows.proofs.raise.Tie as tie
 
+-- the better of none of the label and one
+abbrev better : List ℕ → ℕ → ℕ → ℕ → ℕ → ℕ
+better cells from w v k = max (at cells (from + k)) (at cells (from + (k - w)) + v)
+
 abbrev Inv-loop : tie.InvT-loop
-Inv-loop cells₀ from to width w v c₀ cells c = (w ≤ c) × (c ≤ width) × (length cells ≡ length cells₀) × Stored cells₀ cells to w c (λ k. max (at cells₀ (from + k)) (at cells₀ (from + (k - w)) + v))
+Inv-loop cells₀ from to width w v c₀ cells c = Storing cells₀ to w width (better cells₀ from w v) c cells
 
 abbrev μ-loop : tie.MeasureT-loop
 μ-loop cells₀ from to width w v c₀ cells c = width - c
 
+-- the function's entry, from the loop's head
+abbrev entry : tie.At-loop Inv-loop μ-loop → tie.Start Inv-loop μ-loop
+entry c = c .before .before
+
 loop-holds : tie.Need-loop-holds Inv-loop μ-loop
-loop-holds c = search needs
+loop-holds c =
+    let s = c .before in
+    let a = s .args in
+    storing-none (a .cells .now) (a .to) (a .w) (a .width) (better (a .cells .now) (a .from) (a .w) (a .v)) (s .pre .0 .0)
 
 add-without : tie.Need-add-without Inv-loop μ-loop
 add-without c = search needs
@@ -43,11 +53,12 @@ slice-read-with c = search needs
 
 add-with-2 : tie.Need-add-with-2 Inv-loop μ-loop
 add-with-2 c =
-    let start = c .before .before .before .before .before in
+    let head = c .before .before .before in
+    let start = entry head in
     let a = start .args in
-    let l = c .before .before .before .loop in
+    let l = head .loop in
     let less : a .from + l .c - a .w ≡ a .from + (l .c - a .w) = omega arith in
-    omega (arith, ap (at (l .cells)) less, l .inv .3 .before (a .from + (l .c - a .w)) (omega arith), start .pre .1 (l .c - a .w) (omega arith))
+    omega (arith, ap (at (l .cells)) less, l .inv .stored .before (a .from + (l .c - a .w)) (omega arith), start .pre .1 (l .c - a .w) (omega arith))
 
 greater-requires : tie.Need-greater-requires Inv-loop μ-loop
 greater-requires c κs = search needs
@@ -69,25 +80,24 @@ loop-less c = search needs
 
 loop-again : tie.Need-loop-again Inv-loop μ-loop
 loop-again c =
-    let a = c .before .before .before .before .before .before .args in
-    let l = c .before .before .before .before .loop in
-    let kept = l .inv .3 .before in
-    let less : a .from + l .c - a .w ≡ a .from + (l .c - a .w) = omega arith in (
-      omega arith,
-      omega arith,
-      simp length-set (l .inv .2),
-      stored-up (a .cells .now) (a .to) (a .w) (l .c) (λ k. max (at (a .cells .now) (a .from + k)) (at (a .cells .now) (a .from + (k - a .w)) + a .v)) (l .cells) (a .to + l .c) (c .greater .result) (omega arith) (l .inv .3) (omega arith) refl
-          (c .greater .ensures ∙ rw (less, kept (a .from + l .c) (omega arith), kept (a .from + (l .c - a .w)) (omega arith))),
-    )
+    let turn = c .before .before .before in
+    let s = entry (turn .before) in
+    let a = s .args in
+    let l = turn .before .loop in
+    let kept = l .inv .stored .before in
+    let less : a .from + l .c - a .w ≡ a .from + (l .c - a .w) = omega arith in
+    storing-more (a .cells .now) (a .to) (a .w) (a .width) (better (a .cells .now) (a .from) (a .w) (a .v))
+    (l .c) (a .to + l .c) (c .greater .result) (l .cells) (turn .loop-test .taken) (s .pre .0 .1 .1) (l .inv) refl
+    (c .greater .ensures ∙ rw (less, kept (a .from + l .c) (omega arith), kept (a .from + (l .c - a .w)) (omega arith)))
 
 same-length : tie.Need-same-length Inv-loop μ-loop
-same-length c = c .before .loop .inv .2
+same-length c = c .before .loop .inv .long
 
 returns : tie.Need-returns Inv-loop μ-loop
 returns c =
+    let a = entry (c .before) .args in
     let l = c .before .loop in
-    let all : l .c ≡ c .before .before .before .args .width = omega arith in
-    rw all at (l .inv .3)
+    storing-all (a .cells .now) (a .to) (a .w) (a .width) (better (a .cells .now) (a .from) (a .w) (a .v)) (l .c) (l .cells) (omega arith) (l .inv)
 
 pub raise-spec : {M : Type 1} → statement M
 raise-spec =

@@ -1,26 +1,36 @@
 -- `sums::add_bits` meets its contract: the words below those that took the label in vectors take it too, and the lowest takes the bits of one.
 -- Assumes nothing.
-use mathlib.Core.Path.{_≡_, refl, _∙_}
-use Prim.Native.Nat.{ℕ, _+_, _-_, _*_, _≤_, _<_}
+use mathlib.Core.Path.{_∙_}
+use Prim.Native.Nat.{ℕ, _-_}
 use native.Mathlib.Omega.{arith}
 use mathlib.Core.List.{List}
 use lib.ListN.{length, length-set}
 use borrow.Author.Needs.{needs}
-use Rattle.sums.specs.Words.{Added}
 use Rattle.sums.proofs.Bits.{or-assoc}
-use Rattle.sums.proofs.Words.{new-lowest, bits-more, added-more, added-all}
+use Rattle.sums.proofs.Words.{AddingBits, adding-none, adding-more, adding-all}
 use Rattle.sums.proofs.add_bits.Statement.{statement}
 use Rattle.sums.proofs.add_bits.Tie as tie
 
 abbrev Inv-loop : tie.InvT-loop
-Inv-loop words₀ q r back m₀ words m =
-    (q < m)
-    × (m ≤ length words₀)
-    × (length words ≡ length words₀)
-    × ((s : List ℕ) (len : ℕ) → Added s words₀ (64 * q + r) m₀ len → Added s words (64 * q + r) m len)
+Inv-loop words₀ q r back m₀ words m = AddingBits words₀ q r m₀ words m
 
 abbrev μ-loop : tie.MeasureT-loop
 μ-loop words₀ q r back m₀ words m = m
+
+-- the function's entry, and the call of `add_in_vectors` from the loop's head
+abbrev entry : tie.After-add-in-vectors Inv-loop μ-loop → tie.Start Inv-loop μ-loop
+entry c = c .before .before .before
+
+abbrev vectors : tie.At-loop Inv-loop μ-loop → tie.After-add-in-vectors Inv-loop μ-loop
+vectors c = c .before .before .before
+
+-- the words that it left, and the first of them that has taken the label
+module _ (c : tie.After-add-in-vectors Inv-loop μ-loop) where
+  abbrev left : List ℕ
+  left = c .add-in-vectors .last .0
+
+  abbrev first : ℕ
+  first = c .add-in-vectors .result
 
 sub-back : tie.Need-sub-back Inv-loop μ-loop
 sub-back c = search needs
@@ -30,7 +40,10 @@ add-in-vectors-requires c κs = search needs
 
 loop-holds : tie.Need-loop-holds Inv-loop μ-loop
 loop-holds c =
-    let vectors = c .before .before .add-in-vectors in (vectors .ensures .0 .0, omega (arith, vectors .ensures .0 .1, vectors .kept .0), refl, λ s len d. d)
+    let v = c .before .before in
+    let a = entry v .args in
+    let made = v .add-in-vectors in
+    adding-none (left v) (a .q) (a .r) (first v) (made .ensures .0 .0) (omega (arith, made .ensures .0 .1, made .kept .0))
 
 add-loop : tie.Need-add-loop Inv-loop μ-loop
 add-loop c = search needs
@@ -82,16 +95,14 @@ loop-less c = search needs
 
 loop-again : tie.Need-loop-again Inv-loop μ-loop
 loop-again c =
-    let l = c .before .before .before .before .loop in
-    let start = c .before .before .before .before .before .before .before .before .before .before in
-    let a = start .args in (
-      omega arith,
-      omega arith,
-      simp length-set (l .inv .2),
-      λ s len d. rw (← or-assoc)
-          (bits-more s (a .q) (a .r) (start .pre .1 .0) (start .pre .1 .1) (l .words) (l .m) (l .m - 1) _ (omega arith) (omega arith) (omega arith)
-          (omega (arith, c .slice-known5 .given (l .m - 1 - a .q - 1))) (l .inv .3 s len d)),
-    )
+    let turn = c .before .before .before in
+    let l = turn .before .loop in
+    let v = vectors (turn .before) in
+    let s = entry v in
+    let a = s .args in
+    rw (← or-assoc)
+    (adding-more (left v) (a .q) (a .r) (first v) (s .pre .1 .0) (s .pre .1 .1) (l .words) (l .m) (l .inv) (turn .loop-test .taken)
+    (omega (arith, c .slice-known5 .given (l .m - 1 - a .q - 1))))
 
 mul-words-5 : tie.Need-mul-words-5 Inv-loop μ-loop
 mul-words-5 c = search needs
@@ -112,20 +123,19 @@ slice-write-words-2 : tie.Need-slice-write-words-2 Inv-loop μ-loop
 slice-write-words-2 c = search needs
 
 same-length : tie.Need-same-length Inv-loop μ-loop
-same-length c = simp length-set (c .before .before .before .loop .inv .2 ∙ c .before .before .before .before .before .before .add-in-vectors .kept .0)
+same-length c =
+    let head = c .before .before .before in
+    simp length-set (head .loop .inv .long ∙ vectors head .add-in-vectors .kept .0)
 
 returns : tie.Need-returns Inv-loop μ-loop
 returns c =
-    let l = c .before .before .before .loop in
-    let vectors = c .before .before .before .before .before .before in
-    let start = vectors .before .before .before in
-    let a = start .args in
-    let w = 64 * a .q + a .r in
-    let len = length (a .words .now) in
-    let d = l .inv .3 (a .words .now) len (vectors .add-in-vectors .ensures .1) in
-    added-all (a .words .now) w len _ (a .q) (omega arith)
-    (added-more (a .words .now) w len (l .words) (l .m) (a .q) _ (omega arith) (omega arith) d
-    (rw (d .below (a .q) (omega arith), d .below 0 (omega arith)) (new-lowest (a .words .now) (a .q) (a .r) (start .pre .1 .0) (start .pre .1 .1))))
+    let head = c .before .before .before in
+    let l = head .loop in
+    let v = vectors head in
+    let s = entry v in
+    let a = s .args in
+    adding-all (left v) (a .q) (a .r) (first v) (s .pre .1 .0) (s .pre .1 .1) (l .words) (l .m) (l .inv)
+    (a .words .now) (length (a .words .now)) (omega arith) (v .add-in-vectors .ensures .1)
 
 pub add-bits-spec : {M : Type 1} → statement M
 add-bits-spec =

@@ -1,29 +1,33 @@
 -- `sums::add_in_vectors` meets its contract: where the words are many, each takes the bits of two old words; where they are few, none does.
 -- Assumes nothing.
-use mathlib.Core.Path.{_≡_}
-use Prim.Native.Nat.{_+_, _-_, _*_, _≤_, _<_}
+use Prim.Native.Nat.{_+_, _-_, _*_}
 use native.Mathlib.Omega.{arith}
-use lib.ListN.{length, length-set}
+use lib.ListN.{length}
 use borrow.Author.Needs.{needs}
-use Rattle.sums.specs.Words.{Added}
-use Rattle.sums.proofs.Words.{bits-more}
+use Rattle.sums.proofs.Words.{added-none, AddingBits, adding-none, adding-more}
 use Rattle.sums.proofs.add_in_vectors.Statement.{statement}
 use Rattle.sums.proofs.add_in_vectors.Tie as tie
 
 abbrev Inv-loop : tie.InvT-loop
-Inv-loop words₀ q r m₀ back words m = (q < m) × (m ≤ length words₀) × (length words ≡ length words₀) × Added words₀ words (64 * q + r) m (length words₀)
+Inv-loop words₀ q r m₀ back words m = AddingBits words₀ q r m₀ words m
 
 abbrev μ-loop : tie.MeasureT-loop
 μ-loop words₀ q r m₀ back words m = m
 
 returns : tie.Need-returns Inv-loop μ-loop
-returns c = search needs
+returns c =
+    let s = c .before in
+    let a = s .args in
+    ((s .pre .0, omega arith), added-none (a .words .now) (64 * a .q + a .r) (length (a .words .now)))
 
 sub-back : tie.Need-sub-back Inv-loop μ-loop
 sub-back c = search needs
 
 loop-holds : tie.Need-loop-holds Inv-loop μ-loop
-loop-holds c = search needs
+loop-holds c =
+    let s = c .before in
+    let a = s .args in
+    adding-none (a .words .now) (a .q) (a .r) (length (a .words .now)) (s .pre .0) (omega arith)
 
 add-loop : tie.Need-add-loop Inv-loop μ-loop
 add-loop c = search needs
@@ -75,22 +79,22 @@ loop-less c = search needs
 
 loop-again : tie.Need-loop-again Inv-loop μ-loop
 loop-again c =
-    let l = c .before .before .before .before .loop in
-    let start = c .before .before .before .before .before .before in
-    let a = start .args in (
-      omega arith,
-      omega arith,
-      simp length-set (l .inv .2),
-      bits-more (a .words .now) (a .q) (a .r) (start .pre .1 .0) (start .pre .1 .1) (l .words) (l .m) (l .m - 1) _ (omega arith) (omega arith) (omega arith)
-          (omega (arith, c .slice-known3 .given (l .m - 1 - a .q - 1))) (l .inv .3),
-    )
+    let turn = c .before .before .before in
+    let l = turn .before .loop in
+    let s = turn .before .before .before in
+    let a = s .args in
+    adding-more (a .words .now) (a .q) (a .r) (length (a .words .now)) (s .pre .1 .0) (s .pre .1 .1) (l .words) (l .m) (l .inv)
+    (turn .loop-test .taken) (omega (arith, c .slice-known3 .given (l .m - 1 - a .q - 1)))
 
 same-length : tie.Need-same-length Inv-loop μ-loop
 same-length c = search needs
 
 returns-2 : tie.Need-returns-2 Inv-loop μ-loop
 returns-2 c =
-    let l = c .before .loop in ((l .inv .0, l .inv .1), l .inv .3)
+    let l = c .before .loop in
+    let a = c .before .before .before .args in
+    let len = length (a .words .now) in
+    ((l .inv .reached, l .inv .within), l .inv .added (a .words .now) len (added-none (a .words .now) (64 * a .q + a .r) len))
 
 pub add-in-vectors-spec : {M : Type 1} → statement M
 add-in-vectors-spec =

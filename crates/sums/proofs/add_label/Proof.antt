@@ -7,6 +7,10 @@ use borrow.Author.Needs.{needs}
 use Rattle.sums.proofs.add_label.Statement.{statement}
 use Rattle.sums.proofs.add_label.Tie as tie
 
+-- the function's entry, from where the label is known to reach no further than the words
+abbrev entry : tie.Else1 → tie.Start
+entry c = c .before .before
+
 cast-q : tie.Need-cast-q
 cast-q c = search needs
 
@@ -25,7 +29,7 @@ same-length c = search needs
 returns-2 : tie.Need-returns-2
 returns-2 c =
     let words = c .before .before in
-    let w = words .before .before .before .before .before .args .w in
+    let w = entry (words .before .before .before) .args .w in
     let whole : 64 * (w / 64) ≡ w = omega arith in
     rw whole at (words .add-words .ensures)
 
@@ -38,7 +42,7 @@ same-length-2 c = search needs
 returns-3 : tie.Need-returns-3
 returns-3 c =
     let bits = c .before .before in
-    let w = bits .before .before .before .before .before .args .w in
+    let w = entry (bits .before .before .before) .args .w in
     let whole : 64 * (w / 64) + w % 64 ≡ w = omega arith in
     rw whole at (bits .add-bits .ensures)
 

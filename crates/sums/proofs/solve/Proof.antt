@@ -34,14 +34,16 @@ lent s = length-take-le (s .args .budget / 64 + 1) (s .args .words .now) (room s
 slice-relend-prefix-table : tie.Need-slice-relend-prefix-table
 slice-relend-prefix-table c = room (c .before .before .before)
 
+-- the function's entry, from where they are
+abbrev entry : tie.After-table-arg → tie.Start
+entry c = c .before .before .before .before
+
 slice-aggregate-table : tie.Need-slice-aggregate-table
-slice-aggregate-table c = sym (lent (c .before .before .before .before))
+slice-aggregate-table c = sym (lent (entry c))
 
 table-requires : tie.Need-table-requires
 unfolding jobOf
-table-requires c κs =
-    let s = c .before .before .before .before in
-    (small (job s) (s .args .words .now) (s .pre), lent s)
+table-requires c κs = let s = entry c in (small (job s) (s .args .words .now) (s .pre), lent s)
 
 same-length : tie.Need-same-length
 same-length c = search needs
@@ -49,8 +51,9 @@ same-length c = search needs
 returns : tie.Need-returns
 unfolding jobOf
 returns c =
-    let table = c .before .before .table in
-    let s = c .before .before .before .before .before .before .before in
+    let tabled = c .before .before in
+    let table = tabled .table in
+    let s = entry (tabled .before) in
     solved (job s) (table .result) (s .args .words .now) (table .last .1 .1 .1 .0)
     (s .pre) (table .kept .1 .1 .1 .0 ∙ lent s) (table .ensures)
 

@@ -12,6 +12,16 @@ use Rattle.sums.proofs.Meant.{bit-table, tabled}
 use Rattle.sums.proofs.table.Statement.{statement}
 use Rattle.sums.proofs.table.Tie as tie
 
+-- the function's entry and the calls, each from the one after it
+abbrev entry : tie.After-fill → tie.Start
+entry c = c .before .before .before .before .before
+
+abbrev filled : tie.After-trim → tie.After-fill
+filled c = c .before .before .before .before
+
+abbrev cut : tie.After-is-set → tie.After-trim
+cut c = c .before .before .before .before
+
 fill-requires : tie.Need-fill-requires
 fill-requires c κs = search needs
 
@@ -24,10 +34,9 @@ is-set-requires c κs = search needs
 count-totals-requires : tie.Need-count-totals-requires
 unfolding mostBudget
 count-totals-requires c κs =
-    let trim = c .before .before .before .before .before in
-    let fill = trim .before .before .before .before in
-    let start = fill .before .before .before .before .before in
-    omega (arith, start .pre, fill .fill .kept .1 .1 .0, trim .trim .kept .0)
+    let t = cut (c .before) in
+    let f = filled t in
+    omega (arith, entry f .pre, f .fill .kept .1 .1 .0, t .trim .kept .0)
 
 same-length : tie.Need-same-length
 same-length c = search needs
@@ -35,18 +44,20 @@ same-length c = search needs
 returns : tie.Need-returns
 unfolding jobOf labels
 returns c =
-    let known = c .before .before .before .before in
-    let trim = known .before .before in
-    let fill = trim .before .before .before .before in
-    let start = fill .before .before .before .before .before in
-    let a = start .args in
+    let tested = c .before .before in
+    let yes = tested .is-set in
+    let known = tested .before .before .slice-known3 in
+    let t = cut tested in
+    let f = filled t in
+    let s = entry f in
+    let a = s .args in
     let j = weightsFrom 4 (a .budget ∷ []) (a .weights .now) (a .wbytes .now) in
-    let words = trim .trim .last .0 in
-    let filled = fill .fill .kept .1 .1 .0 in
-    tabled j words (length words) (trim .trim .kept .0 ∙ filled ∙ start .pre .1)
-    (bit-table j (length (a .words .now)) (fill .fill .last .1 .1 .0) words (start .pre .1) (fill .fill .ensures) (rw filled at (trim .trim .ensures))
-    (λ m. omega (arith, known .slice-known3 .given m)))
-    (c .before .before .is-set .result) (c .count-totals .result) (c .before .before .is-set .ensures) (c .count-totals .ensures)
+    let words = t .trim .last .0 in
+    let kept = f .fill .kept .1 .1 .0 in
+    tabled j words (length words) (t .trim .kept .0 ∙ kept ∙ s .pre .1)
+    (bit-table j (length (a .words .now)) (f .fill .last .1 .1 .0) words (s .pre .1) (f .fill .ensures) (rw kept at (t .trim .ensures))
+    (λ m. omega (arith, known .given m)))
+    (yes .result) (c .count-totals .result) (yes .ensures) (c .count-totals .ensures)
 
 pub table-spec : {M : Type 1} → statement M
 table-spec =
