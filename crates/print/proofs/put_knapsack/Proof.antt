@@ -5,6 +5,7 @@ use mathlib.Core.Path.{_≡_}
 use native.Mathlib.Omega.{arith}
 use lib.ListN.{length}
 use borrow.Author.Needs.{needs}
+use Rattle.numbers.specs.Placed.{WrittenAt}
 use Rattle.print.specs.Lines.{ascii, lineOf, picksLine, headLines, knapsackLines}
 use Rattle.print.proofs.Lengths.{knapsack-long}
 use Rattle.print.proofs.Joined.{knapsack-put}
@@ -25,6 +26,12 @@ weighed c = c .before .before .before
 long : (s : tie.Start) → let a = s .args in length (knapsackLines (a .kind) (a .value) (a .weight) (a .picks .now))
     ≡ length (headLines (a .kind) (ascii "value") (a .value)) + (length (lineOf (ascii "weight") (a .weight)) + length (picksLine (a .picks .now)))
 long s = let a = s .args in knapsack-long (a .kind) (a .value) (a .weight) (a .picks .now)
+
+-- the head has the value
+valued : (c : tie.After-put-head) → let a = start (c .before) .args in
+    WrittenAt 0 (headLines (a .kind) (ascii "value") (a .value)) (a .out .now) (c .put-head .last .0) (c .put-head .result)
+unfolding ascii
+valued c = c .put-head .ensures
 
 slice-aggregate-put-head : tie.Need-slice-aggregate-put-head
 slice-aggregate-put-head c = search needs
@@ -55,7 +62,7 @@ returns c =
     let head = headed (weight .before) in
     let s = start (head .before) in
     knapsack-put (s .args .kind) (s .args .value) (s .args .weight) (s .args .picks .now) (s .pre) (head .put-head .kept .0)
-    (head .put-head .ensures) (weight .put-line .ensures) (all .put-picks .ensures)
+    (valued head) (weight .put-line .ensures) (all .put-picks .ensures)
 
 pub put-knapsack-spec : {M : Type 1} → statement M
 put-knapsack-spec =
