@@ -93,7 +93,8 @@ pub extern "C" fn quabnester_solve(
     first: &mut u64,
     second: &mut u64,
 ) -> u32
-    ensures { λ r. ⌜ SolvedHost (now (job .entry)) (lentOf (now (cells .entry)) (now (words .entry)) (now (picks .entry))) r (now (first .exit)) (now (second .exit)) (lentOf (now (cells .exit)) (now (words .exit)) (now (picks .exit))) ⌝ }
+    ensures { λ r. ⌜ SolvedHost (now (job .entry)) (lentOf (now (cells .entry)) (now (words .entry)) (now (picks .entry)))
+        r (now (first .exit)) (now (second .exit)) (lentOf (now (cells .exit)) (now (words .exit)) (now (picks .exit))) ⌝ }
 {
     let answer = planner::solve_bytes(job, cells, words, picks);
     *first = first_number(answer);
@@ -110,7 +111,8 @@ pub extern "C" fn quabnester_write(
     out: &mut [u8],
     written: &mut u64,
 ) -> u32
-    ensures { λ r. ⌜ WritesHost (now (job .entry)) (now (picks .entry)) (now (cells .entry)) (now (out .entry)) r (now (written .exit)) (now (out .exit)) ⌝ }
+    ensures { λ r. ⌜ WritesHost (now (job .entry)) (now (picks .entry)) (now (cells .entry)) (now (out .entry))
+        r (now (written .exit)) (now (out .exit)) ⌝ }
 {
     let answer = certificate::write_bytes(job, picks, cells, out);
     match answer {

@@ -11,7 +11,11 @@ use Rattle.meaning.specs.Bytes.{sectionBytes}
 unfoldable pub HoldsAt : ℕ → List ℕ → List ℕ → List ℕ → Type 0
 HoldsAt place new before after = after ≡ take place before ++ over new (drop place before)
 
--- a section was written from a place on, and `next` is the place after it
-pub record SectionWritten (place : ℕ) (numbers before after : List ℕ) (next : ℕ) : Type 0 where
-  pub written : HoldsAt place (sectionBytes numbers) before after
-  pub ends : next ≡ place + length (sectionBytes numbers)
+-- `new` was written from a place on, and `next` is the place after it
+pub record WrittenAt (place : ℕ) (new before after : List ℕ) (next : ℕ) : Type 0 where
+  pub written : HoldsAt place new before after
+  pub ends : next ≡ place + length new
+
+-- a section was written from a place on
+abbrev pub SectionWritten : ℕ → List ℕ → List ℕ → List ℕ → ℕ → Type 0
+SectionWritten place numbers = WrittenAt place (sectionBytes numbers)

@@ -2,15 +2,18 @@
 -- Assumes nothing.
 use Prim.Native.Nat.{ℕ, suc, _+_, _*_, _≤_, _<_}
 use mathlib.Core.Path.{_≡_, refl, ap, _∙_}
+use mathlib.Core.Bool.{Bool, true, false}
 use mathlib.Core.List.{List, [], _∷_, _++_, append-assoc, append-nil}
 use native.Mathlib.Omega.{arith}
 use native.Mathlib.Numerals.{add-one}
 use lib.ListN.{length, take, drop, length-append}
 use lib.Seq.{take-suc, take-all, split-at}
+use mir.Val.{boolByte}
 use Rattle.meaning.specs.declared.Answer.{Answer}
 use Rattle.meaning.specs.declared.Answer.the-variants as Says
 use Rattle.meaning.specs.Lists.{at, if}
-use Rattle.print.specs.Lines.{ascii, decimalOf, afterBlank, afterBlanks, line, lineOf, picksLine, headLines, linesOf}
+use Rattle.print.specs.Lines.{ascii, decimalOf, afterBlank, afterBlanks, line, lineOf, picksLine, headLines}
+use Rattle.print.specs.Lines.{knapsackLines, sumsLines, numberAndPicks, linesOf}
 use Rattle.print.proofs.Decimal.{decimal-most}
 
 -- ---- a line's parts
@@ -28,7 +31,8 @@ unfolding ascii
 line-long name x =
     omega (arith, simp length-append at (ap length (line-parts name x)))
 
-pub head-long : (kind : ℕ) (name : List ℕ) (x : ℕ) → length (headLines kind name x) ≡ length (lineOf (ascii "kind") kind) + length (lineOf name x)
+pub head-long : (kind : ℕ) (name : List ℕ) (x : ℕ)
+    → length (headLines kind name x) ≡ length (lineOf (ascii "kind") kind) + length (lineOf name x)
 unfolding headLines
 head-long kind name x = length-append (lineOf (ascii "kind") kind) (lineOf name x)
 
@@ -52,7 +56,8 @@ pub blanks-next : (ps : List ℕ) (i : ℕ) → i < length ps → afterBlanks (t
 blanks-next ps i h = rw (add-one, take-suc ps i 0 h, blanks-append (take i ps) (at ps i ∷ []), blanks-one (at ps i))
 
 -- the picks passed and the next one take no more room than all
-pub blanks-room : (ps : List ℕ) (i : ℕ) → i < length ps → length (afterBlanks (take i ps)) + length (afterBlank (at ps i)) ≤ length (afterBlanks ps)
+pub blanks-room : (ps : List ℕ) (i : ℕ) → i < length ps
+    → length (afterBlanks (take i ps)) + length (afterBlank (at ps i)) ≤ length (afterBlanks ps)
 unfolding afterBlanks
 blanks-room ps i h =
     let parts = blanks-append (take i ps) (at ps i ∷ drop (suc i) ps) in
@@ -62,6 +67,30 @@ blanks-room ps i h =
 -- past the last pick all have been passed
 pub blanks-all : (ps : List ℕ) (i : ℕ) → length ps ≤ i → length (afterBlanks (take i ps)) ≡ length (afterBlanks ps)
 blanks-all ps i past = rw (take-all i ps past)
+
+-- ---- the lines of each answer
+
+pub knapsack-long : (kind value weight : ℕ) (ps : List ℕ) → length (knapsackLines kind value weight ps)
+    ≡ length (headLines kind (ascii "value") value) + (length (lineOf (ascii "weight") weight) + length (picksLine ps))
+knapsack-long kind value weight ps = simp length-append refl
+
+-- yes and no as they are printed, and as the code has them
+yes-byte : (b : Bool) → if b 1 0 ≡ boolByte b
+unfolding if
+yes-byte true = refl
+yes-byte false = refl
+
+pub sums-parts : (kind : ℕ) (reached : Bool) (totals : ℕ)
+    → sumsLines kind reached totals ≡ headLines kind (ascii "yes") (boolByte reached) ++ lineOf (ascii "totals") totals
+sums-parts kind reached totals = rw (yes-byte reached)
+
+pub sums-long : (kind : ℕ) (reached : Bool) (totals : ℕ)
+    → length (sumsLines kind reached totals) ≡ length (headLines kind (ascii "yes") (boolByte reached)) + length (lineOf (ascii "totals") totals)
+sums-long kind reached totals = ap length (sums-parts kind reached totals) ∙ length-append (headLines kind (ascii "yes") (boolByte reached)) _
+
+pub number-and-picks-long : (kind : ℕ) (name : List ℕ) (x : ℕ) (ps : List ℕ)
+    → length (numberAndPicks kind name x ps) ≡ length (headLines kind name x) + length (picksLine ps)
+number-and-picks-long kind name x ps = length-append (headLines kind name x) (picksLine ps)
 
 -- ---- room for all lines
 
@@ -78,17 +107,19 @@ unfolding afterBlanks
 blanks-short [] = omega arith
 blanks-short (p ∷ ps) = omega (arith, length-append (afterBlank p) (afterBlanks ps), number-long p, decimal-most p, blanks-short ps)
 
+picks-room : (ps : List ℕ) → length (picksLine ps) ≤ 6 + 21 * length ps
+picks-room ps = omega (arith, picks-long ps, blanks-short ps)
+
 -- 128 bytes, and 21 for each pick
 pub lines-room : (kind : ℕ) (a : Answer) (ps : List ℕ) → length (linesOf kind a ps) ≤ 128 + 21 * length ps
 unfolding linesOf ascii
 lines-room kind (Says.Refused r) ps = omega (arith, line-room (ascii "refused") r)
 lines-room kind (Says.Knapsack value weight) ps =
-    simp length-append
-    (omega (arith, head-room kind (ascii "value") value, line-room (ascii "weight") weight, picks-long ps, blanks-short ps))
+    omega (arith, knapsack-long kind value weight ps, head-room kind (ascii "value") value, line-room (ascii "weight") weight, picks-room ps)
 lines-room kind (Says.Sums reached totals) ps =
-    simp length-append (omega (arith, head-room kind (ascii "yes") (if reached 1 0), line-room (ascii "totals") totals))
+    omega (arith, sums-long kind reached totals, head-room kind (ascii "yes") (boolByte reached), line-room (ascii "totals") totals)
 lines-room kind (Says.Blocks blocks) ps =
-    simp length-append (omega (arith, head-room kind (ascii "blocks") blocks, picks-long ps, blanks-short ps))
+    omega (arith, number-and-picks-long kind (ascii "blocks") blocks ps, head-room kind (ascii "blocks") blocks, picks-room ps)
 lines-room kind (Says.Ways ways) ps = omega (arith, head-room kind (ascii "ways") ways)
 lines-room kind (Says.Shares spare) ps =
-    simp length-append (omega (arith, head-room kind (ascii "spare") spare, picks-long ps, blanks-short ps))
+    omega (arith, number-and-picks-long kind (ascii "spare") spare ps, head-room kind (ascii "spare") spare, picks-room ps)

@@ -3,6 +3,7 @@
 use Prim.Native.Nat.{ℕ, zero, suc, _+_, _/_, _%_}
 use Prim.Native.Char.{code}
 use Prim.Native.String.{String, [] as ended, _∷_ as _then_}
+use mathlib.Core.Bool.{Bool}
 use mathlib.Core.List.{List, [], _∷_, _++_}
 use lib.Dec.{ltb}
 use Rattle.meaning.specs.declared.Answer.{Answer}
@@ -48,11 +49,29 @@ picksLine picks = line (ascii "picks") picks
 unfoldable pub headLines : ℕ → List ℕ → ℕ → List ℕ
 headLines kind name x = lineOf (ascii "kind") kind ++ lineOf name x
 
+-- ---- the lines of each answer
+
+abbrev pub refusedLines : ℕ → List ℕ
+refusedLines r = lineOf (ascii "refused") r
+
+abbrev pub knapsackLines : ℕ → ℕ → ℕ → List ℕ → List ℕ
+knapsackLines kind value weight picks = headLines kind (ascii "value") value ++ (lineOf (ascii "weight") weight ++ picksLine picks)
+
+abbrev pub sumsLines : ℕ → Bool → ℕ → List ℕ
+sumsLines kind reached totals = headLines kind (ascii "yes") (if reached 1 0) ++ lineOf (ascii "totals") totals
+
+abbrev pub waysLines : ℕ → ℕ → List ℕ
+waysLines kind ways = headLines kind (ascii "ways") ways
+
+-- of blocks and of shares: one number under its name, and the picks
+abbrev pub numberAndPicks : ℕ → List ℕ → ℕ → List ℕ → List ℕ
+numberAndPicks kind name x picks = headLines kind name x ++ picksLine picks
+
 -- all lines of an answer to a job of this kind
 unfoldable pub linesOf : ℕ → Answer → List ℕ → List ℕ
-linesOf kind (Says.Refused r) picks = lineOf (ascii "refused") r
-linesOf kind (Says.Knapsack value weight) picks = headLines kind (ascii "value") value ++ (lineOf (ascii "weight") weight ++ picksLine picks)
-linesOf kind (Says.Sums reached totals) picks = headLines kind (ascii "yes") (if reached 1 0) ++ lineOf (ascii "totals") totals
-linesOf kind (Says.Blocks blocks) picks = headLines kind (ascii "blocks") blocks ++ picksLine picks
-linesOf kind (Says.Ways ways) picks = headLines kind (ascii "ways") ways
-linesOf kind (Says.Shares spare) picks = headLines kind (ascii "spare") spare ++ picksLine picks
+linesOf kind (Says.Refused r) picks = refusedLines r
+linesOf kind (Says.Knapsack value weight) picks = knapsackLines kind value weight picks
+linesOf kind (Says.Sums reached totals) picks = sumsLines kind reached totals
+linesOf kind (Says.Blocks blocks) picks = numberAndPicks kind (ascii "blocks") blocks picks
+linesOf kind (Says.Ways ways) picks = waysLines kind ways
+linesOf kind (Says.Shares spare) picks = numberAndPicks kind (ascii "spare") spare picks

@@ -68,22 +68,43 @@ fn show(numbers: &[u32], answer: Answer, picks: [u32; 1_024], whole: bool) {
     lines::show(at(numbers, 1), answer, &picks[0..n], whole);
 }
 
-// The planner's answer to lists.
-fn by_lists(numbers: &[u32], whole: bool) {
-    let c = lent(numbers, 1, 131_072);
-    let w = lent(numbers, 2, 65_536);
-    let p = lent(numbers, 3, 1_024);
+// The planner's answer to lists, or to job bytes.
+fn solve(
+    numbers: &[u32],
+    job: &[u8],
+    as_bytes: bool,
+    cells: &mut [u32],
+    words: &mut [u64],
+    picks: &mut [u32],
+) -> Answer {
+    if as_bytes {
+        return planner::solve_bytes(job, cells, words, picks);
+    }
     let values = after(numbers, WEIGHTS);
-    let copies = after(numbers, values);
-    let mut cells = [7u32; 131_072];
-    let mut words = [7u64; 65_536];
-    let mut picks = [9u32; 1_024];
-    let answer = planner::solve(
+    planner::solve(
         at(numbers, 1),
         at(numbers, 3),
         list(numbers, WEIGHTS),
         list(numbers, values),
-        list(numbers, copies),
+        list(numbers, after(numbers, values)),
+        cells,
+        words,
+        picks,
+    )
+}
+
+// Its answer on what is lent, which held something else before.
+fn solve_and_show(numbers: &[u32], job: &[u8], as_bytes: bool, whole: bool) {
+    let c = lent(numbers, 1, 131_072);
+    let w = lent(numbers, 2, 65_536);
+    let p = lent(numbers, 3, 1_024);
+    let mut cells = [7u32; 131_072];
+    let mut words = [7u64; 65_536];
+    let mut picks = [9u32; 1_024];
+    let answer = solve(
+        numbers,
+        job,
+        as_bytes,
         &mut cells[0..c],
         &mut words[0..w],
         &mut picks[0..p],
@@ -104,25 +125,13 @@ fn put_bytes(numbers: &[u32], bytes: &mut [u8]) -> usize
     place
 }
 
-// Its answer to job bytes.
-fn solve_bytes(job: &[u8], numbers: &[u32], whole: bool) {
-    let c = lent(numbers, 1, 131_072);
-    let w = lent(numbers, 2, 65_536);
-    let p = lent(numbers, 3, 1_024);
-    let mut cells = [7u32; 131_072];
-    let mut words = [7u64; 65_536];
-    let mut picks = [9u32; 1_024];
-    let answer = planner::solve_bytes(job, &mut cells[0..c], &mut words[0..w], &mut picks[0..p]);
-    show(numbers, answer, picks, whole);
-}
-
 // Its answer to the job as bytes, after how many they are.
 fn by_bytes(numbers: &[u32], whole: bool) {
     let end = lesser(end_of_job(numbers), numbers.len());
     let mut bytes = [0u8; 16_384];
     let size = put_bytes(&numbers[0..end], &mut bytes);
     lines::size(size);
-    solve_bytes(&bytes[0..size], numbers, whole);
+    solve_and_show(numbers, &bytes[0..size], true, whole);
 }
 
 // Its answer by one of the doors.
@@ -130,5 +139,5 @@ pub fn answer(numbers: &[u32], as_bytes: bool, whole: bool) {
     if as_bytes {
         return by_bytes(numbers, whole);
     }
-    by_lists(numbers, whole);
+    solve_and_show(numbers, b"", false, whole);
 }

@@ -5,6 +5,10 @@ use borrow.Author.Needs.{needs}
 use Rattle.host.proofs.quabnester_write.Statement.{statement}
 use Rattle.host.proofs.quabnester_write.Tie as tie
 
+-- what the writer answered, from the match
+abbrev answered : tie.After-slice-known2 → tie.After-write-bytes
+answered c = c .before .before
+
 write-bytes-requires : tie.Need-write-bytes-requires
 write-bytes-requires c κs = search needs
 
@@ -20,8 +24,14 @@ same-length c = search needs
 returns : tie.Need-returns
 unfolding writtenNumbers
 returns c =
-    let answer = c .before .before .before .before .before .write-bytes in
-    record { answer = answer .result; writes = answer .ensures; refusal = rw (c .before .answer .given .1); bytes-are = rw (c .before .answer .given .1) }
+    let known = c .before in
+    let writer = answered (known .before .before) .write-bytes in
+    record {
+      answer = writer .result;
+      writes = writer .ensures;
+      refusal = rw (known .answer .given .1);
+      bytes-are = rw (known .answer .given .1);
+    }
 
 same-length-2 : tie.Need-same-length-2
 same-length-2 c = search needs
@@ -29,8 +39,14 @@ same-length-2 c = search needs
 returns-2 : tie.Need-returns-2
 unfolding writtenNumbers
 returns-2 c =
-    let answer = c .before .before .before .before .before .write-bytes in
-    record { answer = answer .result; writes = answer .ensures; refusal = rw (c .before .answer2 .given .1); bytes-are = rw (c .before .answer2 .given .1) }
+    let known = c .before in
+    let writer = answered (known .before .before) .write-bytes in
+    record {
+      answer = writer .result;
+      writes = writer .ensures;
+      refusal = rw (known .answer2 .given .1);
+      bytes-are = rw (known .answer2 .given .1);
+    }
 
 pub quabnester-write-spec : {M : Type 1} → statement M
 quabnester-write-spec =
