@@ -25,6 +25,7 @@ use Rattle.meaning.specs.Sums.{TotalCount, YesOrNo}
 use Rattle.meaning.specs.Blocks.{Fewest, Laid, blockOrder}
 use Rattle.meaning.specs.Answers.{Which, is-refusal, is-knapsack, is-sums, is-blocks, is-ways, is-shares, AnswerNumbers, answerNumbers, VerdictNumbers, verdictNumbers, WrittenNumbers, writtenNumbers}
 use Rattle.meaning.specs.Solved.{Answered, Built, Gives, WaysGiven, Outcome, Packed, Solved, SolvedAs, SolvedBytes, SolvedLists, SolvedRead, SumOrNone, Summed, TableHolds, TurnedDown, a-sum, no-such-sum, waysAnswer}
+use Rattle.meaning.specs.Told.{ToldBytes}
 use Rattle.meaning.specs.Certificates.{Checked}
 use Rattle.meaning.specs.Writer.{Writes, WritesBytes, WritesRead, WritesAs}
 use Rattle.meaning.specs.Host.{firstNumber, secondNumber, SolvedHost, WritesHost}
@@ -195,6 +196,20 @@ no-second-choice j before t t′ a a′ x y = lists-unique roomFor TableHolds ta
 pub no-second-choice-bytes : (bytes : List ℕ) (before t t′ : Lent) (a a′ : Answer) → SolvedBytes bytes before a t → SolvedBytes bytes before a′ t′ → One a a′ t t′
 unfolding SolvedBytes
 no-second-choice-bytes bytes before t t′ a a′ x y = read-unique roomFor TableHolds table-unique (readJob bytes) before t t′ a a′ x y
+
+-- what a program is told leaves none either
+pub record OneTold (kind kind′ labels labels′ : ℕ) (a a′ : Answer) (t t′ : Lent) : Type 0 where
+  pub kind-same : kind ≡ kind′
+  pub labels-same : labels ≡ labels′
+  pub one : One a a′ t t′
+
+pub no-second-choice-told : (bytes : List ℕ) (before t t′ : Lent) (kind kind′ labels labels′ : ℕ) (a a′ : Answer)
+    → ToldBytes bytes before kind labels a t → ToldBytes bytes before kind′ labels′ a′ t′ → OneTold kind kind′ labels labels′ a a′ t t′
+no-second-choice-told bytes before t t′ kind kind′ labels labels′ a a′ x y = record {
+  kind-same = x .kind-told ∙ sym (y .kind-told);
+  labels-same = x .labels-told ∙ sym (y .labels-told);
+  one = no-second-choice-bytes bytes before t t′ a a′ (x .solved) (y .solved);
+}
 
 -- ---- the checker
 

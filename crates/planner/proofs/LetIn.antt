@@ -81,9 +81,9 @@ module _ (k : Kind) (j : Job) (lent : Lent) (rules : Rules) (needs-sum : Bool) (
     lowest =
         asked-so ∙ ap (λ (m : meaning.Rules). jobRefusal m j (if (hasRoom room cells words picks) 0 6)) (by .its-rules)
         ∙ later-within (rulesOf k) j _ _ (λ kept.
-          let (few, small) = and-yes (leb (labels j) (rulesOf k .label-bound)) (leb (j .budget) (rulesOf k .budget-bound)) kept in
-          let needed = by .its-room (leb-yes few) (leb-yes small) j refl refl in
-          ap (λ (there : Bool). if there 0 6) (same-room (roomFor k j) room cells words picks lent needed (by .in-cells) (by .in-words) (by .in-picks)));
+        let (few, small) = and-yes (leb (labels j) (rulesOf k .label-bound)) (leb (j .budget) (rulesOf k .budget-bound)) kept in
+        let needed = by .its-room (leb-yes few) (leb-yes small) j refl refl in
+        ap (λ (there : Bool). if there 0 6) (same-room (roomFor k j) room cells words picks lent needed (by .in-cells) (by .in-words) (by .in-picks)));
   }
 
 -- ---- what comes of it

@@ -13,6 +13,7 @@ ghost use Rattle.meaning.specs.Job.{jobOf};
 ghost use Rattle.meaning.specs.Lent.{lentOf};
 ghost use Rattle.meaning.specs.Refusals.{jobRefusal};
 ghost use Rattle.meaning.specs.Solved.{Solved, SolvedBytes};
+ghost use Rattle.meaning.specs.Told.{ToldBytes};
 ghost use Rattle.meaning.specs.SolvedIn.{SolvedInCells, SolvedInWords, SolvedInPicks};
 ghost use Rattle.numbers.specs.TwoSlices.{jobFrom};
 ghost use Rattle.rules.specs.Ruling.{rulesFrom};
@@ -320,26 +321,54 @@ pub fn solve(
     )
 }
 
+// What a program needs to print: the number of the kind, how many labels there are, and the answer.
+pub struct Told {
+    pub kind: u32,
+    pub labels: usize,
+    pub answer: Answer,
+}
+
 // Job bytes. Any bytes and any slices may be handed in. Each section is handed on as the part of the job that it stands in.
-pub fn solve_bytes(job: &[u8], cells: &mut [u32], words: &mut [u64], picks: &mut [u32]) -> Answer
-    ensures { λ r. ⌜ SolvedBytes (now (job .entry)) (lentOf (now (cells .entry)) (now (words .entry)) (now (picks .entry))) r (lentOf (now (cells .exit)) (now (words .exit)) (now (picks .exit))) ⌝ }
+pub fn solve_told(job: &[u8], cells: &mut [u32], words: &mut [u64], picks: &mut [u32]) -> Told
+    ensures { λ r. ⌜ ToldBytes (now (job .entry)) (lentOf (now (cells .entry)) (now (words .entry)) (now (picks .entry))) (r .kind) (r .labels) (r .answer) (lentOf (now (cells .exit)) (now (words .exit)) (now (picks .exit))) ⌝ }
 {
     let request = requests::read_job(job);
     let Request::Read(parts) = request else {
-        return Answer::Refused(1);
+        return Told {
+            kind: 0,
+            labels: 0,
+            answer: Answer::Refused(1),
+        };
     };
     let none: [u32; 0] = [];
-    decide(
+    let weights = requests::bytes_at(job, parts.weights);
+    let values = requests::bytes_at(job, parts.values);
+    let copies = requests::bytes_at(job, parts.copies);
+    let labels = numbers::list_length(&none, weights);
+    let answer = decide(
         parts.kind,
         parts.budget,
         &none,
-        requests::bytes_at(job, parts.weights),
+        weights,
         &none,
-        requests::bytes_at(job, parts.values),
+        values,
         &none,
-        requests::bytes_at(job, parts.copies),
+        copies,
         cells,
         words,
         picks,
-    )
+    );
+    Told {
+        kind: parts.kind,
+        labels,
+        answer,
+    }
+}
+
+// The answer alone.
+pub fn solve_bytes(job: &[u8], cells: &mut [u32], words: &mut [u64], picks: &mut [u32]) -> Answer
+    ensures { λ r. ⌜ SolvedBytes (now (job .entry)) (lentOf (now (cells .entry)) (now (words .entry)) (now (picks .entry))) r (lentOf (now (cells .exit)) (now (words .exit)) (now (picks .exit))) ⌝ }
+{
+    let told = solve_told(job, cells, words, picks);
+    told.answer
 }
