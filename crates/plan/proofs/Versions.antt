@@ -18,6 +18,7 @@ use Rattle.meaning.specs.Lent.{Lent, roomFor}
 use Rattle.meaning.specs.Refusals.{kindRefusal}
 use Rattle.meaning.specs.Bytes.{jobBytes, readJob, readable}
 use Rattle.meaning.specs.Solved.{Unrefused}
+use Rattle.meaning.specs.Told.{kindRead, labelsRead}
 use Rattle.meaning.proofs.Laws.{bytes-solved, numberOf}
 use Rattle.meaning.proofs.Cases.{tried}
 use Rattle.meaning.proofs.Held.{tried-back}
@@ -26,7 +27,7 @@ use Rattle.meaning.proofs.Opens.{opens}
 use Rattle.print.specs.Lines.{afterBlank, afterBlanks, ascii, decimalOf, decimalWithin, headLines, line, lineOf, linesOf}
 use Rattle.print.proofs.Joined.{written-out}
 use Rattle.plan.specs.Picks.{picksWritten}
-use Rattle.plan.specs.Replies.{Replied, a-job, kindRead, labelsRead, linesRoom, longer, mostInput, ourSlices}
+use Rattle.plan.specs.Replies.{Replied, a-job, linesRoom, longer, mostInput, ourSlices}
 
 -- ---- the program as a door
 
