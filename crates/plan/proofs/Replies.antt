@@ -22,7 +22,8 @@ use Rattle.plan.specs.Replies.{JobReplied, Replied, a-job, longer, mostI
 -- ---- to a job
 
 -- the picks of a job are the first that the answer has written
-pub replied : (bytes before after : List ℕ) (size kind n written : ℕ) (a : Answer) (left : Lent) → ToldBytes bytes ourSlices kind n a left → written ≡ picksWritten a n
+pub replied : (bytes before after : List ℕ) (size kind n written : ℕ) (a : Answer) (left : Lent) → ToldBytes bytes ourSlices kind n a left
+    → written ≡ picksWritten a n
     → PutFirst (linesOf kind a (take written (left .picks))) before after size → JobReplied bytes before after size
 replied bytes before after size kind n written a left told counted put = record {
   answer = a;
@@ -58,7 +59,8 @@ pub one-reply : (input before after after′ : List ℕ) (size size′ : ℕ) �
 one-reply input before after after′ size size′ (longer long put) (longer long′ put′) = text-unique put put′
 one-reply input before after after′ size size′ (longer long put) (a-job short replied) = absurd (omega arith)
 one-reply input before after after′ size size′ (a-job short replied) (longer long put) = absurd (omega arith)
-one-reply input before after after′ size size′ (a-job short replied) (a-job short′ replied′) = one-job-reply input before after after′ size size′ replied replied′
+one-reply input before after after′ size size′ (a-job short replied) (a-job short′ replied′) =
+    one-job-reply input before after after′ size size′ replied replied′
 
 -- one byte more than a job may have is enough to read: the reply to that much of the input is the reply to all of it
 pub enough-read : (input before after : List ℕ) (size : ℕ) → Replied (take (mostInput + 1) input) before after size → Replied input before after size
@@ -68,6 +70,7 @@ enough-read input before after size (a-job short replied) =
     a-job within (rw (take-all (mostInput + 1) input (omega arith)) at replied)
 
 -- longer input prints `refused 4`, and no more
-pub longer-prints : {input before after : List ℕ} {size : ℕ} → mostInput < length input → Replied input before after size → take size after ≡ ascii "refused 4\n"
+pub longer-prints : {input before after : List ℕ} {size : ℕ} → mostInput < length input → Replied input before after size
+    → take size after ≡ ascii "refused 4\n"
 longer-prints long (longer long′ put) = written-out put ∙ refusal 0 []
 longer-prints long (a-job short replied) = absurd (omega arith)

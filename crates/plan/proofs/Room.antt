@@ -75,11 +75,13 @@ module _ (j : Job) (before after : Lent) (a : Answer) where
   by-kind (some k) of-kind o = by-refusal k (kindRefusal (roomFor k j) k j before) of-kind refl o
 
 -- for any job bytes: none where they can't be read
-by-read : (x : JobRead) (before after : Lent) (a : Answer) (n : ℕ) → n ≡ labelsRead x → SolvedRead roomFor TableHolds x before a after → picksWritten a n ≤ length (before .picks)
+by-read : (x : JobRead) (before after : Lent) (a : Answer) (n : ℕ) → n ≡ labelsRead x → SolvedRead roomFor TableHolds x before a after
+    → picksWritten a n ≤ length (before .picks)
 unfolding labelsRead SolvedRead SolvedLists
 by-read (unreadable place) before after a n counted t = omega (arith, at-most a n)
 by-read (readable j) before after a n counted solved = rw counted (by-kind j before after a (kindOf (j .kind-number)) refl solved)
 
-pub picks-room : {bytes : List ℕ} {before after : Lent} {kind n : ℕ} {a : Answer} → ToldBytes bytes before kind n a after → picksWritten a n ≤ length (before .picks)
+pub picks-room : {bytes : List ℕ} {before after : Lent} {kind n : ℕ} {a : Answer} → ToldBytes bytes before kind n a after
+    → picksWritten a n ≤ length (before .picks)
 unfolding SolvedBytes
 picks-room {bytes} {before} {after} {kind} {n} {a} told = by-read (readJob bytes) before after a n (told .labels-told) (told .solved)

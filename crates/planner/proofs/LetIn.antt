@@ -61,7 +61,8 @@ pub record Lowest (k : Kind) (j : Job) (lent : Lent) (r : ℕ) : Type 0 where
   pub lowest : r ≡ jobRefusal (rulesOf k) j (if (roomFits (roomFor k j) lent) 0 6)
 
 -- the code's test of the room that is needed is refusal 6's
-same-room : (need : places.Room) (room : Room) (cells words picks : ℕ) (lent : Lent) → roomFrom room ≡ need → leb (need .cells) cells ≡ leb (need .cells) (length (lent .cells))
+same-room : (need : places.Room) (room : Room) (cells words picks : ℕ) (lent : Lent) → roomFrom room ≡ need
+    → leb (need .cells) cells ≡ leb (need .cells) (length (lent .cells))
     → leb (need .words) words ≡ leb (need .words) (length (lent .words)) → leb (need .picks) picks ≡ leb (need .picks) (length (lent .picks))
     → hasRoom room cells words picks ≡ roomFits need lent
 unfolding hasRoom roomFits roomFrom roomOf
@@ -83,7 +84,8 @@ module _ (k : Kind) (j : Job) (lent : Lent) (rules : Rules) (needs-sum : Bool) (
         ∙ later-within (rulesOf k) j _ _ (λ kept.
         let (few, small) = and-yes (leb (labels j) (rulesOf k .label-bound)) (leb (j .budget) (rulesOf k .budget-bound)) kept in
         let needed = by .its-room (leb-yes few) (leb-yes small) j refl refl in
-        ap (λ (there : Bool). if there 0 6) (same-room (roomFor k j) room cells words picks lent needed (by .in-cells) (by .in-words) (by .in-picks)));
+        ap (λ (there : Bool). if there 0 6)
+        (same-room (roomFor k j) room cells words picks lent needed (by .in-cells) (by .in-words) (by .in-picks)));
   }
 
 -- ---- what comes of it
@@ -96,7 +98,8 @@ asked-before r j true later h = earlier-given r j later h
 asked-before r j false later h = refl
 
 -- and where none does, what comes later
-asked-after : (r : meaning.Rules) (j : Job) (fits : Bool) (later : ℕ) → jobRefusal r j (if fits 0 6) ≡ 0 → jobRefusal r j (if (not fits) 6 later) ≡ later
+asked-after : (r : meaning.Rules) (j : Job) (fits : Bool) (later : ℕ) → jobRefusal r j (if fits 0 6) ≡ 0
+    → jobRefusal r j (if (not fits) 6 later) ≡ later
 unfolding if
 asked-after r j true later h = none-earlier r j later h
 asked-after r j false later h = absurd (omega (arith, has-passed r j 6 h .later-none))
@@ -132,13 +135,15 @@ module _ {k : Kind} {j : Job} {lent : Lent} {r : ℕ} (by : Lowest k j lent r) w
 -- ---- kinds 4 to 7
 
 -- a job that uses weights alone has no values and no copies
-pub weights-alone : {k : Kind} (kind budget : ℕ) (ws vs cs : List ℕ) {lent : Lent} {r : ℕ} → rulesOf k .uses-values ≡ false → rulesOf k .uses-copies ≡ false
+pub weights-alone : {k : Kind} (kind budget : ℕ) (ws vs cs : List ℕ) {lent : Lent} {r : ℕ} → rulesOf k .uses-values ≡ false
+    → rulesOf k .uses-copies ≡ false
     → Lowest k (jobOf kind (budget ∷ []) ws vs cs) lent r → r ≡ 0 → jobOf kind (budget ∷ []) ws vs cs ≡ jobOf kind (budget ∷ []) ws [] []
 unfolding listsFit jobOf if
 weights-alone {k} kind budget ws vs cs no-values no-copies by none =
     let j = jobOf kind (budget ∷ []) ws vs cs in
     let kept = has-passed (rulesOf k) j _ (sym (by .lowest) ∙ none) .lists in
-    let (v, c) = and-yes (eqb (length vs) (if (rulesOf k .uses-values) (labels j) 0)) (eqb (length cs) (if (rulesOf k .uses-copies) (labels j) 0)) kept in
+    let members : Bool → ℕ = λ used. if used (labels j) 0 in
+    let (v, c) = and-yes (eqb (length vs) (members (rulesOf k .uses-values))) (eqb (length cs) (members (rulesOf k .uses-copies))) kept in
     let no-vs : vs ≡ [] = empty-of vs (eqb-yes v ∙ rw no-values) in
     let no-cs : cs ≡ [] = empty-of cs (eqb-yes c ∙ rw no-copies) in
     rw (no-vs, no-cs)

@@ -15,8 +15,10 @@ use Rattle.requests.specs.Reading.{ReadAs, jobAt}
 
 -- `job_refusal`
 pub job-refusal-unique : (rules : Rules) (budget : ℕ) (weights wbytes values vbytes copies cbytes : List ℕ) (r r′ : ℕ)
-    → ((kind : ℕ) (needs-sum : Bool) → r ≡ jobRefusal (rulesFrom rules needs-sum) (jobFrom kind (budget ∷ []) weights wbytes values vbytes copies cbytes) 0)
-    → ((kind : ℕ) (needs-sum : Bool) → r′ ≡ jobRefusal (rulesFrom rules needs-sum) (jobFrom kind (budget ∷ []) weights wbytes values vbytes copies cbytes) 0) → r ≡ r′
+    → ((kind : ℕ) (needs-sum : Bool)
+    → r ≡ jobRefusal (rulesFrom rules needs-sum) (jobFrom kind (budget ∷ []) weights wbytes values vbytes copies cbytes) 0)
+    → ((kind : ℕ) (needs-sum : Bool)
+    → r′ ≡ jobRefusal (rulesFrom rules needs-sum) (jobFrom kind (budget ∷ []) weights wbytes values vbytes copies cbytes) 0) → r ≡ r′
 job-refusal-unique rules budget weights wbytes values vbytes copies cbytes r r′ a b = a 0 false ∙ sym (b 0 false)
 
 -- ---- `read_job` leaves a choice: a list may stand in any part that holds its numbers. What it was read as has none

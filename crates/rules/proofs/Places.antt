@@ -38,7 +38,8 @@ few-cells n budget h l =
     mul-le-mul rows width
 
 -- within the bounds it is what a job of n labels and this budget needs
-pub needed-within : (k : Kind) (n budget : ℕ) (r : Room) → n ≤ mostLabels → budget ≤ mostBudget → NeededBy k (min n mostLabels) (min budget mostBudget) r → NeededBy k n budget r
+pub needed-within : (k : Kind) (n budget : ℕ) (r : Room) → n ≤ mostLabels → budget ≤ mostBudget
+    → NeededBy k (min n mostLabels) (min budget mostBudget) r → NeededBy k n budget r
 needed-within k n budget r h l needed =
     let same-n : min n mostLabels ≡ n = omega arith in
     let same-budget : min budget mostBudget ≡ budget = omega arith in
@@ -68,8 +69,10 @@ module _ (n budget : ℕ) where
 pub first-fails : (needed there : ℕ) (second third : Bool) → there < needed → false ≡ (leb needed there && second && third)
 first-fails needed there second third h = rw (lt-leb needed there h)
 
-pub second-fails : (needed there needed-too there-too : ℕ) (third : Bool) → needed ≤ there → there-too < needed-too → false ≡ (leb needed there && leb needed-too there-too && third)
+pub second-fails : (needed there needed-too there-too : ℕ) (third : Bool) → needed ≤ there → there-too < needed-too
+    → false ≡ (leb needed there && leb needed-too there-too && third)
 second-fails needed there needed-too there-too third h l = rw (le-leb needed there h, lt-leb needed-too there-too l)
 
-pub last-asked : (needed there needed-too there-too : ℕ) (third : Bool) → needed ≤ there → needed-too ≤ there-too → third ≡ (leb needed there && leb needed-too there-too && third)
+pub last-asked : (needed there needed-too there-too : ℕ) (third : Bool) → needed ≤ there → needed-too ≤ there-too
+    → third ≡ (leb needed there && leb needed-too there-too && third)
 last-asked needed there needed-too there-too third h l = rw (le-leb needed there h, le-leb needed-too there-too l)

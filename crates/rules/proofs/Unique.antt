@@ -85,11 +85,13 @@ bounds-unique least most r r′ a b =
     λ i. record { least = low i; most = high i }
 
 -- `value_bounds`
-pub value-bounds-unique : (rules : Rules) (r r′ : Bounds) → (r .least ≡ rules .floor) × (r .most ≡ mostValue) → (r′ .least ≡ rules .floor) × (r′ .most ≡ mostValue) → r ≡ r′
+pub value-bounds-unique : (rules : Rules) (r r′ : Bounds) → (r .least ≡ rules .floor) × (r .most ≡ mostValue)
+    → (r′ .least ≡ rules .floor) × (r′ .most ≡ mostValue) → r ≡ r′
 value-bounds-unique rules = bounds-unique (rules .floor) mostValue
 
 -- `copies_bounds`
-pub copies-bounds-unique : (r r′ : Bounds) → (r .least ≡ leastCopies) × (r .most ≡ mostCopies) → (r′ .least ≡ leastCopies) × (r′ .most ≡ mostCopies) → r ≡ r′
+pub copies-bounds-unique : (r r′ : Bounds) → (r .least ≡ leastCopies) × (r .most ≡ mostCopies)
+    → (r′ .least ≡ leastCopies) × (r′ .most ≡ mostCopies) → r ≡ r′
 copies-bounds-unique = bounds-unique leastCopies mostCopies
 
 -- ---- the room that `meaning` asks for settles the code's
@@ -114,10 +116,12 @@ pub knapsack-room-unique : (kind n budget : ℕ) (r r′ : Room) → (1 ≤ kind
     → ((k : Knapsack) → kindOf kind ≡ some (packing k) → NeededBy (packing k) (min n mostLabels) (min budget mostBudget) r′) → r ≡ r′
 knapsack-room-unique kind n budget r r′ h a b =
     let s = knapsack-of kind (h .0) (h .1) in
-    needed-unique (packing (s .knapsack)) (min n mostLabels) (min budget mostBudget) r r′ (a (s .knapsack) (s .of-kind)) (b (s .knapsack) (s .of-kind))
+    needed-unique (packing (s .knapsack)) (min n mostLabels) (min budget mostBudget) r r′
+    (a (s .knapsack) (s .of-kind)) (b (s .knapsack) (s .of-kind))
 
 -- `sums_room`
-pub sums-room-unique : (budget : ℕ) (r r′ : Room) → ((n : ℕ) → NeededBy subset-sums n budget r) → ((n : ℕ) → NeededBy subset-sums n budget r′) → r ≡ r′
+pub sums-room-unique : (budget : ℕ) (r r′ : Room) → ((n : ℕ) → NeededBy subset-sums n budget r) → ((n : ℕ) → NeededBy subset-sums n budget r′)
+    → r ≡ r′
 sums-room-unique budget r r′ a b = needed-unique subset-sums 0 budget r r′ (a 0) (b 0)
 
 -- `blocks_room`

@@ -9,7 +9,7 @@ use borrow.Author.Needs.{needs}
 use Rattle.plan.proofs.reply.Statement.{statement}
 use Rattle.plan.proofs.reply.Tie as tie
 
--- the function's entry, and whether the input is longer
+-- the function's entry, from where the input was longer
 abbrev entry : tie.Then1 → tie.Start
 entry c = c .before .before .before
 

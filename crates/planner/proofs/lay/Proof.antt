@@ -54,7 +54,8 @@ lowest c =
       of-kind = laid-kind k;
       its-rules = laid-rules k _ (c .before .before .blocks-rules .ensures);
       its-room = λ few small.
-          subst (λ (n : ℕ). NeededBy (kind s) n (s .args .budget) (room .result)) (counted c .list-length .ensures) (laid-room k _ _ _ (room .ensures));
+          subst (λ (n : ℕ). NeededBy (kind s) n (s .args .budget) (room .result)) (counted c .list-length .ensures)
+          (laid-room k _ _ _ (room .ensures));
       in-cells = refl;
       in-words = refl;
       in-picks = refl;

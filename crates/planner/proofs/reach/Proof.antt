@@ -39,7 +39,8 @@ entry c = c .before .before .before .before .before .before .before .before
 abbrev chosen : tie.After-refusal → tie.After-sums-rules
 chosen c = c .before .before
 
-lowest : (c : tie.After-refusal) (cells picks : List ℕ) → let s = entry (chosen c) in Lowest subset-sums (job s) (lent s cells picks) (c .refusal .result)
+lowest : (c : tie.After-refusal) (cells picks : List ℕ)
+    → let s = entry (chosen c) in Lowest subset-sums (job s) (lent s cells picks) (c .refusal .result)
 unfolding jobOf labels lentOf roomFor roomOf kindOf allKinds
 lowest c cells picks =
     let s = entry (chosen c) in

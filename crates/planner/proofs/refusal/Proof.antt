@@ -18,12 +18,14 @@ room-fits-requires c κs = search needs
 returns-2 : tie.Need-returns-2
 returns-2 c kind needs-sum =
     let passed = c .before .before in
-    has-the-room _ _ _ _ (passed .before .job-refusal .ensures kind needs-sum) (passed .if1 .left) (sym (c .before .room-fits .ensures) ∙ c .if2 .taken)
+    has-the-room _ _ _ _ (passed .before .job-refusal .ensures kind needs-sum) (passed .if1 .left)
+    (sym (c .before .room-fits .ensures) ∙ c .if2 .taken)
 
 returns-3 : tie.Need-returns-3
 returns-3 c kind needs-sum =
     let passed = c .before .before in
-    lacks-the-room _ _ _ _ (passed .before .job-refusal .ensures kind needs-sum) (passed .if1 .left) (sym (c .before .room-fits .ensures) ∙ c .if2 .left)
+    lacks-the-room _ _ _ _ (passed .before .job-refusal .ensures kind needs-sum) (passed .if1 .left)
+    (sym (c .before .room-fits .ensures) ∙ c .if2 .left)
 
 pub refusal-spec : {M : Type 1} → statement M
 refusal-spec = tie.close (tie.spec job-refusal-requires returns room-fits-requires returns-2 returns-3)

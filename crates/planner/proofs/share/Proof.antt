@@ -40,7 +40,8 @@ entry c = c .before .before .before .before .before .before .before .before
 abbrev counted : tie.After-refusal → tie.After-list-length
 counted c = c .before .before .before
 
-lowest : (c : tie.After-refusal) (cells words : List ℕ) → let s = entry (counted c) in Lowest sharing (job s) (lent s cells words) (c .refusal .result)
+lowest : (c : tie.After-refusal) (cells words : List ℕ)
+    → let s = entry (counted c) in Lowest sharing (job s) (lent s cells words) (c .refusal .result)
 unfolding jobOf labels lentOf roomFor roomOf kindOf allKinds
 lowest c cells words =
     let s = entry (counted c) in

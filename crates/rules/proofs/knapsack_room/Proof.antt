@@ -30,7 +30,8 @@ returns : tie.Need-returns
 unfolding mostLabels mostBudget
 returns c k e =
     let counted = c .before in
-    one-row k _ _ _ _ (counted .before .lesser .ensures) (counted .lesser2 .ensures) (sym (kind-number (entry counted .args .kind) (packing k) e) ∙ c .if1 .taken)
+    one-row k _ _ _ _ (counted .before .lesser .ensures) (counted .lesser2 .ensures)
+    (sym (kind-number (entry counted .args .kind) (packing k) e) ∙ c .if1 .taken)
 
 add-t6 : tie.Need-add-t6
 add-t6 c = search needs
@@ -38,14 +39,16 @@ add-t6 c = search needs
 mul-t7 : tie.Need-mul-t7
 unfolding mostLabels mostBudget
 mul-t7 c =
-    let counted = c .before in
-    omega (arith, few-cells (counted .before .lesser .result) (counted .lesser2 .result) (omega (arith, counted .before .lesser .ensures)) (omega (arith, counted .lesser2 .ensures)))
+    let labels = c .before .before .lesser in
+    let budget = c .before .lesser2 in
+    omega (arith, few-cells (labels .result) (budget .result) (omega (arith, labels .ensures)) (omega (arith, budget .ensures)))
 
 returns-2 : tie.Need-returns-2
 unfolding mostLabels mostBudget
 returns-2 c k e =
     let counted = c .before in
-    all-rows k _ _ _ _ (counted .before .lesser .ensures) (counted .lesser2 .ensures) (λ three. c .if1 .left (kind-number (entry counted .args .kind) (packing k) e ∙ three))
+    all-rows k _ _ _ _ (counted .before .lesser .ensures) (counted .lesser2 .ensures)
+    (λ three. c .if1 .left (kind-number (entry counted .args .kind) (packing k) e ∙ three))
 
 pub knapsack-room-spec : {M : Type 1} → statement M
 knapsack-room-spec =
