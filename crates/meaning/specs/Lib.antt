@@ -18,6 +18,7 @@ pub mod Shares
 pub mod Answers
 pub mod Solved
 pub mod SolvedIn
+pub mod Told
 pub mod Certificates
 pub mod Writer
 pub mod Host

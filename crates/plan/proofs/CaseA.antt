@@ -9,6 +9,7 @@ use Rattle.meaning.specs.declared.Answer.{Answer}
 use Rattle.meaning.specs.declared.Answer.the-variants as Says
 use Rattle.meaning.specs.Job.{once, packing}
 use Rattle.meaning.specs.Bytes.{jobBytes, readJob}
+use Rattle.meaning.specs.Told.{kindRead, labelsRead}
 use Rattle.meaning.proofs.Laws.{holds-first}
 use Rattle.meaning.proofs.Cases.{caseA}
 use Rattle.meaning.proofs.Held.{tried-says}
@@ -17,7 +18,7 @@ use Rattle.print.specs.Lines.{ascii, linesOf}
 use Rattle.print.proofs.Cases.{case-a}
 use Rattle.print.specs.Puts.{PutFirst}
 use Rattle.plan.specs.Picks.{picksWritten}
-use Rattle.plan.specs.Replies.{JobReplied, Replied, a-job, kindRead, labelsRead, longer, ourSlices}
+use Rattle.plan.specs.Replies.{JobReplied, Replied, a-job, longer, ourSlices}
 use Rattle.plan.proofs.Versions.{ready}
 
 -- the lines of that answer

@@ -8,37 +8,33 @@ use lib.ListN.{length, length-append, length-take, take, drop}
 use lib.Seq.{take-all}
 use Rattle.meaning.specs.declared.Answer.{Answer}
 use Rattle.meaning.specs.Slices.{Holds}
-use Rattle.meaning.specs.Job.{Job, labels}
 use Rattle.meaning.specs.Lent.{Lent}
-use Rattle.meaning.specs.Bytes.{readJob, readable, unreadable}
-use Rattle.meaning.specs.Solved.{SolvedBytes}
+use Rattle.meaning.specs.Bytes.{readJob}
+use Rattle.meaning.specs.Told.{ToldBytes, kindRead, labelsRead}
 use Rattle.meaning.proofs.Unique.{no-second-choice-bytes}
 use Rattle.print.specs.Lines.{ascii, linesOf}
 use Rattle.print.proofs.Cases.{refusal}
 use Rattle.print.proofs.Joined.{text-unique, written-out}
 use Rattle.print.specs.Puts.{PutFirst}
 use Rattle.plan.specs.Picks.{picksWritten}
-use Rattle.plan.specs.Replies.{JobReplied, Replied, a-job, kindRead, labelsRead, longer, mostInput, ourSlices}
-use Rattle.plan.proofs.Room.{at-most}
+use Rattle.plan.specs.Replies.{JobReplied, Replied, a-job, longer, mostInput, ourSlices}
 
 -- ---- to a job
 
-module _ (bytes before after : List ℕ) (size : ℕ) (a : Answer) (left : Lent) (solved : SolvedBytes bytes ourSlices a left) where
-  -- bytes that can't be read have no picks
-  pub replied-unread : (place : ℕ) → readJob bytes ≡ unreadable place → PutFirst (linesOf 0 a []) before after size → JobReplied bytes before after size
-  unfolding kindRead labelsRead
-  replied-unread place e put =
-      let none : picksWritten a 0 ≡ 0 = omega (arith, at-most a 0) in
-      record { answer = a; left = left; solved = solved; put = rw (e, none) put }
-
-  -- the picks of a job are the first that the answer has written
-  pub replied-read : (j : Job) (n : ℕ) → readJob bytes ≡ readable j → n ≡ picksWritten a (labels j)
-      → PutFirst (linesOf (j .kind-number) a (take n (left .picks))) before after size → JobReplied bytes before after size
-  unfolding kindRead labelsRead
-  replied-read j n e f put = record { answer = a; left = left; solved = solved; put = rw (e, ← f) put }
+-- the picks of a job are the first that the answer has written
+pub replied : (bytes before after : List ℕ) (size kind n written : ℕ) (a : Answer) (left : Lent) → ToldBytes bytes ourSlices kind n a left
+    → written ≡ picksWritten a n
+    → PutFirst (linesOf kind a (take written (left .picks))) before after size → JobReplied bytes before after size
+replied bytes before after size kind n written a left told counted put = record {
+  answer = a;
+  left = left;
+  solved = told .solved;
+  put = rw (counted, told .kind-told, told .labels-told) at put;
+}
 
 -- no second reply is left
-one-job-reply : (bytes before after after′ : List ℕ) (size size′ : ℕ) → JobReplied bytes before after size → JobReplied bytes before after′ size′ → (after ≡ after′) × (size ≡ size′)
+one-job-reply : (bytes before after after′ : List ℕ) (size size′ : ℕ) → JobReplied bytes before after size → JobReplied bytes before after′ size′
+    → (after ≡ after′) × (size ≡ size′)
 one-job-reply bytes before after after′ size size′ x y =
     let one = no-second-choice-bytes bytes ourSlices (x .left) (y .left) (x .answer) (y .answer) (x .solved) (y .solved) in
     let lines = linesOf (kindRead (readJob bytes)) (x .answer) (take (picksWritten (x .answer) (labelsRead (readJob bytes))) (x .left .picks)) in
@@ -58,11 +54,13 @@ replied-within (longer long put) = put-within put
 replied-within (a-job short replied) = put-within (replied .put)
 
 -- no second reply is left
-pub one-reply : (input before after after′ : List ℕ) (size size′ : ℕ) → Replied input before after size → Replied input before after′ size′ → (after ≡ after′) × (size ≡ size′)
+pub one-reply : (input before after after′ : List ℕ) (size size′ : ℕ) → Replied input before after size → Replied input before after′ size′
+    → (after ≡ after′) × (size ≡ size′)
 one-reply input before after after′ size size′ (longer long put) (longer long′ put′) = text-unique put put′
 one-reply input before after after′ size size′ (longer long put) (a-job short replied) = absurd (omega arith)
 one-reply input before after after′ size size′ (a-job short replied) (longer long put) = absurd (omega arith)
-one-reply input before after after′ size size′ (a-job short replied) (a-job short′ replied′) = one-job-reply input before after after′ size size′ replied replied′
+one-reply input before after after′ size size′ (a-job short replied) (a-job short′ replied′) =
+    one-job-reply input before after after′ size size′ replied replied′
 
 -- one byte more than a job may have is enough to read: the reply to that much of the input is the reply to all of it
 pub enough-read : (input before after : List ℕ) (size : ℕ) → Replied (take (mostInput + 1) input) before after size → Replied input before after size
@@ -72,6 +70,7 @@ enough-read input before after size (a-job short replied) =
     a-job within (rw (take-all (mostInput + 1) input (omega arith)) at replied)
 
 -- longer input prints `refused 4`, and no more
-pub longer-prints : {input before after : List ℕ} {size : ℕ} → mostInput < length input → Replied input before after size → take size after ≡ ascii "refused 4\n"
+pub longer-prints : {input before after : List ℕ} {size : ℕ} → mostInput < length input → Replied input before after size
+    → take size after ≡ ascii "refused 4\n"
 longer-prints long (longer long′ put) = written-out put ∙ refusal 0 []
 longer-prints long (a-job short replied) = absurd (omega arith)

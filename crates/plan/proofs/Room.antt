@@ -14,12 +14,12 @@ use Rattle.meaning.specs.Lists.{if}
 use Rattle.meaning.specs.Job.{Job, labels, Kind, once, limited, free, packing, subset-sums, fewest-blocks, block-ways, sharing, kindOf}
 use Rattle.meaning.specs.Lent.{Lent, roomFor, roomOf}
 use Rattle.meaning.specs.Refusals.{kindRefusal}
-use Rattle.meaning.specs.Bytes.{readJob, readable}
+use Rattle.meaning.specs.Bytes.{JobRead, readJob, readable, unreadable}
 use Rattle.meaning.specs.Blocks.{tooMany}
 use Rattle.meaning.specs.Answers.{answerNumbers}
-use Rattle.meaning.specs.Solved.{Unrefused, Gives, Outcome, Solved, SolvedAs, SolvedBytes, SolvedLists, TableHolds, TurnedDown, waysAnswer}
+use Rattle.meaning.specs.Solved.{Unrefused, Gives, Outcome, SolvedAs, SolvedBytes, SolvedLists, SolvedRead, TableHolds, TurnedDown, waysAnswer}
+use Rattle.meaning.specs.Told.{ToldBytes, labelsRead}
 use Rattle.meaning.proofs.Unique.{answer-numbers-unique}
-use Rattle.meaning.proofs.Laws.{bytes-solved}
 use Rattle.meaning.proofs.SolvedIn.{kept}
 use Rattle.plan.specs.Picks.{picksWritten}
 
@@ -74,7 +74,14 @@ module _ (j : Job) (before after : Lent) (a : Answer) where
   by-kind none of-kind t = by-turning-down 2 t
   by-kind (some k) of-kind o = by-refusal k (kindRefusal (roomFor k j) k j before) of-kind refl o
 
-  -- for any job bytes that can be read
-  pub picks-room : (bytes : List ℕ) → readJob bytes ≡ readable j → SolvedBytes bytes before a after → picksWritten a (labels j) ≤ length (before .picks)
-  unfolding Solved SolvedLists
-  picks-room bytes reads solved = by-kind (kindOf (j .kind-number)) refl (bytes-solved bytes j before after a reads solved)
+-- for any job bytes: none where they can't be read
+by-read : (x : JobRead) (before after : Lent) (a : Answer) (n : ℕ) → n ≡ labelsRead x → SolvedRead roomFor TableHolds x before a after
+    → picksWritten a n ≤ length (before .picks)
+unfolding labelsRead SolvedRead SolvedLists
+by-read (unreadable place) before after a n counted t = omega (arith, at-most a n)
+by-read (readable j) before after a n counted solved = rw counted (by-kind j before after a (kindOf (j .kind-number)) refl solved)
+
+pub picks-room : {bytes : List ℕ} {before after : Lent} {kind n : ℕ} {a : Answer} → ToldBytes bytes before kind n a after
+    → picksWritten a n ≤ length (before .picks)
+unfolding SolvedBytes
+picks-room {bytes} {before} {after} {kind} {n} {a} told = by-read (readJob bytes) before after a n (told .labels-told) (told .solved)

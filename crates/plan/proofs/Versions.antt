@@ -1,5 +1,5 @@
--- Versions of the program: one whose lines for every job of a kind that no refusal meets are a refusal's, or say 0, doesn't keep the promise. The slices that
--- the planner is lent aren't given back, so nothing is said of their cells.
+-- Versions of the program: one whose lines for every job of a kind that no refusal meets are a refusal's, or say 0, doesn't keep the promise.
+-- The slices that the planner is lent aren't given back, so nothing is said of their cells.
 -- Assumes nothing.
 use mathlib.Core.Path.{_∙_, _≡_, ap, refl, sym}
 use mathlib.Core.Logic.{_⊎_, inl, inr}
@@ -18,6 +18,7 @@ use Rattle.meaning.specs.Lent.{Lent, roomFor}
 use Rattle.meaning.specs.Refusals.{kindRefusal}
 use Rattle.meaning.specs.Bytes.{jobBytes, readJob, readable}
 use Rattle.meaning.specs.Solved.{Unrefused}
+use Rattle.meaning.specs.Told.{kindRead, labelsRead}
 use Rattle.meaning.proofs.Laws.{bytes-solved, numberOf}
 use Rattle.meaning.proofs.Cases.{tried}
 use Rattle.meaning.proofs.Held.{tried-back}
@@ -26,7 +27,7 @@ use Rattle.meaning.proofs.Opens.{opens}
 use Rattle.print.specs.Lines.{afterBlank, afterBlanks, ascii, decimalOf, decimalWithin, headLines, line, lineOf, linesOf}
 use Rattle.print.proofs.Joined.{written-out}
 use Rattle.plan.specs.Picks.{picksWritten}
-use Rattle.plan.specs.Replies.{Replied, a-job, kindRead, labelsRead, linesRoom, longer, mostInput, ourSlices}
+use Rattle.plan.specs.Replies.{Replied, a-job, linesRoom, longer, mostInput, ourSlices}
 
 -- ---- the program as a door
 
@@ -74,7 +75,8 @@ program = record {
 abbrev Shown : Job → List ℕ × ℕ → Answer → Lent → Type 0
 Shown j g a left = written g ≡ linesOf (j .kind-number) a (take (picksWritten a (labels j)) (left .picks))
 
-shows : (input before after : List ℕ) (size : ℕ) (j : Job) → HandsIn input before j → Replied input before after size → SolvedAndShown j ourSlices (Shown j (after, size))
+shows : (input before after : List ℕ) (size : ℕ) (j : Job) → HandsIn input before j → Replied input before after size
+    → SolvedAndShown j ourSlices (Shown j (after, size))
 unfolding kindRead labelsRead
 shows input before after size j asks (longer long put) = absurd (omega (arith, asks .short))
 shows input before after size j asks (a-job short x) = record {
@@ -95,7 +97,8 @@ refusal-shown kind r (Says.Ways w) picks e = let k : _≡_ {A = ℕ} 107 114 = a
 refusal-shown kind r (Says.Shares x) picks e = let k : _≡_ {A = ℕ} 107 114 = ap (λ (l : List ℕ). at l 0) e in absurd (omega arith)
 
 -- the first number of no trial's answer is 0: here at its first digit
-first-digit : (k : Kind) (picks rest : List ℕ) → ¬ (linesOf (tried k .job .kind-number) (tried k .answer) picks ≡ headLines (numberOf k) (firstName k) 0 ++ rest)
+first-digit : (k : Kind) (picks rest : List ℕ)
+    → ¬ (linesOf (tried k .job .kind-number) (tried k .answer) picks ≡ headLines (numberOf k) (firstName k) 0 ++ rest)
 unfolding linesOf headLines lineOf line afterBlanks afterBlank decimalOf decimalWithin ascii if jobOf numberOf firstName
 first-digit (packing once) picks rest e = let d : _≡_ {A = ℕ} 57 48 = ap (λ (l : List ℕ). at l 13) e in omega arith
 first-digit (packing limited) picks rest e = let d : _≡_ {A = ℕ} 49 48 = ap (λ (l : List ℕ). at l 13) e in omega arith
@@ -105,7 +108,8 @@ first-digit fewest-blocks picks rest e = let d : _≡_ {A = ℕ} 50 48 = ap (λ 
 first-digit block-ways picks rest e = let d : _≡_ {A = ℕ} 52 48 = ap (λ (l : List ℕ). at l 12) e in omega arith
 first-digit sharing picks rest e = let d : _≡_ {A = ℕ} 49 48 = ap (λ (l : List ℕ). at l 13) e in omega arith
 
-not-0-shown : (k : Kind) (g : List ℕ × ℕ) (left : Lent) → Shown (tried k .job) g (tried k .answer) left → ¬ (RefusalLine (written g) ⊎ Says0 k (written g))
+not-0-shown : (k : Kind) (g : List ℕ × ℕ) (left : Lent) → Shown (tried k .job) g (tried k .answer) left
+    → ¬ (RefusalLine (written g) ⊎ Says0 k (written g))
 not-0-shown k g left shown (inl (r, e)) = not-refused k (refusal-shown (tried k .job .kind-number) r (tried k .answer) _ (sym shown ∙ e))
 not-0-shown k g left shown (inr (rest, e)) = first-digit k _ rest (sym shown ∙ e)
 

@@ -2,7 +2,6 @@
 use libc::STDIN_FILENO;
 use libc::STDOUT_FILENO;
 use meaning::Answer;
-use requests::Request;
 ghost use mathlib.Core.Path.{_≡_};
 ghost use Prim.Native.Nat.{_≤_};
 ghost use lib.ListN.{length};
@@ -12,8 +11,15 @@ ghost use Rattle.plan.specs.Replies.{JobReplied, Replied, linesRoom};
 // How many bytes a job may have.
 const MOST_INPUT: usize = 16_384;
 
+// How many cells, words and picks are lent.
+const CELLS: usize = 8_192;
+
+const WORDS: usize = 1_024;
+
+const PICKS: usize = 1_024;
+
 // How many bytes the lines of an answer need: 128, and 21 for each pick that is lent.
-const LINES_ROOM: usize = 21_632;
+const LINES_ROOM: usize = 128 + 21 * PICKS;
 
 // How many picks an answer to a job of n labels has written: one a label where its kind has picks, none with a refusal.
 fn picks_written(answer: Answer, n: usize) -> usize
@@ -30,34 +36,18 @@ fn picks_written(answer: Answer, n: usize) -> usize
     }
 }
 
-// Makes the lines that answer job bytes, and gives how long they are. What the bytes are read as gives the kind and the number of labels,
-// which an answer hasn't got.
+// Makes the lines that answer job bytes, and gives how long they are.
 fn reply_to_job(job: &[u8], out: &mut [u8]) -> usize
     requires { ⌜ linesRoom ≤ length (now out) ⌝ }
     ensures { λ r. ⌜ JobReplied (now (job .entry)) (now (out .entry)) (now (out .exit)) r ⌝ }
 {
-    let mut cells = [0u32; 8_192];
-    let mut words = [0u64; 1_024];
-    let mut picks = [0u32; 1_024];
-    let answer = planner::solve_bytes(job, &mut cells, &mut words, &mut picks);
-    let none: [u32; 0] = [];
-    let request = requests::read_job(job);
-    let Request::Parts {
-        kind,
-        budget: _,
-        weights,
-        weights_end,
-        values: _,
-        values_end: _,
-        copies: _,
-        copies_end: _,
-    } = request
-    else {
-        return print::text(0, answer, &none, out);
-    };
-    let n = numbers::list_length(&none, &job[weights..weights_end]);
-    let written = picks_written(answer, n);
-    print::text(kind, answer, &picks[..written], out)
+    let mut cells = [0u32; CELLS];
+    let mut words = [0u64; WORDS];
+    let mut picks = [0u32; PICKS];
+    let told = planner::solve_told(job, &mut cells, &mut words, &mut picks);
+    let answer = told.answer;
+    let written = picks_written(answer, told.labels);
+    print::text(told.kind, answer, &picks[..written], out)
 }
 
 // Makes the lines that answer the input, and gives how long they are. Longer input is refused before anything of it is read as a job.

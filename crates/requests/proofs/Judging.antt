@@ -7,7 +7,7 @@ use native.Mathlib.Nat.{zero-add}
 use native.Mathlib.Omega.{arith}
 use mathlib.Core.Bool.{Bool, true, false, not, _&&_}
 use mathlib.Core.List.{List, [], _∷_, _++_}
-use lib.Dec.{leb, ltb, eqb, leb·zero}
+use lib.Dec.{T, leb, ltb, eqb, leb·zero}
 use lib.ListN.{length, drop, drop-of-length-le, take}
 use lib.Seq.{drop-cons, take-all}
 use borrow.Author.Tests.{le-leb, lt-leb, lt-ltb, eq-eqb, ne-eqb}
@@ -58,11 +58,13 @@ module _ (low high : ℕ) where
   }
 
 -- the test by bounds that are these
-pub within-as : {low high least most : ℕ} {xs : List ℕ} {r : Bool} → low ≡ least → high ≡ most → EachWithin low high xs r → r ≡ eachWithin least most xs
+pub within-as : {low high least most : ℕ} {xs : List ℕ} {r : Bool} → low ≡ least → high ≡ most → EachWithin low high xs r
+    → r ≡ eachWithin least most xs
 within-as e f h = rw (← e, ← f) (h .within)
 
 -- ascending: one number passed, the rest to come
-pub ascends : (xs : List ℕ) (low i : ℕ) → i < length xs → low ≤ at xs i → ascendingFrom low (drop i xs) ≡ ascendingFrom (at xs i + 1) (drop (i + 1) xs)
+pub ascends : (xs : List ℕ) (low i : ℕ) → i < length xs → low ≤ at xs i
+    → ascendingFrom low (drop i xs) ≡ ascendingFrom (at xs i + 1) (drop (i + 1) xs)
 unfolding ascendingFrom
 ascends xs low i h up = simp (add-one, drop-cons xs i 0 h, le-leb low (at xs i) up)
 
@@ -84,7 +86,8 @@ both-fit a b x y x-needed y-needed e f g = simp (sym e, sym f, eq-eqb a x g)
 pub first-fails : (a b x x-needed y-needed : ℕ) → x ≡ x-needed → ¬ (a ≡ x) → eqb a x ≡ (eqb a x-needed && eqb b y-needed)
 first-fails a b x x-needed y-needed e g = simp (sym e, ne-eqb a x g)
 
-pub lists-as : (rules : Rules) (needs-sum : Bool) (j : Job) (n values copies : ℕ) → n ≡ labels j → values ≡ length (j .values) → copies ≡ length (j .copies)
+pub lists-as : (rules : Rules) (needs-sum : Bool) (j : Job) (n values copies : ℕ) → n ≡ labels j → values ≡ length (j .values)
+    → copies ≡ length (j .copies)
     → (eqb values (if (rules .valued) n 0) && eqb copies (if (rules .copied) n 0)) ≡ listsFit (rulesFrom rules needs-sum) j
 unfolding listsFit rulesFrom
 lists-as rules needs-sum j n values copies e f g = rw (e, f, g)
@@ -106,7 +109,8 @@ module _ (rules : Rules) (needs-sum : Bool) (j : Job) where
     unfolding numbersFit rulesFrom
     values-wrong wrong = simp (weights-right, wrong)
 
-    pub rest-copies : eachWithin (rules .floor) mostValue (j .values) ≡ true → eachWithin leastCopies mostCopies (j .copies) ≡ numbersFit (rulesFrom rules needs-sum) j
+    pub rest-copies : eachWithin (rules .floor) mostValue (j .values) ≡ true
+        → eachWithin leastCopies mostCopies (j .copies) ≡ numbersFit (rulesFrom rules needs-sum) j
     unfolding numbersFit rulesFrom
     rest-copies values-right = simp (weights-right, values-right)
 
@@ -138,7 +142,8 @@ abbrev first-of : Bool → Bool → Bool → ℕ → ℕ
 first-of lists bounds numbers later = if (not lists) 3 (if (not bounds) 4 (if (not numbers) 5 later))
 
 -- it isn't asked where one of them applies
-one-given : (lists bounds numbers : Bool) (later : ℕ) → ¬ (first-of lists bounds numbers 0 ≡ 0) → first-of lists bounds numbers later ≡ first-of lists bounds numbers 0
+one-given : (lists bounds numbers : Bool) (later : ℕ) → ¬ (first-of lists bounds numbers 0 ≡ 0)
+    → first-of lists bounds numbers later ≡ first-of lists bounds numbers 0
 unfolding if
 one-given false bounds numbers later h = refl
 one-given true false numbers later h = refl
@@ -160,3 +165,16 @@ none-given true true true later h = refl
 pub none-earlier : (r : meaning.Rules) (j : Job) (later : ℕ) → jobRefusal r j 0 ≡ 0 → jobRefusal r j later ≡ later
 unfolding jobRefusal
 none-earlier r j later h = none-given (listsFit r j) (boundsFit r j) (numbersFit r j) later h
+
+-- and may be any number where a bound isn't kept
+any-later : (lists bounds numbers : Bool) (later other : ℕ) → (T bounds → later ≡ other)
+    → first-of lists bounds numbers later ≡ first-of lists bounds numbers other
+unfolding if
+any-later false bounds numbers later other h = refl
+any-later true false numbers later other h = refl
+any-later true true false later other h = refl
+any-later true true true later other h = h tt
+
+pub later-within : (r : meaning.Rules) (j : Job) (later other : ℕ) → (T (boundsFit r j) → later ≡ other) → jobRefusal r j later ≡ jobRefusal r j other
+unfolding jobRefusal
+later-within r j later other h = any-later (listsFit r j) (boundsFit r j) (numbersFit r j) later other h

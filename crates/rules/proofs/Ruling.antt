@@ -19,7 +19,8 @@ pub data Floor (kind floor : ℕ) : Type 0 where
   none-else : ¬ (kind ≡ 3) → floor ≡ 0 → Floor kind floor
 
 pub knapsack-as : (k : Knapsack) (kind floor : ℕ) → kind ≡ numberOf (packing k) → Floor kind floor
-    → rulesFrom (record { valued = true; copied = eqb kind 2; labels = mostLabels; budget = mostBudget; weights = Positive; floor = floor }) false ≡ rulesOf (packing k)
+    → rulesFrom (record { valued = true; copied = eqb kind 2; labels = mostLabels; budget = mostBudget; weights = Positive; floor = floor }) false
+    ≡ rulesOf (packing k)
 unfolding rulesFrom ruleFrom rulesOf knapsackRules numberOf hasCopies leastValue
 knapsack-as once kind floor e (one-for-3 a b) = absurd (omega arith)
 knapsack-as once kind floor e (none-else a b) = rw (e, b)

@@ -29,7 +29,9 @@ array-share-prefix-out : tie.Need-array-share-prefix-out
 array-share-prefix-out c = replied-within (c .before .reply .ensures)
 
 slice-aggregate-write-all : tie.Need-slice-aggregate-write-all
-slice-aggregate-write-all c = sym (length-take-le (c .before .before .reply .result) (c .before .before .reply .last .1 .0) (replied-within (c .before .before .reply .ensures)))
+slice-aggregate-write-all c =
+    let r = c .before .before .reply in
+    sym (length-take-le (r .result) (r .last .1 .0) (replied-within (r .ensures)))
 
 write-all-requires : tie.Need-write-all-requires
 write-all-requires c κs = search needs

@@ -16,10 +16,20 @@ use Rattle.planner.proofs.decide.Tie as tie
 -- the job, and the slices
 module _ (s : tie.Start) where
   abbrev job : Job
-  job = jobFrom (s .args .kind) (s .args .budget ∷ []) (s .args .weights .now) (s .args .wbytes .now) (s .args .values .now) (s .args .vbytes .now) (s .args .copies .now) (s .args .cbytes .now)
+  job =
+      jobFrom (s .args .kind) (s .args .budget ∷ []) (s .args .weights .now) (s .args .wbytes .now)
+      (s .args .values .now) (s .args .vbytes .now) (s .args .copies .now) (s .args .cbytes .now)
 
   abbrev lent : Lent
   lent = lentOf (s .args .cells .now) (s .args .words .now) (s .args .picks .now)
+
+-- the function's entry, from where the kind decides
+abbrev entry : tie.After-slice-known3 → tie.Start
+entry c = c .before .before .before .before .before .before .before .before .before
+
+-- where it decided for kinds 1 to 3, from their end
+abbrev packed : tie.After-slice-known7 → tie.After-pack
+packed c = c .before .before .before .before
 
 reach-requires : tie.Need-reach-requires
 reach-requires c κs = search needs
@@ -39,9 +49,11 @@ same-length c = search needs
 returns : tie.Need-returns
 unfolding SolvedInWords
 returns c =
-    let s = c .before .before .before .before .before .before .before .before .before .before .before .before .before .before in
-    let four : s .args .kind ≡ 4 = c .before .before .before .before .match .keys1 in
-    rw four (c .before .before .reach .ensures (s .args .cells .now) (s .args .picks .now))
+    let reached = c .before .before in
+    let arm = reached .before .before in
+    let s = entry (arm .before) in
+    let four : s .args .kind ≡ 4 = arm .match .keys1 in
+    rw four (reached .reach .ensures (s .args .cells .now) (s .args .picks .now))
 
 same-length-2 : tie.Need-same-length-2
 same-length-2 c = search needs
@@ -49,9 +61,11 @@ same-length-2 c = search needs
 returns-2 : tie.Need-returns-2
 unfolding SolvedInPicks
 returns-2 c =
-    let s = c .before .before .before .before .before .before .before .before .before .before .before .before .before .before in
-    let seven : s .args .kind ≡ 7 = c .before .before .before .before .match .keys2 in
-    rw seven (c .before .before .share .ensures (s .args .cells .now) (s .args .words .now))
+    let shared = c .before .before in
+    let arm = shared .before .before in
+    let s = entry (arm .before) in
+    let seven : s .args .kind ≡ 7 = arm .match .keys2 in
+    rw seven (shared .share .ensures (s .args .cells .now) (s .args .words .now))
 
 same-length-3 : tie.Need-same-length-3
 same-length-3 c = search needs
@@ -61,7 +75,9 @@ same-length-4 c = search needs
 
 returns-3 : tie.Need-returns-3
 unfolding SolvedInCells
-returns-3 c = let s = c .before .before .before .before .before .before .before .before .before .before .before .before .before .before .before .before .before .before .before in c .before .before .before .before .pack .ensures (s .args .words .now)
+returns-3 c =
+    let else1 = packed c .before .before .before .before in
+    packed c .pack .ensures (entry (else1 .before .before) .args .words .now)
 
 same-length-5 : tie.Need-same-length-5
 same-length-5 c = search needs
@@ -78,15 +94,15 @@ returns-4 c = search needs
 returns-5 : tie.Need-returns-5
 unfolding jobOf
 returns-5 c =
-    let s = c .before .before .before .before .before .before .before .before .before .before .before in
+    let s = entry (c .before .before) in
     solved-no-kind (job s) (lent s) (no-kind (s .args .kind) (inl (omega arith)))
 
 returns-6 : tie.Need-returns-6
 unfolding jobOf allKinds
 returns-6 c =
-    let s = c .before .before .before .before .before .before .before .before .before .before .before .before .before in
-    let other = c .before .before .before .match .rest .1 in
-    solved-no-kind (job s) (lent s) (no-kind (s .args .kind) (inr (omega (arith, other))))
+    let rest = c .before .before .before in
+    let s = entry (rest .before) in
+    solved-no-kind (job s) (lent s) (no-kind (s .args .kind) (inr (omega (arith, rest .match .rest .1))))
 
 pub decide-spec : {M : Type 1} → statement M
 decide-spec =

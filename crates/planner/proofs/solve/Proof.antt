@@ -2,12 +2,26 @@
 -- Assumes nothing.
 use mathlib.Core.Path.{subst}
 use Rattle.meaning.specs.Job.{Job}
-use Rattle.meaning.specs.Lent.{lentOf}
+use Rattle.meaning.specs.Lent.{Lent, lentOf}
 use Rattle.meaning.specs.Solved.{Solved}
 use Rattle.numbers.proofs.TwoSlices.{job-of-lists}
 use borrow.Author.Needs.{needs}
 use Rattle.planner.proofs.solve.Statement.{statement}
 use Rattle.planner.proofs.solve.Tie as tie
+
+-- the function's entry, from where the kind decided
+abbrev entry : tie.After-decide → tie.Start
+entry c = c .before .before .before .before .before .before .before .before .before .before .before .before .before
+
+-- where it decided, from the end
+abbrev decided : tie.After-slice-known6 → tie.After-decide
+decided c = c .before .before .before .before .before .before
+
+-- what the slices hold then
+abbrev left : tie.After-decide → Lent
+left c =
+    let slices = c .decide .last .1 .1 .1 .1 .1 .1 .1 .1 in
+    lentOf (slices .0) (slices .1 .0) (slices .1 .1 .0)
 
 slice-aggregate-decide : tie.Need-slice-aggregate-decide
 slice-aggregate-decide c = search needs
@@ -32,9 +46,10 @@ same-length-3 c = search needs
 
 returns : tie.Need-returns
 returns c =
-    let d = c .before .before .before .before .before .before .decide in
-    let a = c .before .before .before .before .before .before .before .before .before .before .before .before .before .before .before .before .before .before .before .args in
-    subst (λ (j : Job). Solved j (lentOf (a .cells .now) (a .words .now) (a .picks .now)) (d .result) (lentOf (d .last .1 .1 .1 .1 .1 .1 .1 .1 .0) (d .last .1 .1 .1 .1 .1 .1 .1 .1 .1 .0) (d .last .1 .1 .1 .1 .1 .1 .1 .1 .1 .1 .0))) (job-of-lists (a .kind) (a .budget) (a .weights .now) (a .values .now) (a .copies .now)) (d .ensures)
+    let d = decided c in
+    let a = entry d .args in
+    subst (λ (j : Job). Solved j (lentOf (a .cells .now) (a .words .now) (a .picks .now)) (d .decide .result) (left d))
+    (job-of-lists (a .kind) (a .budget) (a .weights .now) (a .values .now) (a .copies .now)) (d .decide .ensures)
 
 pub solve-spec : {M : Type 1} → statement M
 solve-spec =

@@ -18,6 +18,10 @@ Inv-loop numbers bytes n least₀ i₀ least i = ascendingFrom 1 (listFrom numbe
 abbrev μ-loop : tie.MeasureT-loop
 μ-loop numbers bytes n least₀ i₀ least i = n - i
 
+-- the function's entry, from the loop's head
+abbrev entry : tie.At-loop Inv-loop μ-loop → tie.Start Inv-loop μ-loop
+entry c = c .before .before .before .before
+
 -- the list
 abbrev list : tie.Start Inv-loop μ-loop → List ℕ
 list s = listFrom (s .args .numbers .now) (s .args .bytes .now)
@@ -29,7 +33,7 @@ loop-holds : tie.Need-loop-holds Inv-loop μ-loop
 loop-holds c = refl
 
 -- a turn reads a number of the list
-inside : (c : tie.In-loop Inv-loop μ-loop) → c .before .loop .i < length (list (c .before .before .before .before .before))
+inside : (c : tie.In-loop Inv-loop μ-loop) → c .before .loop .i < length (list (entry (c .before)))
 inside c = omega (arith, c .before .before .list-length .ensures)
 
 item-requires : tie.Need-item-requires Inv-loop μ-loop
@@ -61,7 +65,7 @@ loop-again c =
 returns-2 : tie.Need-returns-2 Inv-loop μ-loop
 returns-2 c =
     let l = c .before .loop in
-    sym (l .inv ∙ all-ascend (list (c .before .before .before .before .before)) (l .least) (l .i) (omega (arith, c .before .before .list-length .ensures)))
+    sym (l .inv ∙ all-ascend (list (entry (c .before))) (l .least) (l .i) (omega (arith, c .before .before .list-length .ensures)))
 
 pub ascending-spec : {M : Type 1} → statement M
 ascending-spec =

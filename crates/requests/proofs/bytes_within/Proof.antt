@@ -33,7 +33,8 @@ loop-again : tie.Need-loop-again Inv-loop μ-loop
 loop-again c =
     let l = c .before .before .loop in
     let b = c .before .before .before .before .args .bytes .now in
-    rw (c .number-in .ensures) (one-tested _ _ (numbersIn b) (l .i) (l .within) (omega (arith, numbers-long b)) (omega (arith, c .number-in .ensures)) (l .inv))
+    rw (c .number-in .ensures)
+    (one-tested _ _ (numbersIn b) (l .i) (l .within) (omega (arith, numbers-long b)) (omega (arith, c .number-in .ensures)) (l .inv))
 
 returns : tie.Need-returns Inv-loop μ-loop
 returns c =

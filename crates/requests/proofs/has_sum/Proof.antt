@@ -10,7 +10,9 @@ each-within-requires : tie.Need-each-within-requires
 each-within-requires c κs = search needs
 
 returns : tie.Need-returns
-returns c = rw (c .each-within .ensures .within) (not-all-0 (listFrom (c .before .before .before .args .numbers .now) (c .before .before .before .args .bytes .now)))
+returns c =
+    let s = c .before .before .before in
+    rw (c .each-within .ensures .within) (not-all-0 (listFrom (s .args .numbers .now) (s .args .bytes .now)))
 
 pub has-sum-spec : {M : Type 1} → statement M
 has-sum-spec = tie.close (tie.spec each-within-requires returns)

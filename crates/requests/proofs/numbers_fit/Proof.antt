@@ -17,11 +17,20 @@ use Rattle.requests.proofs.numbers_fit.Tie as tie
 
 -- the job, of any kind and budget
 abbrev job : ℕ → ℕ → tie.Start → Job
-job kind budget s = jobFrom kind (budget ∷ []) (s .args .weights .now) (s .args .wbytes .now) (s .args .values .now) (s .args .vbytes .now) (s .args .copies .now) (s .args .cbytes .now)
+job kind budget s =
+    let a = s .args in
+    jobFrom kind (budget ∷ []) (a .weights .now) (a .wbytes .now) (a .values .now) (a .vbytes .now) (a .copies .now) (a .cbytes .now)
 
--- its weights keep their rule
-kept : (c : tie.Else1) → let s = c .before .before .before .before .before .before .before .before in
-    ruleFrom (s .args .rules .weights) (listFrom (s .args .weights .now) (s .args .wbytes .now)) ≡ true
+-- the function's entry, from where the weights were tested
+abbrev entry : tie.After-keeps → tie.Start
+entry c = c .before .before .before .before .before .before .before
+
+-- and where their rule was kept, from where the values were tested
+abbrev right-weights : tie.After-each-within → tie.Else1
+right-weights c = c .before .before
+
+-- the weights keep their rule
+kept : (c : tie.Else1) → let a = entry (c .before) .args in ruleFrom (a .rules .weights) (listFrom (a .weights .now) (a .wbytes .now)) ≡ true
 kept c = sym (c .before .keeps .ensures) ∙ not-false _ (c .if1 .left)
 
 keeps-requires : tie.Need-keeps-requires
@@ -30,7 +39,7 @@ keeps-requires c κs = search needs
 returns : tie.Need-returns
 unfolding jobOf
 returns c kind budget needs-sum =
-    let s = c .before .before .before .before .before .before .before .before in
+    let s = entry (c .before) in
     weights-wrong (s .args .rules) needs-sum (job kind budget s) (sym (c .before .keeps .ensures) ∙ not-true _ (c .if1 .taken))
 
 value-bounds-requires : tie.Need-value-bounds-requires
@@ -40,15 +49,16 @@ each-within-requires : tie.Need-each-within-requires
 each-within-requires c κs = search needs
 
 -- what the test of its values comes to
-valued : (c : tie.After-each-within) → let s = c .before .before .before .before .before .before .before .before .before .before in
-    c .each-within .result ≡ eachWithin (s .args .rules .floor) mostValue (listFrom (s .args .values .now) (s .args .vbytes .now))
+valued : (c : tie.After-each-within) → let a = entry (right-weights c .before) .args in
+    c .each-within .result ≡ eachWithin (a .rules .floor) mostValue (listFrom (a .values .now) (a .vbytes .now))
 valued c = within-as (c .before .value-bounds .ensures .0) (c .before .value-bounds .ensures .1) (c .each-within .ensures)
 
 returns-2 : tie.Need-returns-2
 unfolding jobOf
 returns-2 c kind budget needs-sum =
-    let s = c .before .before .before .before .before .before .before .before .before .before .before in
-    values-wrong (s .args .rules) needs-sum (job kind budget s) (kept (c .before .before .before)) (sym (valued (c .before)) ∙ not-true _ (c .if2 .taken))
+    let weighed = right-weights (c .before) in
+    let s = entry (weighed .before) in
+    values-wrong (s .args .rules) needs-sum (job kind budget s) (kept weighed) (sym (valued (c .before)) ∙ not-true _ (c .if2 .taken))
 
 copies-bounds-requires : tie.Need-copies-bounds-requires
 copies-bounds-requires c κs = search needs
@@ -59,10 +69,12 @@ each-within-requires-2 c κs = search needs
 returns-3 : tie.Need-returns-3
 unfolding jobOf
 returns-3 c kind budget needs-sum =
-    let s = c .before .before .before .before .before .before .before .before .before .before .before .before .before in
-    within-as (c .before .copies-bounds .ensures .0) (c .before .copies-bounds .ensures .1) (c .each-within2 .ensures)
-    ∙ rest-copies (s .args .rules) needs-sum (job kind budget s) (kept (c .before .before .before .before .before))
-    (sym (valued (c .before .before .before)) ∙ not-false _ (c .before .before .if2 .left))
+    let bounds = c .before in
+    let passed = bounds .before in
+    let weighed = right-weights (passed .before) in
+    let s = entry (weighed .before) in
+    within-as (bounds .copies-bounds .ensures .0) (bounds .copies-bounds .ensures .1) (c .each-within2 .ensures)
+    ∙ rest-copies (s .args .rules) needs-sum (job kind budget s) (kept weighed) (sym (valued (passed .before)) ∙ not-false _ (passed .if2 .left))
 
 pub numbers-fit-spec : {M : Type 1} → statement M
 numbers-fit-spec =
