@@ -1,6 +1,6 @@
 -- Job bytes, read section by section: what is known where reading breaks, and where it comes to the end.
 -- Assumes nothing.
-use mathlib.Core.Path.{_≡_, ap, _∙_}
+use mathlib.Core.Path.{_≡_, sym, ap, _∙_}
 use Prim.Native.Nat.{ℕ, _+_, _≤_, _<_}
 use native.Mathlib.Omega.{arith}
 use mathlib.Core.List.{List}
@@ -16,20 +16,33 @@ use Rattle.meaning.specs.Job.{jobOf}
 use Rattle.meaning.specs.Bytes.{JobRead, atEnd, between, isNeeded, numberAt, numbersIn, readJob, readSection, readable, unreadable, withSection}
 use Rattle.meaning.proofs.Numbers.{between-long, between-number, numbers-at, goes-on, numbers-long, section-found, stops}
 use Rattle.numbers.specs.TwoSlices.{listFrom}
+use Rattle.requests.specs.declared.Parts.{Parts}
 use Rattle.requests.specs.declared.Request.{Request}
-use Rattle.requests.specs.declared.Request.the-variants.{Parts, Broken}
-use Rattle.requests.specs.Reading.{PartsRead, ReadAs, Within, brokenOf}
+use Rattle.requests.specs.declared.Request.the-variants.{Read, Broken}
+use Rattle.requests.specs.Reading.{PartsOf, ReadAs, Within, brokenOf, bytesAt}
 
 -- ---- one section
 
--- the break of a section is the job's
-pub read-broken : (b : List ℕ) (found : Section) (place : ℕ) (r : Request) → found ≡ Finds.Broken place → readJob b ≡ unreadable place → r ≡ brokenOf found → ReadAs b r
+-- where a section stands, as a match on it hands it over: its first number, its count, and the place after it
+abbrev pub SectionNumbers : Type 0
+SectionNumbers = ℕ × (ℕ × (ℕ × Unit))
+
+-- the section at place p is whole, and stands there
+abbrev pub Whole : Needed → List ℕ → ℕ → SectionNumbers → Type 0
+Whole needed b p s = readSection needed b p ≡ Finds.Part (s .0) (s .1 .0) (s .1 .1 .0)
+
+-- where the section that was read breaks, the job does
+pub breaks : (b : List ℕ) {section found : Section} {place : ℕ} {r : Request} → found ≡ section → found ≡ Finds.Broken place
+    → (section ≡ Finds.Broken place → readJob b ≡ unreadable place) → r ≡ brokenOf found → ReadAs b r
 unfolding ReadAs brokenOf
-read-broken b found place r e f g = rw (g, e) f
+breaks b e f broke g = rw (g, f) (broke (sym e ∙ f))
 
 -- the part of a section
-pub within : (needed : Needed) (b : List ℕ) (p start count next : ℕ) → readSection needed b p ≡ Finds.Part start count next → Within b start next
-within needed b p start count next e = let f = section-found needed b p start count next e in record { ordered = omega (arith, f .ends); inside = f .inside }
+within : (needed : Needed) (b : List ℕ) (p start count next : ℕ) → readSection needed b p ≡ Finds.Part start count next
+    → Within b (record { start = start; end = next })
+within needed b p start count next e =
+    let f = section-found needed b p start count next e in
+    record { ordered = omega (arith, f .ends); inside = f .inside }
 
 -- a section of one number has it at its start
 pub one-inside : (b : List ℕ) (p start count next : ℕ) → readSection (Exactly 1) b p ≡ Finds.Part start count next → start + 4 ≤ length b
@@ -72,7 +85,7 @@ module _ (b : List ℕ) where
   unfolding readJob
   broken-1 place e = stops b _ unreadable after-kinds place e
 
-  module _ (kind n₁ p₁ : ℕ) (e₁ : readSection (Exactly 1) b 0 ≡ Finds.Part kind n₁ p₁) where
+  module _ {kind n₁ p₁ : ℕ} (e₁ : readSection (Exactly 1) b 0 ≡ Finds.Part kind n₁ p₁) where
     abbrev kinds : List ℕ
     kinds = numbersIn (between b kind p₁)
 
@@ -83,7 +96,7 @@ module _ (b : List ℕ) where
     pub broken-2 : (place : ℕ) → readSection (Exactly 1) b p₁ ≡ Finds.Broken place → readJob b ≡ unreadable place
     broken-2 place e = so-far-1 ∙ stops b _ unreadable (after-budgets (at kinds 0)) place e
 
-    module _ (budget n₂ p₂ : ℕ) (e₂ : readSection (Exactly 1) b p₁ ≡ Finds.Part budget n₂ p₂) where
+    module _ {budget n₂ p₂ : ℕ} (e₂ : readSection (Exactly 1) b p₁ ≡ Finds.Part budget n₂ p₂) where
       abbrev budgets : List ℕ
       budgets = numbersIn (between b budget p₂)
 
@@ -93,24 +106,25 @@ module _ (b : List ℕ) where
       pub broken-3 : (place : ℕ) → readSection Any b p₂ ≡ Finds.Broken place → readJob b ≡ unreadable place
       broken-3 place e = so-far-2 ∙ stops b _ unreadable (after-weights (at kinds 0) budgets) place e
 
-      module _ (weights n₃ p₃ : ℕ) (e₃ : readSection Any b p₂ ≡ Finds.Part weights n₃ p₃) where
+      module _ {weights n₃ p₃ : ℕ} (e₃ : readSection Any b p₂ ≡ Finds.Part weights n₃ p₃) where
         so-far-3 : readJob b ≡ after-weights (at kinds 0) budgets (numbersIn (between b weights p₃)) p₃
         so-far-3 = so-far-2 ∙ goes-on b _ unreadable (after-weights (at kinds 0) budgets) weights n₃ p₃ e₃
 
         pub broken-4 : (place : ℕ) → readSection Any b p₃ ≡ Finds.Broken place → readJob b ≡ unreadable place
         broken-4 place e = so-far-3 ∙ stops b _ unreadable (after-values (at kinds 0) budgets (numbersIn (between b weights p₃))) place e
 
-        module _ (values n₄ p₄ : ℕ) (e₄ : readSection Any b p₃ ≡ Finds.Part values n₄ p₄) where
+        module _ {values n₄ p₄ : ℕ} (e₄ : readSection Any b p₃ ≡ Finds.Part values n₄ p₄) where
           abbrev next : List ℕ → ℕ → JobRead
           next = after-copies (at kinds 0) budgets (numbersIn (between b weights p₃)) (numbersIn (between b values p₄))
 
           so-far-4 : readJob b ≡ withSection b (readSection Any b p₄) unreadable next
-          so-far-4 = so-far-3 ∙ goes-on b _ unreadable (after-values (at kinds 0) budgets (numbersIn (between b weights p₃))) values n₄ p₄ e₄
+          so-far-4 =
+              so-far-3 ∙ goes-on b _ unreadable (after-values (at kinds 0) budgets (numbersIn (between b weights p₃))) values n₄ p₄ e₄
 
           pub broken-5 : (place : ℕ) → readSection Any b p₄ ≡ Finds.Broken place → readJob b ≡ unreadable place
           broken-5 place e = so-far-4 ∙ stops b _ unreadable next place e
 
-          module _ (copies n₅ p₅ : ℕ) (e₅ : readSection Any b p₄ ≡ Finds.Part copies n₅ p₅) where
+          module _ {copies n₅ p₅ : ℕ} (e₅ : readSection Any b p₄ ≡ Finds.Part copies n₅ p₅) where
             so-far-5 : readJob b ≡ next (numbersIn (between b copies p₅)) p₅
             so-far-5 = so-far-4 ∙ goes-on b _ unreadable next copies n₅ p₅ e₅
 
@@ -120,10 +134,17 @@ module _ (b : List ℕ) where
             left-over h = so-far-5 ∙ simp (lt-ltb p₅ (length b) h)
 
             -- all is read
-            pub parts-read : length b ≤ p₅ → PartsRead b (numberAt b kind) (numberAt b budget) weights p₃ values p₄ copies p₅
-            unfolding atEnd if jobOf listFrom
-            parts-read h = record {
-              read = so-far-5 ∙ simp (le-ltb p₅ (length b) h, one-number b 0 kind n₁ p₁ e₁, one-number b p₁ budget n₂ p₂ e₂);
+            pub parts-read : {k c : ℕ} → k ≡ numberAt b kind → c ≡ numberAt b budget → length b ≤ p₅
+                → PartsOf b (record {
+                  kind = k;
+                  budget = c;
+                  weights = record { start = weights; end = p₃ };
+                  values = record { start = values; end = p₄ };
+                  copies = record { start = copies; end = p₅ };
+                })
+            unfolding atEnd if jobOf listFrom bytesAt
+            parts-read e f h = record {
+              read = so-far-5 ∙ simp (e, f, le-ltb p₅ (length b) h, one-number b 0 kind n₁ p₁ e₁, one-number b p₁ budget n₂ p₂ e₂);
               weights-within = within Any b p₂ weights n₃ p₃ e₃;
               values-within = within Any b p₃ values n₄ p₄ e₄;
               copies-within = within Any b p₄ copies n₅ p₅ e₅;
@@ -131,21 +152,10 @@ module _ (b : List ℕ) where
 
 -- ---- what was read, for those who took its case
 
-pub unread : (b : List ℕ) {r : Request} (place : ℕ) → r ≡ Broken place → ReadAs b r → readJob b ≡ unreadable place
+pub unread : (b : List ℕ) {r : Request} {place : ℕ} → r ≡ Broken place → ReadAs b r → readJob b ≡ unreadable place
 unfolding ReadAs
-unread b place e h = rw e at h
+unread b e h = rw e at h
 
--- the numbers of a request that was read, as a match on it hands them over
-abbrev pub RequestNumbers : Type 0
-RequestNumbers = ℕ × (ℕ × (ℕ × (ℕ × (ℕ × (ℕ × (ℕ × (ℕ × Unit)))))))
-
-module _ (b : List ℕ) (p : RequestNumbers) where
-  -- the bytes are those of the job that they tell
-  abbrev pub PartsIn : Type 0
-  PartsIn = PartsRead b (p .0) (p .1 .0) (p .1 .1 .0) (p .1 .1 .1 .0) (p .1 .1 .1 .1 .0) (p .1 .1 .1 .1 .1 .0) (p .1 .1 .1 .1 .1 .1 .0) (p .1 .1 .1 .1 .1 .1 .1 .0)
-
-  pub read-in : {r : Request}
-      → r ≡ Parts (p .0) (p .1 .0) (p .1 .1 .0) (p .1 .1 .1 .0) (p .1 .1 .1 .1 .0) (p .1 .1 .1 .1 .1 .0) (p .1 .1 .1 .1 .1 .1 .0) (p .1 .1 .1 .1 .1 .1 .1 .0)
-      → ReadAs b r → PartsIn
-  unfolding ReadAs
-  read-in e h = rw e at h
+pub read-in : (b : List ℕ) {r : Request} {parts : Parts} → r ≡ Read parts → ReadAs b r → PartsOf b parts
+unfolding ReadAs
+read-in b e h = rw e at h

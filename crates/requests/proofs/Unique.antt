@@ -4,14 +4,14 @@ use Prim.Native.Nat.{ℕ}
 use mathlib.Core.Path.{_≡_, sym, _∙_}
 use mathlib.Core.Bool.{Bool, false}
 use mathlib.Core.List.{List, [], _∷_}
-use Rattle.meaning.specs.Bytes.{JobRead, between, readJob, readable, unreadable}
+use Rattle.meaning.specs.Bytes.{JobRead, readJob, readable, unreadable}
 use Rattle.meaning.specs.Refusals.{jobRefusal}
 use Rattle.numbers.specs.TwoSlices.{jobFrom}
 use Rattle.rules.specs.declared.Rules.{Rules}
 use Rattle.rules.specs.Ruling.{rulesFrom}
 use Rattle.requests.specs.declared.Request.{Request}
-use Rattle.requests.specs.declared.Request.the-variants.{Parts, Broken}
-use Rattle.requests.specs.Reading.{ReadAs}
+use Rattle.requests.specs.declared.Request.the-variants.{Read, Broken}
+use Rattle.requests.specs.Reading.{ReadAs, jobAt}
 
 -- `job_refusal`
 pub job-refusal-unique : (rules : Rules) (budget : ℕ) (weights wbytes values vbytes copies cbytes : List ℕ) (r r′ : ℕ)
@@ -23,13 +23,12 @@ job-refusal-unique rules budget weights wbytes values vbytes copies cbytes r r�
 
 -- the job in these parts of the bytes, or where reading broke
 unfoldable pub toldBy : List ℕ → Request → JobRead
-toldBy b (Parts kind budget weights weights-end values values-end copies copies-end) =
-    readable (jobFrom kind (budget ∷ []) [] (between b weights weights-end) [] (between b values values-end) [] (between b copies copies-end))
+toldBy b (Read parts) = readable (jobAt b parts)
 toldBy b (Broken place) = unreadable place
 
 told : (b : List ℕ) (r : Request) → ReadAs b r → readJob b ≡ toldBy b r
 unfolding ReadAs toldBy
-told b (Parts kind budget weights weights-end values values-end copies copies-end) parts = parts .read
+told b (Read parts) h = h .read
 told b (Broken place) broken = broken
 
 -- both tell of one job, or of one place where reading broke

@@ -15,24 +15,29 @@ ghost use Rattle.meaning.specs.Bytes.{numbersIn};
 ghost use Rattle.meaning.specs.Refusals.{ascendingFrom, numbersFit, jobRefusal};
 ghost use Rattle.numbers.specs.TwoSlices.{listFrom, jobFrom};
 ghost use Rattle.rules.specs.Ruling.{rulesFrom, ruleFrom};
-ghost use Rattle.requests.specs.Reading.{ReadAs, brokenOf};
+ghost use Rattle.requests.specs.Reading.{ReadAs, Within, brokenOf, bytesAt};
 ghost use Rattle.requests.specs.Judging.{EachWithin};
 
 // ---- refusal 1
 
-// What job bytes are read as: the kind, the budget, and from where to where the numbers of each list stand; or the place where
-// reading broke.
+// Where the numbers of a list stand in the job bytes: from a place up to another.
+pub struct Part {
+    pub start: usize,
+    pub end: usize,
+}
+
+// What job bytes that can be read tell: the kind, the budget, and where the numbers of each list stand.
+pub struct Parts {
+    pub kind: u32,
+    pub budget: u32,
+    pub weights: Part,
+    pub values: Part,
+    pub copies: Part,
+}
+
+// What job bytes are read as: their parts, or the place where reading broke.
 pub enum Request {
-    Parts {
-        kind: u32,
-        budget: u32,
-        weights: usize,
-        weights_end: usize,
-        values: usize,
-        values_end: usize,
-        copies: usize,
-        copies_end: usize,
-    },
+    Read(Parts),
     Broken(usize),
 }
 
@@ -73,16 +78,32 @@ pub fn read_job(job: &[u8]) -> Request
     if copies_end < job.len() {
         return Request::Broken(copies_end);
     }
-    Request::Parts {
+    Request::Read(Parts {
         kind: numbers::number_at(job, kind),
         budget: numbers::number_at(job, budget),
-        weights,
-        weights_end,
-        values,
-        values_end,
-        copies,
-        copies_end,
-    }
+        weights: Part {
+            start: weights,
+            end: weights_end,
+        },
+        values: Part {
+            start: values,
+            end: values_end,
+        },
+        copies: Part {
+            start: copies,
+            end: copies_end,
+        },
+    })
+}
+
+// The bytes of a list: a part of the job, and no copy of it.
+pub fn bytes_at(job: &[u8], part: Part) -> &[u8]
+    requires { ⌜ Within (now job) part ⌝ }
+    ensures { λ r. ⌜ now r ≡ bytesAt (now (job .entry)) part ⌝ }
+{
+    let start = part.start;
+    let end = part.end;
+    &job[start..end]
 }
 
 // ---- tests of a list's numbers

@@ -1,37 +1,55 @@
 -- `requests::read_job` meets its contract: each way out is one of the laws in proofs/Reading.
 -- Assumes nothing.
-use Rattle.requests.proofs.Reading.{read-broken, broken-1, broken-2, broken-3, broken-4, broken-5, left-over, parts-read, one-inside}
 use mathlib.Core.Path.{_≡_, sym, _∙_}
 use Prim.Native.Nat.{ℕ}
 use mathlib.Core.List.{List}
 use native.Mathlib.Omega.{arith}
 use Rattle.meaning.specs.declared.Needed.the-variants.{Any, Exactly}
-use Rattle.meaning.specs.declared.Section.the-variants.{Part}
-use Rattle.meaning.specs.Bytes.{readSection}
 use Rattle.requests.specs.Reading.{ReadAs}
+use Rattle.requests.proofs.Reading.{Whole, breaks, broken-1, broken-2, broken-3, broken-4, broken-5, left-over, parts-read, one-inside}
 use borrow.Author.Needs.{needs}
 use Rattle.requests.proofs.read_job.Statement.{statement}
 use Rattle.requests.proofs.read_job.Tie as tie
 
--- job bytes, as the function is handed them
-abbrev bytes : tie.Start → List ℕ
-bytes s = s .args .job .now
+-- ---- the contexts: after each section that was whole, the one before it
 
--- the sections that were found
-found-1 : (c : tie.After-first) → readSection (Exactly 1) (bytes (c .before .before .before .before)) 0 ≡ Part (c .first .given .0 .0) (c .first .given .0 .1 .0) (c .first .given .0 .1 .1 .0)
-found-1 c = sym (c .before .before .read-section .ensures) ∙ c .first .given .1
+abbrev entry : tie.After-first → tie.Start
+entry c = c .before .before .before .before
 
-found-2 : (c : tie.After-second) → readSection (Exactly 1) (bytes (c .before .before .before .before .before .before .before .before)) (c .before .before .before .before .first .given .0 .1 .1 .0) ≡ Part (c .second .given .0 .0) (c .second .given .0 .1 .0) (c .second .given .0 .1 .1 .0)
-found-2 c = sym (c .before .before .read-section2 .ensures) ∙ c .second .given .1
+abbrev first : tie.After-second → tie.After-first
+first c = c .before .before .before .before
 
-found-3 : (c : tie.After-third) → readSection Any (bytes (c .before .before .before .before .before .before .before .before .before .before .before .before)) (c .before .before .before .before .second .given .0 .1 .1 .0) ≡ Part (c .third .given .0 .0) (c .third .given .0 .1 .0) (c .third .given .0 .1 .1 .0)
-found-3 c = sym (c .before .before .read-section3 .ensures) ∙ c .third .given .1
+abbrev second : tie.After-third → tie.After-second
+second c = c .before .before .before .before
 
-found-4 : (c : tie.After-fourth) → readSection Any (bytes (c .before .before .before .before .before .before .before .before .before .before .before .before .before .before .before .before)) (c .before .before .before .before .third .given .0 .1 .1 .0) ≡ Part (c .fourth .given .0 .0) (c .fourth .given .0 .1 .0) (c .fourth .given .0 .1 .1 .0)
-found-4 c = sym (c .before .before .read-section4 .ensures) ∙ c .fourth .given .1
+abbrev third : tie.After-fourth → tie.After-third
+third c = c .before .before .before .before
 
-found-5 : (c : tie.After-fifth) → readSection Any (bytes (c .before .before .before .before .before .before .before .before .before .before .before .before .before .before .before .before .before .before .before .before)) (c .before .before .before .before .fourth .given .0 .1 .1 .0) ≡ Part (c .fifth .given .0 .0) (c .fifth .given .0 .1 .0) (c .fifth .given .0 .1 .1 .0)
-found-5 c = sym (c .before .before .read-section5 .ensures) ∙ c .fifth .given .1
+abbrev fourth : tie.After-fifth → tie.After-fourth
+fourth c = c .before .before .before .before
+
+-- the job bytes
+abbrev bytes : tie.After-first → List ℕ
+bytes c = entry c .args .job .now
+
+-- ---- the sections that were whole
+
+whole-1 : (c : tie.After-first) → Whole (Exactly 1) (bytes c) 0 (c .first .given .0)
+whole-1 c = sym (c .before .before .read-section .ensures) ∙ c .first .given .1
+
+whole-2 : (c : tie.After-second) → Whole (Exactly 1) (bytes (first c)) (first c .first .given .0 .1 .1 .0) (c .second .given .0)
+whole-2 c = sym (c .before .before .read-section2 .ensures) ∙ c .second .given .1
+
+whole-3 : (c : tie.After-third) → Whole Any (bytes (first (second c))) (second c .second .given .0 .1 .1 .0) (c .third .given .0)
+whole-3 c = sym (c .before .before .read-section3 .ensures) ∙ c .third .given .1
+
+whole-4 : (c : tie.After-fourth) → Whole Any (bytes (first (second (third c)))) (third c .third .given .0 .1 .1 .0) (c .fourth .given .0)
+whole-4 c = sym (c .before .before .read-section4 .ensures) ∙ c .fourth .given .1
+
+whole-5 : (c : tie.After-fifth) → Whole Any (bytes (first (second (third (fourth c))))) (fourth c .fourth .given .0 .1 .1 .0) (c .fifth .given .0)
+whole-5 c = sym (c .before .before .read-section5 .ensures) ∙ c .fifth .given .1
+
+-- ---- the needs
 
 read-section-requires : tie.Need-read-section-requires
 read-section-requires c κs = search needs
@@ -46,10 +64,7 @@ broken-requires : tie.Need-broken-requires
 broken-requires c κs = search needs
 
 returns : tie.Need-returns
-returns c =
-    let told = c .before .enum-told .given in
-    let found = c .before .before .before .read-section in
-    read-broken _ (found .result) (told .0 .0) (c .broken .result) (told .1) (broken-1 _ (told .0 .0) (sym (found .ensures) ∙ told .1)) (c .broken .ensures)
+returns c = breaks _ (c .before .before .before .read-section .ensures) (c .before .enum-told .given .1) (broken-1 _ _) (c .broken .ensures)
 
 read-section-requires-2 : tie.Need-read-section-requires-2
 read-section-requires-2 c κs = search needs
@@ -65,9 +80,10 @@ broken-requires-2 c κs = search needs
 
 returns-2 : tie.Need-returns-2
 returns-2 c =
-    let told = c .before .enum-told2 .given in
-    let found = c .before .before .before .read-section2 in
-    read-broken _ (found .result) (told .0 .0) (c .broken2 .result) (told .1) (broken-2 _ _ _ _ (found-1 (c .before .before .before .before .before)) (told .0 .0) (sym (found .ensures) ∙ told .1)) (c .broken2 .ensures)
+    let read = c .before .before .before in
+    let s = read .before .before in
+    breaks _ (read .read-section2 .ensures) (c .before .enum-told2 .given .1)
+    (broken-2 _ (whole-1 s) _) (c .broken2 .ensures)
 
 read-section-requires-3 : tie.Need-read-section-requires-3
 read-section-requires-3 c κs = search needs
@@ -83,9 +99,10 @@ broken-requires-3 c κs = search needs
 
 returns-3 : tie.Need-returns-3
 returns-3 c =
-    let told = c .before .enum-told3 .given in
-    let found = c .before .before .before .read-section3 in
-    read-broken _ (found .result) (told .0 .0) (c .broken3 .result) (told .1) (broken-3 _ _ _ _ (found-1 (c .before .before .before .before .before .before .before .before .before)) _ _ _ (found-2 (c .before .before .before .before .before)) (told .0 .0) (sym (found .ensures) ∙ told .1)) (c .broken3 .ensures)
+    let read = c .before .before .before in
+    let s = read .before .before in
+    breaks _ (read .read-section3 .ensures) (c .before .enum-told3 .given .1)
+    (broken-3 _ (whole-1 (first s)) (whole-2 s) _) (c .broken3 .ensures)
 
 read-section-requires-4 : tie.Need-read-section-requires-4
 read-section-requires-4 c κs = search needs
@@ -101,9 +118,10 @@ broken-requires-4 c κs = search needs
 
 returns-4 : tie.Need-returns-4
 returns-4 c =
-    let told = c .before .enum-told4 .given in
-    let found = c .before .before .before .read-section4 in
-    read-broken _ (found .result) (told .0 .0) (c .broken4 .result) (told .1) (broken-4 _ _ _ _ (found-1 (c .before .before .before .before .before .before .before .before .before .before .before .before .before)) _ _ _ (found-2 (c .before .before .before .before .before .before .before .before .before)) _ _ _ (found-3 (c .before .before .before .before .before)) (told .0 .0) (sym (found .ensures) ∙ told .1)) (c .broken4 .ensures)
+    let read = c .before .before .before in
+    let s = read .before .before in
+    breaks _ (read .read-section4 .ensures) (c .before .enum-told4 .given .1)
+    (broken-4 _ (whole-1 (first (second s))) (whole-2 (second s)) (whole-3 s) _) (c .broken4 .ensures)
 
 read-section-requires-5 : tie.Need-read-section-requires-5
 read-section-requires-5 c κs = search needs
@@ -119,23 +137,31 @@ broken-requires-5 c κs = search needs
 
 returns-5 : tie.Need-returns-5
 returns-5 c =
-    let told = c .before .enum-told5 .given in
-    let found = c .before .before .before .read-section5 in
-    read-broken _ (found .result) (told .0 .0) (c .broken5 .result) (told .1) (broken-5 _ _ _ _ (found-1 (c .before .before .before .before .before .before .before .before .before .before .before .before .before .before .before .before .before)) _ _ _ (found-2 (c .before .before .before .before .before .before .before .before .before .before .before .before .before)) _ _ _ (found-3 (c .before .before .before .before .before .before .before .before .before)) _ _ _ (found-4 (c .before .before .before .before .before)) (told .0 .0) (sym (found .ensures) ∙ told .1)) (c .broken5 .ensures)
+    let read = c .before .before .before in
+    let s = read .before .before in
+    breaks _ (read .read-section5 .ensures) (c .before .enum-told5 .given .1)
+    (broken-5 _ (whole-1 (first (second (third s)))) (whole-2 (second (third s))) (whole-3 (third s)) (whole-4 s) _) (c .broken5 .ensures)
 
 returns-6 : tie.Need-returns-6
 unfolding ReadAs
-returns-6 c = left-over _ _ _ _ (found-1 (c .before .before .before .before .before .before .before .before .before .before .before .before .before .before .before .before .before .before)) _ _ _ (found-2 (c .before .before .before .before .before .before .before .before .before .before .before .before .before .before)) _ _ _ (found-3 (c .before .before .before .before .before .before .before .before .before .before)) _ _ _ (found-4 (c .before .before .before .before .before .before)) _ _ _ (found-5 (c .before .before)) (omega arith)
+returns-6 c =
+    let s = c .before .before in
+    left-over _ (whole-1 (first (second (third (fourth s))))) (whole-2 (second (third (fourth s))))
+    (whole-3 (third (fourth s))) (whole-4 (fourth s)) (whole-5 s) (omega arith)
 
 number-at-requires : tie.Need-number-at-requires
-number-at-requires c κs = one-inside _ _ _ _ _ (found-1 (c .before .before .before .before .before .before .before .before .before .before .before .before .before .before .before .before .before .before))
+number-at-requires c κs = one-inside _ _ _ _ _ (whole-1 (first (second (third (fourth (c .before .before))))))
 
 number-at-requires-2 : tie.Need-number-at-requires-2
-number-at-requires-2 c κs = one-inside _ _ _ _ _ (found-2 (c .before .before .before .before .before .before .before .before .before .before .before .before .before .before .before))
+number-at-requires-2 c κs = one-inside _ _ _ _ _ (whole-2 (second (third (fourth (c .before .before .before)))))
 
 returns-7 : tie.Need-returns-7
 unfolding ReadAs
-returns-7 c = rw (c .before .number-at .ensures, c .number-at2 .ensures) (parts-read _ _ _ _ (found-1 (c .before .before .before .before .before .before .before .before .before .before .before .before .before .before .before .before .before .before .before .before)) _ _ _ (found-2 (c .before .before .before .before .before .before .before .before .before .before .before .before .before .before .before .before)) _ _ _ (found-3 (c .before .before .before .before .before .before .before .before .before .before .before .before)) _ _ _ (found-4 (c .before .before .before .before .before .before .before .before)) _ _ _ (found-5 (c .before .before .before .before)) (omega arith))
+returns-7 c =
+    let s = c .before .before .before .before in
+    parts-read _ (whole-1 (first (second (third (fourth s))))) (whole-2 (second (third (fourth s))))
+    (whole-3 (third (fourth s))) (whole-4 (fourth s)) (whole-5 s)
+    (c .before .number-at .ensures) (c .number-at2 .ensures) (omega arith)
 
 pub read-job-spec : {M : Type 1} → statement M
 read-job-spec =
