@@ -1,15 +1,11 @@
--- What refusals 2 to 5 come to for a job that a certificate may be for, and the cells that such a job needs.
+-- What refusals 2 to 5 come to for a job that a certificate may be for.
 -- Assumes nothing.
 use mathlib.Core.Path.{_≡_, refl, sym, ap, _∙_}
 use mathlib.Core.Option.{Option, none, some}
 use Prim.Native.Nat.{ℕ, zero, suc}
-use Rattle.meaning.specs.Job.{Job, Knapsack, once, packing, labels}
-use Rattle.meaning.specs.Lent as meaning
-use Rattle.meaning.specs.Lent.{roomFor, roomOf}
+use Rattle.meaning.specs.Job.{Job, Knapsack, once, packing}
 use Rattle.meaning.specs.Refusals.{jobRefusal, rulesOf}
-use Rattle.meaning.specs.Certificates.{certificateCells, certifiedAs, certifiedRefusal, certifiedKnapsack}
-use Rattle.rules.specs.declared.Room.{Room}
-use Rattle.rules.specs.Places.{NeededBy, roomFrom}
+use Rattle.meaning.specs.Certificates.{certifiedAs, certifiedRefusal, certifiedKnapsack}
 use Rattle.requests.proofs.Judging.{earlier-given, none-earlier}
 use Rattle.verdicts.proofs.Once.{once-knapsack, is-kind-1}
 
@@ -51,10 +47,3 @@ pub later-asked : (j : Job) → certifiedRefusal j 0 ≡ 0 → (later : ℕ) →
 later-asked j ok later =
     let one = is-kind-1 j ok in
     by-rules j later one ∙ none-earlier (rulesOf (packing once)) j later (sym (by-rules j 0 one) ∙ ok)
-
--- ---- the cells of a certificate
-
--- the room that kind 1 needs has as many
-pub cells-needed : (j : Job) (n : ℕ) (room : Room) → labels j ≡ n → NeededBy (packing once) n (j .budget) room → certificateCells j ≡ room .cells
-unfolding NeededBy roomFrom roomFor roomOf
-cells-needed j n room n-is needed = sym (ap (λ (r : meaning.Room). r .cells) (needed j n-is refl))
