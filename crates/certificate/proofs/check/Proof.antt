@@ -96,7 +96,7 @@ refused-with-requires-2 c κs = search needs
 returns-2 : tie.Need-returns-2
 returns-2 c =
     let refusal = c .before .before in
-    job-refused _ _ _ (job (lists refusal)) (cut (lists refusal)) _ (refusal .job-refusal .ensures) (c .before .if1 .taken) (c .refused-with2 .ensures)
+    job-refused _ _ _ _ (cut (lists refusal)) _ (refusal .job-refusal .ensures) (c .before .if1 .taken) (c .refused-with2 .ensures)
 
 judge-requires : tie.Need-judge-requires
 judge-requires c κs = once-ok _ _ _ _ _ (ok c)

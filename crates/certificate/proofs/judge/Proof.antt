@@ -111,7 +111,8 @@ module _ (c : tie.After-known-told2) where
 
   -- and nothing is left over
   all-judged : length (bytes start-cells) ≤ cells .1 .1 .0
-      → verdictOnCells (job start-cells) (numbers start-cells (picks before-cells)) (numbers start-cells cells) ≡ verdictOnCertificate (job start-cells) (bytes start-cells)
+      → verdictOnCells (job start-cells) (numbers start-cells (picks before-cells)) (numbers start-cells cells)
+      ≡ verdictOnCertificate (job start-cells) (bytes start-cells)
   all-judged at-end = all-read _ _ _ _ _ (picks-read before-cells) _ _ _ cells-read at-end
 
 knapsack-room-requires : tie.Need-knapsack-room-requires
