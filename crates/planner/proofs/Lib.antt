@@ -1,2 +1,3 @@
 -- Laws of this crate: from what a request was asked to what the planner promises.
-pub mod Judged
+pub mod LetIn
+pub mod Laying

@@ -2,16 +2,64 @@
 // decides, and from there to the crate of that kind.
 use meaning::Answer;
 use requests::Request;
+use rules::Room;
+use rules::Rules;
 ghost use mathlib.Core.List.{[], _∷_};
-ghost use Prim.Native.Nat.{_≤_};
+ghost use mathlib.Core.Path.{_≡_};
+ghost use mathlib.Core.Bool.{Bool};
+ghost use Prim.Native.Nat.{ℕ, _≤_};
+ghost use Rattle.meaning.specs.Lists.{if};
 ghost use Rattle.meaning.specs.Job.{jobOf};
 ghost use Rattle.meaning.specs.Lent.{lentOf};
+ghost use Rattle.meaning.specs.Refusals.{jobRefusal};
 ghost use Rattle.meaning.specs.Solved.{Solved, SolvedBytes};
 ghost use Rattle.meaning.specs.SolvedIn.{SolvedInCells, SolvedInWords, SolvedInPicks};
 ghost use Rattle.numbers.specs.TwoSlices.{jobFrom};
+ghost use Rattle.rules.specs.Ruling.{rulesFrom};
+ghost use Rattle.rules.specs.Places.{hasRoom};
 
 // Up to `decide`, a list comes as numbers and as a part of the job bytes (`listFrom`): weights and wbytes are the weights, values and vbytes the values, copies
 // and cbytes the copies.
+
+// The lowest of 3 to 6 that applies to a job of a kind with these rules that needs this room, where the lent slices have these lengths;
+// and 0 for none.
+fn refusal(
+    rules: Rules,
+    room: Room,
+    budget: u32,
+    weights: &[u32],
+    wbytes: &[u8],
+    values: &[u32],
+    vbytes: &[u8],
+    copies: &[u32],
+    cbytes: &[u8],
+    cells: usize,
+    words: usize,
+    picks: usize,
+) -> u32
+    ensures { λ r. ⌜ ((kind : ℕ) (needs-sum : Bool) → r ≡ jobRefusal (rulesFrom rules needs-sum) (jobFrom kind (budget ∷ []) (now (weights .entry)) (now (wbytes .entry)) (now (values .entry)) (now (vbytes .entry)) (now (copies .entry)) (now (cbytes .entry))) (if (hasRoom room cells words picks) 0 6)) ⌝ }
+{
+    let refused = requests::job_refusal(
+        rules,
+        budget,
+        weights,
+        wbytes,
+        values,
+        vbytes,
+        copies,
+        cbytes,
+    );
+    if refused != 0 {
+        return refused;
+    }
+    if rules::room_fits(room, cells, words, picks) {
+        0
+    } else {
+        6
+    }
+}
+
+// Each arm chooses its rules, its room and its door. A length of 0 stands for a slice that the kind doesn't need.
 
 // Kinds 1 to 3.
 fn pack(
@@ -29,9 +77,12 @@ fn pack(
     requires { ⌜ (1 ≤ kind) × (kind ≤ 3) ⌝ }
     ensures { λ r. ⌜ SolvedInCells (jobFrom kind (budget ∷ []) (now (weights .entry)) (now (wbytes .entry)) (now (values .entry)) (now (vbytes .entry)) (now (copies .entry)) (now (cbytes .entry))) (now (cells .entry)) (now (picks .entry)) r (now (cells .exit)) (now (picks .exit)) ⌝ }
 {
+    let n = numbers::list_length(weights, wbytes);
     let rules = rules::knapsack_rules(kind);
-    let refused = requests::job_refusal(
+    let room = rules::knapsack_room(kind, n, budget);
+    let refused = refusal(
         rules,
+        room,
         budget,
         weights,
         wbytes,
@@ -39,14 +90,12 @@ fn pack(
         vbytes,
         copies,
         cbytes,
+        cells.len(),
+        0,
+        picks.len(),
     );
     if refused != 0 {
         return Answer::Refused(refused);
-    }
-    let n = numbers::list_length(weights, wbytes);
-    let room = rules::knapsack_room(kind, n, budget);
-    if !rules::room_fits(room, cells.len(), 0, picks.len()) {
-        return Answer::Refused(6);
     }
     knapsack::solve(
         kind,
@@ -76,8 +125,10 @@ fn reach(
     ensures { λ r. ⌜ SolvedInWords (jobFrom 4 (budget ∷ []) (now (weights .entry)) (now (wbytes .entry)) (now (values .entry)) (now (vbytes .entry)) (now (copies .entry)) (now (cbytes .entry))) (now (words .entry)) r (now (words .exit)) ⌝ }
 {
     let rules = rules::sums_rules();
-    let refused = requests::job_refusal(
+    let room = rules::sums_room(budget);
+    let refused = refusal(
         rules,
+        room,
         budget,
         weights,
         wbytes,
@@ -85,13 +136,12 @@ fn reach(
         vbytes,
         copies,
         cbytes,
+        0,
+        words.len(),
+        0,
     );
     if refused != 0 {
         return Answer::Refused(refused);
-    }
-    let room = rules::sums_room(budget);
-    if !rules::room_fits(room, 0, words.len(), 0) {
-        return Answer::Refused(6);
     }
     sums::solve(budget, weights, wbytes, words)
 }
@@ -113,9 +163,12 @@ fn lay(
     requires { ⌜ (5 ≤ kind) × (kind ≤ 6) ⌝ }
     ensures { λ r. ⌜ Solved (jobFrom kind (budget ∷ []) (now (weights .entry)) (now (wbytes .entry)) (now (values .entry)) (now (vbytes .entry)) (now (copies .entry)) (now (cbytes .entry))) (lentOf (now (cells .entry)) (now (words .entry)) (now (picks .entry))) r (lentOf (now (cells .exit)) (now (words .exit)) (now (picks .exit))) ⌝ }
 {
+    let n = numbers::list_length(weights, wbytes);
     let rules = rules::blocks_rules();
-    let refused = requests::job_refusal(
+    let room = rules::blocks_room(kind, n, budget);
+    let refused = refusal(
         rules,
+        room,
         budget,
         weights,
         wbytes,
@@ -123,19 +176,17 @@ fn lay(
         vbytes,
         copies,
         cbytes,
+        cells.len(),
+        words.len(),
+        picks.len(),
     );
     if refused != 0 {
         return Answer::Refused(refused);
     }
-    let n = numbers::list_length(weights, wbytes);
-    let room = rules::blocks_room(kind, n, budget);
-    if !rules::room_fits(room, cells.len(), words.len(), picks.len()) {
-        return Answer::Refused(6);
-    }
     blocks::solve(kind, budget, weights, wbytes, cells, words, picks)
 }
 
-// Kind 7.
+// Kind 7, which 9 may refuse too.
 fn share(
     budget: u32,
     weights: &[u32],
@@ -148,9 +199,12 @@ fn share(
 ) -> Answer
     ensures { λ r. ⌜ SolvedInPicks (jobFrom 7 (budget ∷ []) (now (weights .entry)) (now (wbytes .entry)) (now (values .entry)) (now (vbytes .entry)) (now (copies .entry)) (now (cbytes .entry))) (now (picks .entry)) r (now (picks .exit)) ⌝ }
 {
+    let n = numbers::list_length(weights, wbytes);
     let rules = rules::shares_rules();
-    let refused = requests::job_refusal(
+    let room = rules::shares_room(n);
+    let refused = refusal(
         rules,
+        room,
         budget,
         weights,
         wbytes,
@@ -158,13 +212,12 @@ fn share(
         vbytes,
         copies,
         cbytes,
+        0,
+        0,
+        picks.len(),
     );
     if refused != 0 {
         return Answer::Refused(refused);
-    }
-    let room = rules::shares_room(numbers::list_length(weights, wbytes));
-    if !rules::room_fits(room, 0, 0, picks.len()) {
-        return Answer::Refused(6);
     }
     if !requests::has_sum(weights, wbytes) {
         return Answer::Refused(9);
@@ -272,29 +325,19 @@ pub fn solve_bytes(job: &[u8], cells: &mut [u32], words: &mut [u64], picks: &mut
     ensures { λ r. ⌜ SolvedBytes (now (job .entry)) (lentOf (now (cells .entry)) (now (words .entry)) (now (picks .entry))) r (lentOf (now (cells .exit)) (now (words .exit)) (now (picks .exit))) ⌝ }
 {
     let request = requests::read_job(job);
-    let Request::Parts {
-        kind,
-        budget,
-        weights,
-        weights_end,
-        values,
-        values_end,
-        copies,
-        copies_end,
-    } = request
-    else {
+    let Request::Read(parts) = request else {
         return Answer::Refused(1);
     };
     let none: [u32; 0] = [];
     decide(
-        kind,
-        budget,
+        parts.kind,
+        parts.budget,
         &none,
-        &job[weights..weights_end],
+        requests::bytes_at(job, parts.weights),
         &none,
-        &job[values..values_end],
+        requests::bytes_at(job, parts.values),
         &none,
-        &job[copies..copies_end],
+        requests::bytes_at(job, parts.copies),
         cells,
         words,
         picks,

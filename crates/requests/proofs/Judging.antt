@@ -7,7 +7,7 @@ use native.Mathlib.Nat.{zero-add}
 use native.Mathlib.Omega.{arith}
 use mathlib.Core.Bool.{Bool, true, false, not, _&&_}
 use mathlib.Core.List.{List, [], _∷_, _++_}
-use lib.Dec.{leb, ltb, eqb, leb·zero}
+use lib.Dec.{T, leb, ltb, eqb, leb·zero}
 use lib.ListN.{length, drop, drop-of-length-le, take}
 use lib.Seq.{drop-cons, take-all}
 use borrow.Author.Tests.{le-leb, lt-leb, lt-ltb, eq-eqb, ne-eqb}
@@ -160,3 +160,15 @@ none-given true true true later h = refl
 pub none-earlier : (r : meaning.Rules) (j : Job) (later : ℕ) → jobRefusal r j 0 ≡ 0 → jobRefusal r j later ≡ later
 unfolding jobRefusal
 none-earlier r j later h = none-given (listsFit r j) (boundsFit r j) (numbersFit r j) later h
+
+-- and may be any number where a bound isn't kept
+any-later : (lists bounds numbers : Bool) (later other : ℕ) → (T bounds → later ≡ other) → first-of lists bounds numbers later ≡ first-of lists bounds numbers other
+unfolding if
+any-later false bounds numbers later other h = refl
+any-later true false numbers later other h = refl
+any-later true true false later other h = refl
+any-later true true true later other h = h tt
+
+pub later-within : (r : meaning.Rules) (j : Job) (later other : ℕ) → (T (boundsFit r j) → later ≡ other) → jobRefusal r j later ≡ jobRefusal r j other
+unfolding jobRefusal
+later-within r j later other h = any-later (listsFit r j) (boundsFit r j) (numbersFit r j) later other h

@@ -1,5 +1,5 @@
 -- Laws of the definitions in specs/.
 pub mod Ruling
-mod Places
+pub mod Places
 -- no second choice is left by any function of this crate
 pub mod Unique

@@ -1,31 +1,34 @@
 -- The room that each kind needs.
 -- Assumes nothing.
 use mathlib.Core.Path.{_≡_, refl}
-use Prim.Native.Nat.{ℕ, _+_, _*_, _/_, _≤_, _<_}
+use Prim.Native.Nat.{ℕ, _+_, _*_, _/_, _≤_, _<_, min}
 use mathlib.Core.Bool.{Bool, false, _&&_}
 use lib.Dec.{leb}
 use borrow.Author.Tests.{le-leb, lt-leb}
 use native.Mathlib.Omega.{arith}
 use native.Mathlib.Nat.{mul-le-mul}
-use Rattle.meaning.specs.Job.{Knapsack, once, limited, free, packing, subset-sums, fewest-blocks, block-ways, sharing}
+use Rattle.meaning.specs.Job.{Knapsack, Kind, once, limited, free, packing, subset-sums, fewest-blocks, block-ways, sharing}
 use Rattle.meaning.specs.Lent.{cellCount, roomFor, roomOf}
 use Rattle.meaning.specs.Bounds.{mostLabels, mostBudget}
 use Rattle.meaning.proofs.Laws.{numberOf}
+use Rattle.rules.specs.declared.Room.{Room}
 use Rattle.rules.specs.Places.{NeededBy, roomFrom}
 
--- ---- kinds 1 to 3
+-- ---- kinds 1 to 3: n labels and a budget, of which so many labels and so high a cell were counted
 
-pub one-row : (k : Knapsack) (n budget : ℕ) → numberOf (packing k) ≡ 3 → NeededBy (packing k) n budget (record { cells = budget + 1; words = 0; picks = n })
+pub one-row : (k : Knapsack) (n budget counted top : ℕ) → counted ≡ n → top ≡ budget → numberOf (packing k) ≡ 3
+    → NeededBy (packing k) n budget (record { cells = top + 1; words = 0; picks = counted })
 unfolding NeededBy roomFrom roomFor roomOf numberOf
-one-row once n budget three j e f = absurd (omega arith)
-one-row limited n budget three j e f = absurd (omega arith)
-one-row free n budget three j e f = rw (e, f)
+one-row once n budget counted top a b three j e f = absurd (omega arith)
+one-row limited n budget counted top a b three j e f = absurd (omega arith)
+one-row free n budget counted top a b three j e f = rw (e, f, a, b)
 
-pub all-rows : (k : Knapsack) (n budget : ℕ) → ¬ (numberOf (packing k) ≡ 3) → NeededBy (packing k) n budget (record { cells = (n + 1) * (budget + 1); words = 0; picks = n })
+pub all-rows : (k : Knapsack) (n budget counted top : ℕ) → counted ≡ n → top ≡ budget → ¬ (numberOf (packing k) ≡ 3)
+    → NeededBy (packing k) n budget (record { cells = (counted + 1) * (top + 1); words = 0; picks = counted })
 unfolding NeededBy roomFrom roomFor roomOf numberOf cellCount
-all-rows once n budget other j e f = rw (e, f)
-all-rows limited n budget other j e f = rw (e, f)
-all-rows free n budget other j e f = absurd (other refl)
+all-rows once n budget counted top a b other j e f = rw (e, f, a, b)
+all-rows limited n budget counted top a b other j e f = rw (e, f, a, b)
+all-rows free n budget counted top a b other j e f = absurd (other refl)
 
 -- the cells can be counted
 pub few-cells : (n budget : ℕ) → n ≤ mostLabels → budget ≤ mostBudget → (n + 1) * (budget + 1) ≤ (mostLabels + 1) * (mostBudget + 1)
@@ -33,6 +36,13 @@ few-cells n budget h l =
     let rows : n + 1 ≤ mostLabels + 1 = omega arith in
     let width : budget + 1 ≤ mostBudget + 1 = omega arith in
     mul-le-mul rows width
+
+-- within the bounds it is what a job of n labels and this budget needs
+pub needed-within : (k : Kind) (n budget : ℕ) (r : Room) → n ≤ mostLabels → budget ≤ mostBudget → NeededBy k (min n mostLabels) (min budget mostBudget) r → NeededBy k n budget r
+needed-within k n budget r h l needed =
+    let same-n : min n mostLabels ≡ n = omega arith in
+    let same-budget : min budget mostBudget ≡ budget = omega arith in
+    rw (same-n, same-budget) at needed
 
 -- ---- kinds 4 to 7
 

@@ -2,7 +2,7 @@
 -- Assumes nothing.
 use mathlib.Core.Path.{_≡_, refl, sym, ap, _∙_}
 use mathlib.Core.Option.{some}
-use Prim.Native.Nat.{ℕ, _≤_}
+use Prim.Native.Nat.{ℕ, _≤_, min}
 use native.Mathlib.Decide.{decLt}
 use native.Mathlib.Omega.{arith}
 use mathlib.Core.Bool.{Bool, true, false}
@@ -12,7 +12,7 @@ use Rattle.meaning.specs.Lists.{every, if}
 use Rattle.meaning.specs.Job.{Knapsack, Kind, packing, subset-sums, fewest-blocks, block-ways, sharing, kindOf, jobOf, labels}
 use Rattle.meaning.specs.Lent as lent
 use Rattle.meaning.specs.Refusals as meaning
-use Rattle.meaning.specs.Bounds.{mostValue, mostCopies, leastCopies}
+use Rattle.meaning.specs.Bounds.{mostLabels, mostBudget, mostValue, mostCopies, leastCopies}
 use Rattle.meaning.specs.Refusals.{rulesOf, positive, ascendingFrom, anything}
 use Rattle.rules.specs.declared.WeightRule.{WeightRule}
 use Rattle.rules.specs.declared.WeightRule.the-variants.{Positive, Ascending, Anything}
@@ -108,13 +108,13 @@ needed-unique k n budget r r′ a b =
 
 -- ---- the room of each kind
 
--- `knapsack_room`
+-- `knapsack_room`, for any n and C
 pub knapsack-room-unique : (kind n budget : ℕ) (r r′ : Room) → (1 ≤ kind) × (kind ≤ 3)
-    → ((k : Knapsack) → kindOf kind ≡ some (packing k) → NeededBy (packing k) n budget r)
-    → ((k : Knapsack) → kindOf kind ≡ some (packing k) → NeededBy (packing k) n budget r′) → r ≡ r′
+    → ((k : Knapsack) → kindOf kind ≡ some (packing k) → NeededBy (packing k) (min n mostLabels) (min budget mostBudget) r)
+    → ((k : Knapsack) → kindOf kind ≡ some (packing k) → NeededBy (packing k) (min n mostLabels) (min budget mostBudget) r′) → r ≡ r′
 knapsack-room-unique kind n budget r r′ h a b =
     let s = knapsack-of kind (h .0) (h .1) in
-    needed-unique (packing (s .knapsack)) n budget r r′ (a (s .knapsack) (s .of-kind)) (b (s .knapsack) (s .of-kind))
+    needed-unique (packing (s .knapsack)) (min n mostLabels) (min budget mostBudget) r r′ (a (s .knapsack) (s .of-kind)) (b (s .knapsack) (s .of-kind))
 
 -- `sums_room`
 pub sums-room-unique : (budget : ℕ) (r r′ : Room) → ((n : ℕ) → NeededBy subset-sums n budget r) → ((n : ℕ) → NeededBy subset-sums n budget r′) → r ≡ r′

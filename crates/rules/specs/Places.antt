@@ -2,6 +2,8 @@
 -- Assumes nothing.
 use mathlib.Core.Path.{_≡_}
 use Prim.Native.Nat.{ℕ}
+use mathlib.Core.Bool.{Bool, _&&_}
+use lib.Dec.{leb}
 use Rattle.meaning.specs.Job.{Job, Kind, labels}
 use Rattle.meaning.specs.Lent as meaning
 use Rattle.rules.specs.declared.Room.{Room}
@@ -13,3 +15,7 @@ roomFrom r = meaning.roomOf (r .cells) (r .words) (r .picks)
 -- it is what a job of this kind with n labels and this budget needs
 unfoldable pub NeededBy : Kind → ℕ → ℕ → Room → Type 0
 NeededBy k n budget r = (j : Job) → labels j ≡ n → j .budget ≡ budget → roomFrom r ≡ meaning.roomFor k j
+
+-- slices of these lengths have it
+unfoldable pub hasRoom : Room → ℕ → ℕ → ℕ → Bool
+hasRoom r cells words picks = leb (r .cells) cells && leb (r .words) words && leb (r .picks) picks

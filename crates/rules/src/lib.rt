@@ -2,14 +2,13 @@
 // order, is for `requests` and the crates above it to say.
 ghost use mathlib.Core.Path.{_≡_};
 ghost use mathlib.Core.Option.{some};
-ghost use Prim.Native.Nat.{ℕ, _≤_};
-ghost use mathlib.Core.Bool.{Bool, true, false, _&&_};
-ghost use lib.Dec.{leb};
+ghost use Prim.Native.Nat.{ℕ, _≤_, min};
+ghost use mathlib.Core.Bool.{Bool, true, false};
 ghost use Rattle.meaning.specs.Job.{Knapsack, packing, subset-sums, fewest-blocks, block-ways, sharing, kindOf};
 ghost use Rattle.meaning.specs.Bounds.{mostLabels, mostBudget, mostValue, mostCopies, leastCopies};
 ghost use Rattle.meaning.specs.Refusals.{rulesOf, weightRules};
 ghost use Rattle.rules.specs.Ruling.{rulesFrom, ruleFrom};
-ghost use Rattle.rules.specs.Places.{NeededBy};
+ghost use Rattle.rules.specs.Places.{NeededBy, hasRoom};
 
 // ---- the bounds
 
@@ -135,24 +134,32 @@ pub struct Room {
     pub picks: usize,
 }
 
-// Kinds 1 to 3: a row for each label and one before them, or one row in kind 3.
+// The lesser of two numbers.
+fn lesser(a: usize, b: usize) -> usize
+    ensures { λ r. ⌜ r ≡ min a b ⌝ }
+{
+    if a <= b { a } else { b }
+}
+
+// Kinds 1 to 3: a row for each label and one before them, or one row in kind 3. It is asked for before 4 is, so n and C are counted up to
+// their bounds, and the product fits; where 4 doesn't apply, it is the job's own.
 pub fn knapsack_room(kind: u32, n: usize, budget: u32) -> Room
     requires { ⌜ (1 ≤ kind) × (kind ≤ 3) ⌝ }
-    requires { ⌜ (n ≤ mostLabels) × (budget ≤ mostBudget) ⌝ }
-    ensures { λ r. ⌜ ((k : Knapsack) → kindOf kind ≡ some (packing k) → NeededBy (packing k) n budget r) ⌝ }
+    ensures { λ r. ⌜ ((k : Knapsack) → kindOf kind ≡ some (packing k) → NeededBy (packing k) (min n mostLabels) (min budget mostBudget) r) ⌝ }
 {
-    let width = budget as usize + 1;
+    let labels = lesser(n, MOST_LABELS);
+    let width = lesser(budget as usize, MOST_BUDGET as usize) + 1;
     if kind == 3 {
         return Room {
             cells: width,
             words: 0,
-            picks: n,
+            picks: labels,
         };
     }
     Room {
-        cells: (n + 1) * width,
+        cells: (labels + 1) * width,
         words: 0,
-        picks: n,
+        picks: labels,
     }
 }
 
@@ -200,7 +207,7 @@ pub fn shares_room(n: usize) -> Room
 
 // Whether slices of these lengths have room.
 pub fn room_fits(room: Room, cells: usize, words: usize, picks: usize) -> bool
-    ensures { λ r. ⌜ r ≡ (leb (room .cells) cells && leb (room .words) words && leb (room .picks) picks) ⌝ }
+    ensures { λ r. ⌜ r ≡ hasRoom room cells words picks ⌝ }
 {
     if cells < room.cells {
         return false;

@@ -10,22 +10,52 @@ use borrow.Author.Needs.{needs}
 use Rattle.rules.proofs.knapsack_room.Statement.{statement}
 use Rattle.rules.proofs.knapsack_room.Tie as tie
 
+-- the function's entry, from where labels and cells were counted
+abbrev entry : tie.After-lesser2 → tie.Start
+entry c = c .before .before
+
+lesser-requires : tie.Need-lesser-requires
+lesser-requires c κs = search needs
+
+cast-lesser : tie.Need-cast-lesser
+cast-lesser c = search needs
+
+lesser-requires-2 : tie.Need-lesser-requires-2
+lesser-requires-2 c κs = search needs
+
 add-width : tie.Need-add-width
 add-width c = search needs
 
 returns : tie.Need-returns
-returns c k e = one-row k (c .before .args .n) (c .before .args .budget) (sym (kind-number (c .before .args .kind) (packing k) e) ∙ c .if1 .taken)
+unfolding mostLabels mostBudget
+returns c k e =
+    let counted = c .before in
+    one-row k _ _ _ _ (counted .before .lesser .ensures) (counted .lesser2 .ensures) (sym (kind-number (entry counted .args .kind) (packing k) e) ∙ c .if1 .taken)
 
-add-t5 : tie.Need-add-t5
-unfolding mostLabels
-add-t5 c = omega arith
+add-t6 : tie.Need-add-t6
+add-t6 c = search needs
 
 mul-t7 : tie.Need-mul-t7
 unfolding mostLabels mostBudget
-mul-t7 c = omega (arith, few-cells (c .before .args .n) (c .before .args .budget) (c .before .pre .1 .0) (c .before .pre .1 .1))
+mul-t7 c =
+    let counted = c .before in
+    omega (arith, few-cells (counted .before .lesser .result) (counted .lesser2 .result) (omega (arith, counted .before .lesser .ensures)) (omega (arith, counted .lesser2 .ensures)))
 
 returns-2 : tie.Need-returns-2
-returns-2 c k e = all-rows k (c .before .args .n) (c .before .args .budget) (λ three. c .if1 .left (kind-number (c .before .args .kind) (packing k) e ∙ three))
+unfolding mostLabels mostBudget
+returns-2 c k e =
+    let counted = c .before in
+    all-rows k _ _ _ _ (counted .before .lesser .ensures) (counted .lesser2 .ensures) (λ three. c .if1 .left (kind-number (entry counted .args .kind) (packing k) e ∙ three))
 
 pub knapsack-room-spec : {M : Type 1} → statement M
-knapsack-room-spec = tie.close (tie.spec add-width returns add-t5 mul-t7 returns-2)
+knapsack-room-spec =
+    tie.close
+    (tie.spec
+    lesser-requires
+    cast-lesser
+    lesser-requires-2
+    add-width
+    returns
+    add-t6
+    mul-t7
+    returns-2)
