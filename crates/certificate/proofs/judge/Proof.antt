@@ -117,7 +117,7 @@ module _ (c : tie.After-known-told2) where
 
 knapsack-room-requires : tie.Need-knapsack-room-requires
 unfolding jobOf
-knapsack-room-requires c κs = let s = c .before .before .before in room-asked (job s) (s .pre) _ (labels-are s)
+knapsack-room-requires c κs = let s = c .before .before .before in room-asked (job s) (s .pre)
 
 cast-t15 : tie.Need-cast-t15
 cast-t15 c = omega (arith, few-labels (job (start c)) (start c .pre) _ (labels-are (start c)))

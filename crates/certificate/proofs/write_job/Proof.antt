@@ -57,7 +57,7 @@ list-length-requires c κs = search needs
 
 knapsack-room-requires : tie.Need-knapsack-room-requires
 unfolding jobOf
-knapsack-room-requires c κs = room-asked (counted-job c) (ok (c .before)) _ (counted c)
+knapsack-room-requires c κs = room-asked (counted-job c) (ok (c .before))
 
 copy-out-requires : tie.Need-copy-out-requires
 unfolding jobOf
