@@ -47,13 +47,13 @@ module _ (j : Job) (picks cells before : List ℕ) where
     too-short : slicesFit j picks cells before ≡ false → Writes j picks cells before (Refused 6) before
     unfolding if
     too-short short =
-        as-given 6 (later-asked j ok _ ∙ rw short) (nothing-new 6 (bytesNeeded j) (certificate j picks cells) before (λ none. absurd (omega arith)))
+        as-given 6 (later-asked j _ ok ∙ rw short) (nothing-new 6 (bytesNeeded j) (certificate j picks cells) before (λ none. absurd (omega arith)))
 
     -- none is
     all-written : slicesFit j picks cells before ≡ true → (after : List ℕ) → Holds (certificate j picks cells) before after
         → Writes j picks cells before (Bytes (bytesNeeded j)) after
     unfolding if writtenAs newBytes
-    all-written roomy after holds = as-given 0 (later-asked j ok _ ∙ rw roomy) (record { numbers = refl; leaves = holds })
+    all-written roomy after holds = as-given 0 (later-asked j _ ok ∙ rw roomy) (record { numbers = refl; leaves = holds })
 
 -- ---- the three slices
 
