@@ -8,7 +8,6 @@ use borrow.Author.Needs.{needs}
 use lib.ListN.{length}
 use Rattle.meaning.specs.Bytes.{numbersIn}
 use Rattle.meaning.specs.Job.{Job, jobOf, labels}
-use Rattle.meaning.specs.Lent.{cellCount}
 use Rattle.meaning.proofs.Numbers.{numbers-long}
 use Rattle.numbers.specs.TwoSlices.{listFrom}
 use Rattle.verdicts.specs.Asked.{onceJob}
