@@ -22,7 +22,7 @@ use Rattle.numbers.proofs.Placed.{joined, from-start}
 use Rattle.certificate.specs.Copying.{CopiedFor}
 use Rattle.certificate.proofs.Refusing.{refused-before, later-asked}
 
--- ---- refused
+-- ---- by the number that applies
 
 -- a refusal writes nothing
 nothing-new : (r n : ℕ) (certB before : List ℕ) → ¬ (r ≡ 0) → WritesAs r n certB before (Refused r) before
@@ -30,66 +30,85 @@ unfolding writtenAs newBytes Holds
 nothing-new zero n certB before some-number = absurd (some-number refl)
 nothing-new (suc r) n certB before some-number = record { numbers = refl; leaves = refl }
 
--- 2 to 5
-pub turned-away : (j : Job) (picks cells before : List ℕ) (r : ℕ) → r ≡ certifiedRefusal j 0 → ¬ (r ≡ 0) → Writes j picks cells before (Refused r) before
-unfolding Writes writerRefusal
-turned-away j picks cells before r e some-number =
-    let given : certifiedRefusal j (if (not (slicesFit j picks cells before)) 6 0) ≡ r = refused-before j _ (λ none. some-number (e ∙ none)) ∙ sym e in
-    rw given (nothing-new r (bytesNeeded j) (certificate j picks cells) before some-number)
+module _ (j : Job) (picks cells before : List ℕ) where
+  as-given : (r : ℕ) → certifiedRefusal j (if (not (slicesFit j picks cells before)) 6 0) ≡ r → {a : Written} {after : List ℕ}
+      → WritesAs r (bytesNeeded j) (certificate j picks cells) before a after → Writes j picks cells before a after
+  unfolding Writes writerRefusal
+  as-given r e writes = rw e writes
+
+  -- 2 to 5
+  pub turned-away : (r : ℕ) → r ≡ certifiedRefusal j 0 → ¬ (r ≡ 0) → Writes j picks cells before (Refused r) before
+  turned-away r e some-number =
+      as-given r (refused-before j _ (λ none. some-number (e ∙ none)) ∙ sym e)
+      (nothing-new r (bytesNeeded j) (certificate j picks cells) before some-number)
+
+  module _ (ok : certifiedRefusal j 0 ≡ 0) where
+    -- 6: one of the three slices is too short
+    too-short : slicesFit j picks cells before ≡ false → Writes j picks cells before (Refused 6) before
+    unfolding if
+    too-short short =
+        as-given 6 (later-asked j _ ok ∙ rw short) (nothing-new 6 (bytesNeeded j) (certificate j picks cells) before (λ none. absurd (omega arith)))
+
+    -- none is
+    all-written : slicesFit j picks cells before ≡ true → (after : List ℕ) → Holds (certificate j picks cells) before after
+        → Writes j picks cells before (Bytes (bytesNeeded j)) after
+    unfolding if writtenAs newBytes
+    all-written roomy after holds = as-given 0 (later-asked j _ ok ∙ rw roomy) (record { numbers = refl; leaves = holds })
 
 -- ---- the three slices
 
-module _ (j : Job) (picks cells before : List ℕ) (ok : certifiedRefusal j 0 ≡ 0) where
-  -- 6: one of them is too short
-  pub too-short : slicesFit j picks cells before ≡ false → Writes j picks cells before (Refused 6) before
-  unfolding Writes writerRefusal if
-  too-short short =
-      let given : certifiedRefusal j (if (not (slicesFit j picks cells before)) 6 0) ≡ 6 = later-asked j ok _ ∙ rw short in
-      rw given (nothing-new 6 (bytesNeeded j) (certificate j picks cells) before (λ none. absurd (omega arith)))
+-- each is long enough
+pub record Roomy (n count : ℕ) (picks cells before : List ℕ) : Type 0 where
+  pub picks-fit : n ≤ length picks
+  pub cells-fit : count ≤ length cells
+  pub out-fits : 8 + 4 * n + 4 * count ≤ length before
 
-  -- none is
-  pub all-written : slicesFit j picks cells before ≡ true → (after : List ℕ) → Holds (certificate j picks cells) before after
-      → Writes j picks cells before (Bytes (bytesNeeded j)) after
-  unfolding Writes writerRefusal if writtenAs newBytes
-  all-written roomy after holds =
-      let given : certifiedRefusal j (if (not (slicesFit j picks cells before)) 6 0) ≡ 0 = later-asked j ok _ ∙ rw roomy in
-      rw given (record { numbers = refl; leaves = holds })
-
+-- or one of them isn't
 module _ (n count : ℕ) (picks cells before : List ℕ) where
   pub short-picks : length picks < n → CopiedFor n count picks cells before (Refused 6) before
   unfolding CopiedFor slicesFit
   short-picks short j n-is count-is ok = too-short j picks cells before ok (rw (n-is, lt-leb n (length picks) short))
 
-  module _ (picks-fit : n ≤ length picks) where
-    pub short-cells : length cells < count → CopiedFor n count picks cells before (Refused 6) before
-    unfolding CopiedFor slicesFit
-    short-cells short j n-is count-is ok =
-        too-short j picks cells before ok (rw (n-is, count-is, le-leb n (length picks) picks-fit, lt-leb count (length cells) short))
+  pub short-cells : n ≤ length picks → length cells < count → CopiedFor n count picks cells before (Refused 6) before
+  unfolding CopiedFor slicesFit
+  short-cells picks-fit short j n-is count-is ok =
+      too-short j picks cells before ok (rw (n-is, count-is, le-leb n (length picks) picks-fit, lt-leb count (length cells) short))
 
-    module _ (cells-fit : count ≤ length cells) where
-      pub short-out : length before < 8 + 4 * n + 4 * count → CopiedFor n count picks cells before (Refused 6) before
-      unfolding CopiedFor slicesFit bytesNeeded
-      short-out short j n-is count-is ok =
-          too-short j picks cells before ok
-          (rw (n-is, count-is, le-leb n (length picks) picks-fit, le-leb count (length cells) cells-fit, lt-leb (8 + 4 * n + 4 * count) (length before) short))
+  pub short-out : n ≤ length picks → count ≤ length cells → length before < 8 + 4 * n + 4 * count
+      → CopiedFor n count picks cells before (Refused 6) before
+  unfolding CopiedFor slicesFit bytesNeeded
+  short-out picks-fit cells-fit short j n-is count-is ok =
+      let out-short = lt-leb (8 + 4 * n + 4 * count) (length before) short in
+      too-short j picks cells before ok (rw (n-is, count-is, le-leb n (length picks) picks-fit, le-leb count (length cells) cells-fit, out-short))
 
-      pub picks-long : length (sectionBytes (take n picks)) ≡ 4 + 4 * n
-      picks-long = omega (arith, section-long (take n picks), length-take-le n picks picks-fit)
+module _ {n count : ℕ} {picks cells before : List ℕ} (roomy : Roomy n count picks cells before) where
+  -- so many are taken, and so long are their sections
+  pub picks-taken : length (take n picks) ≡ n
+  picks-taken = length-take-le n picks (roomy .picks-fit)
 
-      pub cells-long : length (sectionBytes (take count cells)) ≡ 4 + 4 * count
-      cells-long = omega (arith, section-long (take count cells), length-take-le count cells cells-fit)
+  pub cells-taken : length (take count cells) ≡ count
+  cells-taken = length-take-le count cells (roomy .cells-fit)
 
-      -- picks from the start on, and cells after them
-      pub copied : 8 + 4 * n + 4 * count ≤ length before → (mid after : List ℕ) (middle end : ℕ) → SectionWritten 0 (take n picks) before mid middle
-          → SectionWritten middle (take count cells) mid after end → CopiedFor n count picks cells before (Bytes (8 + 4 * n + 4 * count)) after
-      unfolding CopiedFor slicesFit bytesNeeded certificate
-      copied out-fits mid after middle end first second j n-is count-is ok =
-          let there : HoldsAt (0 + length (sectionBytes (take n picks))) (sectionBytes (take count cells)) mid after = rw (first .ends) at (second .written) in
-          let both = joined 0 (sectionBytes (take n picks)) before mid (omega (arith, picks-long)) (first .written) (sectionBytes (take count cells)) after there in
-          rw (← n-is, ← count-is)
-          (all-written j picks cells before ok
-          (rw (n-is, count-is, le-leb n (length picks) picks-fit, le-leb count (length cells) cells-fit, le-leb (8 + 4 * n + 4 * count) (length before) out-fits))
-          after (rw (n-is, count-is) (from-start _ _ _ both)))
+  pub picks-long : length (sectionBytes (take n picks)) ≡ 4 + 4 * n
+  picks-long = omega (arith, section-long (take n picks), picks-taken)
+
+  pub cells-long : length (sectionBytes (take count cells)) ≡ 4 + 4 * count
+  cells-long = omega (arith, section-long (take count cells), cells-taken)
+
+  -- picks from the start on, and cells after them
+  pub copied : (mid after : List ℕ) (middle end : ℕ) → SectionWritten 0 (take n picks) before mid middle
+      → SectionWritten middle (take count cells) mid after end → CopiedFor n count picks cells before (Bytes (8 + 4 * n + 4 * count)) after
+  unfolding CopiedFor slicesFit bytesNeeded certificate
+  copied mid after middle end first second j n-is count-is ok =
+      let picksB = sectionBytes (take n picks) in
+      let cellsB = sectionBytes (take count cells) in
+      let there : HoldsAt (0 + length picksB) cellsB mid after = rw (first .ends) at (second .written) in
+      let both = joined 0 picksB before mid (omega (arith, picks-long, roomy .out-fits)) (first .written) cellsB after there in
+      let out-fits = le-leb (8 + 4 * n + 4 * count) (length before) (roomy .out-fits) in
+      rw (← n-is, ← count-is)
+      (all-written j picks cells before ok
+      (rw (n-is, count-is, le-leb n (length picks) (roomy .picks-fit), le-leb count (length cells) (roomy .cells-fit), out-fits))
+      after (rw (n-is, count-is) (from-start _ _ _ both)))
 
 -- ---- job bytes
 
@@ -99,6 +118,7 @@ unfolding WritesBytes WritesRead
 no-job b picks cells before place e = rw e (nothing-new 1 0 [] before (λ none. absurd (omega arith)))
 
 -- those that can are written for as the job that they hold
-pub job-in-bytes : (b picks cells before after : List ℕ) (j : Job) (a : Written) → readJob b ≡ readable j → Writes j picks cells before a after → WritesBytes b picks cells before a after
+pub job-in-bytes : (b picks cells before after : List ℕ) (j : Job) (a : Written) → readJob b ≡ readable j
+    → Writes j picks cells before a after → WritesBytes b picks cells before a after
 unfolding WritesBytes WritesRead
 job-in-bytes b picks cells before after j a e writes = rw e writes

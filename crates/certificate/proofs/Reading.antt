@@ -1,8 +1,9 @@
--- Certificate bytes, read section by section: what is known where reading breaks, and where it comes to the end.
+-- What is read: a job's lists, cut out of its bytes; and certificate bytes, section by section, where they break and where they come to the end.
 -- Assumes nothing.
 use mathlib.Core.Path.{_≡_, sym, _∙_}
 use Prim.Native.Nat.{ℕ, _≤_, _<_}
-use mathlib.Core.List.{List}
+use native.Mathlib.Omega.{arith}
+use mathlib.Core.List.{List, [], _∷_}
 use lib.ListN.{length}
 use borrow.Author.Tests.{lt-ltb, le-ltb}
 use Rattle.meaning.specs.declared.Verdict.{Verdict}
@@ -11,23 +12,36 @@ use Rattle.meaning.specs.declared.Section.the-variants.{Part, Broken}
 use Rattle.meaning.specs.declared.Needed.the-variants.{Exactly}
 use Rattle.meaning.specs.Lists.{if}
 use Rattle.meaning.specs.Job.{Job, labels}
-use Rattle.meaning.specs.Bytes.{atEnd, between, numbersIn, readSection, withSection}
+use Rattle.meaning.specs.Bytes.{atEnd, between, numbersIn, readJob, readSection, readable, withSection}
 use Rattle.meaning.specs.Certificates.{certificateBroken, certificateCells, verdictOnCells, verdictOnCertificate}
-use Rattle.meaning.proofs.Numbers.{SectionFound, goes-on, section-found, section-numbers, stops}
+use Rattle.meaning.proofs.Numbers.{goes-on, section-found, section-numbers, stops}
 use Rattle.meaning.proofs.Verdicts.{needed-count}
-use Rattle.requests.specs.Reading.{Within}
-use Rattle.requests.proofs.Reading.{within}
+use Rattle.numbers.specs.TwoSlices.{jobFrom}
+use Rattle.requests.specs.declared.Parts.{Parts}
+use Rattle.requests.specs.Reading.{PartsOf, bytesAt}
 
--- a section of a needed count: it is within the bytes, and has that many numbers
+-- ---- the job's bytes
+
+-- the job with the lists that are cut out of the bytes is the one that they are read as
+pub lists-cut : (b : List ℕ) {parts : Parts} {weights values copies : List ℕ} → PartsOf b parts
+    → weights ≡ bytesAt b (parts .weights) → values ≡ bytesAt b (parts .values) → copies ≡ bytesAt b (parts .copies)
+    → readJob b ≡ readable (jobFrom (parts .kind) (parts .budget ∷ []) [] weights [] values [] copies)
+lists-cut b p weights-are values-are copies-are = rw (weights-are, values-are, copies-are) (p .read)
+
+-- ---- the certificate's
+
+-- a section of a needed count: it stands within the bytes, and has that many numbers
 pub record Held (b : List ℕ) (start next count : ℕ) : Type 0 where
-  pub part : Within b start next
+  pub ordered : start ≤ next
+  pub inside : next ≤ length b
   pub long : length (numbersIn (between b start next)) ≡ count
 
 pub held : (needed : ℕ) (b : List ℕ) (p start count next : ℕ) → readSection (Exactly needed) b p ≡ Part start count next → Held b start next needed
 held needed b p start count next e =
-    let f : SectionFound (Exactly needed) b p start count next = section-found (Exactly needed) b p start count next e in
+    let f = section-found (Exactly needed) b p start count next e in
     record {
-      part = within (Exactly needed) b p start count next e;
+      ordered = omega (arith, f .ends);
+      inside = f .inside;
       long = section-numbers b start count next (f .ends) (f .inside) ∙ needed-count needed count (f .right);
     }
 

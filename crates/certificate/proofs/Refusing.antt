@@ -1,17 +1,14 @@
--- What refusals 2 to 5 come to for a job that a certificate may be for, and the cells that such a job needs.
+-- What refusals 2 to 5 come to for a job that a certificate may be for.
 -- Assumes nothing.
-use mathlib.Core.Path.{_≡_, refl, sym, ap, _∙_}
+use mathlib.Core.Path.{_≡_, refl, ap}
 use mathlib.Core.Option.{Option, none, some}
 use Prim.Native.Nat.{ℕ, zero, suc}
-use Rattle.meaning.specs.Job.{Job, Knapsack, once, packing, labels}
-use Rattle.meaning.specs.Lent as meaning
-use Rattle.meaning.specs.Lent.{roomFor, roomOf}
+use native.Mathlib.Omega.{arith}
+use Rattle.meaning.specs.Job.{Job, Knapsack, once, packing}
 use Rattle.meaning.specs.Refusals.{jobRefusal, rulesOf}
-use Rattle.meaning.specs.Certificates.{certificateCells, certifiedAs, certifiedRefusal, certifiedKnapsack}
-use Rattle.rules.specs.declared.Room.{Room}
-use Rattle.rules.specs.Places.{NeededBy, roomFrom}
+use Rattle.meaning.specs.Certificates.{certifiedAs, certifiedRefusal, certifiedKnapsack}
 use Rattle.requests.proofs.Judging.{earlier-given, none-earlier}
-use Rattle.verdicts.proofs.Once.{once-knapsack, is-kind-1}
+use Rattle.verdicts.proofs.Once.{once-knapsack}
 
 -- ---- by kind
 
@@ -33,28 +30,25 @@ module _ (j : Job) (later : ℕ) where
   unfolding certifiedRefusal certifiedAs
   by-rules e = ap (λ (o : Option Knapsack). certifiedAs o j later) (once-knapsack (j .kind-number) e)
 
--- ---- what comes later
+-- ---- what comes later, whatever knapsack it is
 
 module _ (j : Job) (later : ℕ) where
-  by-knapsack : (o : Option Knapsack) → ¬ (certifiedAs o j 0 ≡ 0) → certifiedAs o j later ≡ certifiedAs o j 0
+  given : (o : Option Knapsack) → ¬ (certifiedAs o j 0 ≡ 0) → certifiedAs o j later ≡ certifiedAs o j 0
   unfolding certifiedAs
-  by-knapsack none h = refl
-  by-knapsack (some k) h = earlier-given (rulesOf (packing k)) j later h
+  given none h = refl
+  given (some k) h = earlier-given (rulesOf (packing k)) j later h
+
+  not-given : (o : Option Knapsack) → certifiedAs o j 0 ≡ 0 → certifiedAs o j later ≡ later
+  unfolding certifiedAs
+  not-given none h = absurd (omega arith)
+  not-given (some k) h = none-earlier (rulesOf (packing k)) j later h
 
   -- it isn't asked where one of 2 to 5 applies
   pub refused-before : ¬ (certifiedRefusal j 0 ≡ 0) → certifiedRefusal j later ≡ certifiedRefusal j 0
   unfolding certifiedRefusal
-  refused-before h = by-knapsack (certifiedKnapsack (j .kind-number)) h
+  refused-before h = given (certifiedKnapsack (j .kind-number)) h
 
--- it is where none does
-pub later-asked : (j : Job) → certifiedRefusal j 0 ≡ 0 → (later : ℕ) → certifiedRefusal j later ≡ later
-later-asked j ok later =
-    let one = is-kind-1 j ok in
-    by-rules j later one ∙ none-earlier (rulesOf (packing once)) j later (sym (by-rules j 0 one) ∙ ok)
-
--- ---- the cells of a certificate
-
--- the room that kind 1 needs has as many
-pub cells-needed : (j : Job) (n : ℕ) (room : Room) → labels j ≡ n → NeededBy (packing once) n (j .budget) room → certificateCells j ≡ room .cells
-unfolding NeededBy roomFrom roomFor roomOf
-cells-needed j n room n-is needed = sym (ap (λ (r : meaning.Room). r .cells) (needed j n-is refl))
+  -- it is where none does
+  pub later-asked : certifiedRefusal j 0 ≡ 0 → certifiedRefusal j later ≡ later
+  unfolding certifiedRefusal
+  later-asked ok = not-given (certifiedKnapsack (j .kind-number)) ok

@@ -1,2 +1,2 @@
--- The definitions that the contracts of this crate cite beside those of `meaning` and `claims`.
+-- The definitions that the contracts of this crate cite beside those of `meaning` and `verdicts`.
 pub mod Copying

@@ -90,28 +90,27 @@ pub fn check(job: &[u8], certificate: &[u8]) -> Verdict
     ensures { λ r. ⌜ Checked (now (job .entry)) (now (certificate .entry)) r ⌝ }
 {
     let request = requests::read_job(job);
-    let Request::Parts {
-        kind,
-        budget,
-        weights,
-        weights_end,
-        values,
-        values_end,
-        copies,
-        copies_end,
-    } = request
-    else {
+    let Request::Read(parts) = request else {
         return refused_with(1);
     };
+    let weights = requests::bytes_at(job, parts.weights);
+    let values = requests::bytes_at(job, parts.values);
+    let copies = requests::bytes_at(job, parts.copies);
     let none: [u32; 0] = [];
-    let weights = &job[weights..weights_end];
-    let values = &job[values..values_end];
-    let copies = &job[copies..copies_end];
-    let refused = job_refusal(kind, budget, &none, weights, &none, values, &none, copies);
+    let refused = job_refusal(
+        parts.kind,
+        parts.budget,
+        &none,
+        weights,
+        &none,
+        values,
+        &none,
+        copies,
+    );
     if refused != 0 {
         return refused_with(refused);
     }
-    judge(budget, weights, values, certificate)
+    judge(parts.budget, weights, values, certificate)
 }
 
 // ---- the writer
@@ -204,29 +203,22 @@ pub fn write_bytes(job: &[u8], picks: &[u32], cells: &[u32], out: &mut [u8]) -> 
     ensures { λ r. ⌜ WritesBytes (now (job .entry)) (now (picks .entry)) (now (cells .entry)) (now (out .entry)) r (now (out .exit)) ⌝ }
 {
     let request = requests::read_job(job);
-    let Request::Parts {
-        kind,
-        budget,
-        weights,
-        weights_end,
-        values,
-        values_end,
-        copies,
-        copies_end,
-    } = request
-    else {
+    let Request::Read(parts) = request else {
         return Written::Refused(1);
     };
+    let weights = requests::bytes_at(job, parts.weights);
+    let values = requests::bytes_at(job, parts.values);
+    let copies = requests::bytes_at(job, parts.copies);
     let none: [u32; 0] = [];
     write_job(
-        kind,
-        budget,
+        parts.kind,
+        parts.budget,
         &none,
-        &job[weights..weights_end],
+        weights,
         &none,
-        &job[values..values_end],
+        values,
         &none,
-        &job[copies..copies_end],
+        copies,
         picks,
         cells,
         out,

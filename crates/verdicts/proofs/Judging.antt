@@ -1,6 +1,6 @@
 -- The verdict on picks and cells, refusal by refusal; and what each leaves known for the next.
 -- Assumes nothing.
-use mathlib.Core.Path.{_≡_, sym, ap, _∙_}
+use mathlib.Core.Path.{_≡_, refl, sym, ap, _∙_}
 use mathlib.Core.Option.{none, some}
 use Prim.Native.Nat.{ℕ, _+_, _-_, _≤_, _<_}
 use native.Mathlib.Nat.{suc-mul}
@@ -12,11 +12,12 @@ use mir.Facts.{ltb-no}
 use borrow.Author.Tests.{lt-ltb, le-ltb, eq-eqb, ne-eqb}
 use Rattle.meaning.specs.declared.Verdict.the-variants.{Accepted, Refused}
 use Rattle.meaning.specs.Lists.{at, if, total}
-use Rattle.meaning.specs.Job.{Job, labels}
+use Rattle.meaning.specs.Job.{Job, Knapsack, labels}
 use Rattle.meaning.specs.Lent.{cellCount}
-use Rattle.meaning.specs.Bounds.{mostCopies, mostLabels}
+use Rattle.meaning.specs.Bounds.{mostCopies}
 use Rattle.meaning.specs.Knapsacks.{cellNumber}
 use Rattle.meaning.specs.Certificates.{cellAt, lowCell, misvalued, mostPicks, overPicked, overweight, unlessFound, verdictOnCells}
+use Rattle.meaning.proofs.Valid.{Valid}
 use Rattle.meaning.proofs.Verdicts.{first-none}
 use Rattle.verdicts.specs.Asked.{FewPicks}
 
@@ -62,13 +63,21 @@ module _ (j : Job) (picks cells : List ℕ) where
 -- ---- what each leaves known
 
 -- after 12 each pick is one at most, so that sums over them stay small
-pub few-picks : (j : Job) (each picks : List ℕ) → length picks ≡ labels j → length each ≡ labels j → labels j ≤ mostLabels → overPicked j picks ≡ none → FewPicks each picks
-unfolding overPicked mostPicks mostCopies
-few-picks j each picks long all few none-12 = record {
-  one-each = all ∙ sym long;
-  few = omega arith;
-  small = λ i h. omega (arith, ltb-no {a = 1} {b = at picks i} (first-none (λ k. ltb 1 (at picks k)) (labels j) none-12 i (omega arith)));
-}
+module _ {k : Knapsack} (j : Job) (picks : List ℕ) (v : Valid k j) (long : length picks ≡ labels j) (none-12 : overPicked j picks ≡ none) where
+  few-picks : (each : List ℕ) → length each ≡ labels j → FewPicks each picks
+  unfolding overPicked mostPicks mostCopies
+  few-picks each all = record {
+    one-each = all ∙ sym long;
+    few = omega (arith, v .few);
+    small = λ i h. omega (arith, ltb-no {a = 1} {b = at picks i} (first-none (λ k. ltb 1 (at picks k)) (labels j) none-12 i (omega arith)));
+  }
+
+  pub few-weights : FewPicks (j .weights) picks
+  unfolding labels
+  few-weights = few-picks (j .weights) refl
+
+  pub few-values : FewPicks (j .values) picks
+  few-values = few-picks (j .values) (v .valued)
 
 -- 15 asks about the last cell
 pub last-cell : (j : Job) (cells : List ℕ) → length cells ≡ cellCount j → at cells (length cells - 1) ≡ cellAt j cells (labels j) (j .budget)

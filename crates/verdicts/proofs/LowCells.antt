@@ -1,4 +1,4 @@
--- Rule 14 at one cell after the other: by the cells that the code reads, none of a label and one of it.
+-- Rule 14 at one cell after the other: by the cells that the code reads, none of a label and one of it; and kept below a cell.
 -- Assumes nothing.
 use mathlib.Core.Path.{_≡_, refl, sym, ap, ap₂, _∙_, subst}
 use mathlib.Core.Option.{none}
@@ -18,11 +18,12 @@ use Rattle.meaning.specs.Knapsacks.{cellNumber}
 use Rattle.meaning.specs.Certificates.{belowWith, cellAt, first, lowCell, mostPicks, someCount, tooLow}
 use Rattle.meaning.proofs.CellNumbers.{CellOf, cell-of}
 use Rattle.meaning.proofs.Verdicts.{none-first}
+use Rattle.verdicts.specs.declared.Found.{Found}
 use Rattle.verdicts.specs.declared.Found.the-variants.{At, Nowhere}
 use Rattle.verdicts.specs.Searching.{placeOf}
-use Rattle.verdicts.specs.Rows.{RowThere, anyOf, belowBefore, belowWithLabel, lowIn}
+use Rattle.verdicts.specs.LowRows.{RowThere, anyOf, belowBefore, belowWithLabel, lowIn}
 use Rattle.verdicts.proofs.Searching.{first-clear, first-fails, first-passes}
-use Rattle.verdicts.proofs.Rows.{from-within, passed-over}
+use Rattle.verdicts.proofs.LowRows.{from-within, passed-over}
 
 -- ---- the rule at one cell
 
@@ -35,7 +36,7 @@ module _ (j : Job) (cells : List ℕ) where
   lowAt m = tooLow j cells (m / width) (m % width)
 
   -- row 0 may hold any claims
-  pub row-0-free : first lowAt (1 * width) ≡ none
+  row-0-free : first lowAt (1 * width) ≡ none
   unfolding tooLow
   row-0-free =
       subst (λ (m : ℕ). first lowAt m ≡ none) (sym (one-mul width))
@@ -97,53 +98,72 @@ module _ (j : Job) (cells : List ℕ) where
           | no heavy ↦ one-of-it (omega arith) ∙ rw (le-leb w c (omega arith))
         ])
 
--- ---- a turn of the rows
+-- ---- a label's row
 
--- label i was read: w is its weight and v its value, and its row of cells is there
+-- label i was read, w is its weight and v its value; and there are as many cells as the job needs
 pub record LabelRead (j : Job) (cells : List ℕ) (i w v : ℕ) : Type 0 where
+  pub long : length cells ≡ cellCount j
   pub label : i < labels j
   pub w-is : w ≡ at (j .weights) i
   pub v-is : v ≡ at (j .values) i
-  pub inside : (i + 1) * (j .budget + 1) + (j .budget + 1) ≤ length cells
 
--- row i+1 lies within the cells
-pub row-inside : (n i width : ℕ) → i < n → (i + 1) * width + width ≤ (n + 1) * width
-row-inside n i width h = omega (arith, mul-le-mul-right width h, suc-mul i width, suc-mul n width)
+-- its row is there
+pub label-row : (j : Job) (cells : List ℕ) (i : ℕ) → length cells ≡ cellCount j → i < labels j
+    → RowThere cells ((i + 1) * (j .budget + 1)) (j .budget + 1)
+unfolding cellCount
+label-row j cells i long label =
+    let n = labels j in
+    let width = j .budget + 1 in
+    record { not-first = omega (arith, suc-mul i width); ends = omega (arith, mul-le-mul-right width label, suc-mul i width, suc-mul n width) }
 
-module _ (j : Job) (cells : List ℕ) (i w v : ℕ) (r : LabelRead j cells i w v) where
+-- ---- the rule kept below a cell
+
+-- nothing was found yet, and rule 14 is kept at every cell below m
+pub record KeptBelow (j : Job) (cells : List ℕ) (found : Found) (m : ℕ) : Type 0 where
+  pub nowhere : found ≡ Nowhere
+  pub kept : first (lowAt j cells) m ≡ none
+
+-- it is kept in row 0
+pub row-0-kept : (j : Job) (cells : List ℕ) → KeptBelow j cells Nowhere (1 * (j .budget + 1))
+row-0-kept j cells = record { nowhere = refl; kept = row-0-free j cells }
+
+module _ {j : Job} {cells : List ℕ} {i w v : ℕ} (r : LabelRead j cells i w v) where
   abbrev row : ℕ
   row = (i + 1) * (j .budget + 1)
-
-  pub row-there : RowThere cells row (j .budget + 1)
-  row-there = record { not-first = omega (arith, suc-mul i (j .budget + 1)); ends = r .inside }
 
   pub low-by : (c : ℕ) → c < j .budget + 1 → lowAt j cells (row + c) ≡ lowIn cells row (j .budget + 1) w v c
   low-by c h = low-is j cells i c (r .label) h ∙ ap₂ (λ (x y : ℕ). lowIn cells row (j .budget + 1) x y c) (sym (r .w-is)) (sym (r .v-is))
 
-  -- the search starts past cells that keep the rule
-  pub start-kept : (from : ℕ) → from ≡ if (anyOf (lowIn cells row (j .budget + 1) w v) 0 (j .budget + 1)) 0 (j .budget + 1)
-      → first (lowAt j cells) row ≡ none → first (lowAt j cells) (row + from) ≡ none
-  start-kept from from-is none-below =
-      first-clear (lowAt j cells) row none-below from
-      (λ c h. low-by c (omega (arith, from-within (anyOf (lowIn cells row (j .budget + 1) w v) 0 (j .budget + 1)) (j .budget + 1)))
-      ∙ passed-over (lowIn cells row (j .budget + 1) w v) (j .budget + 1) from from-is c h)
+  -- a row is searched from where it keeps the rule below
+  pub start-kept : {found : Found} (from : ℕ) → from ≡ if (anyOf (lowIn cells row (j .budget + 1) w v) 0 (j .budget + 1)) 0 (j .budget + 1)
+      → KeptBelow j cells found row → (from ≤ j .budget + 1) × KeptBelow j cells found (row + from)
+  start-kept from from-is k =
+      let test = lowIn cells row (j .budget + 1) w v in
+      let within = from-within (anyOf test 0 (j .budget + 1)) (j .budget + 1) in
+      let passed : (c : ℕ) → c < from → lowAt j cells (row + c) ≡ false =
+      λ c h. low-by c (omega (arith, within)) ∙ passed-over test (j .budget + 1) from from-is c h in
+      (omega (arith, within), record { nowhere = k .nowhere; kept = first-clear (lowAt j cells) row (k .kept) from passed })
 
--- ---- a cell passed, a row passed, and the cell found
+-- it is kept at one more, to the end of a row, or not at the one that is found
+module _ {j : Job} {cells : List ℕ} {found : Found} (row c : ℕ) (k : KeptBelow j cells found (row + c)) where
+  pub cell-passed : lowAt j cells (row + c) ≡ false → KeptBelow j cells found (row + (c + 1))
+  cell-passed keeps = record {
+    nowhere = k .nowhere;
+    kept = subst (λ (m : ℕ). first (lowAt j cells) m ≡ none) (add-assoc row c 1) (first-fails (lowAt j cells) (row + c) (k .kept) keeps);
+  }
 
-module _ (j : Job) (cells : List ℕ) (row c : ℕ) (none-below : first (lowAt j cells) (row + c) ≡ none) where
-  pub cell-passed : lowAt j cells (row + c) ≡ false → first (lowAt j cells) (row + (c + 1)) ≡ none
-  cell-passed keeps = subst (λ (m : ℕ). first (lowAt j cells) m ≡ none) (add-assoc row c 1) (first-fails (lowAt j cells) (row + c) none-below keeps)
-
-  pub row-passed : (i : ℕ) → row ≡ i * (j .budget + 1) → c ≡ j .budget + 1 → first (lowAt j cells) ((i + 1) * (j .budget + 1)) ≡ none
+  pub row-passed : (i : ℕ) → row ≡ i * (j .budget + 1) → c ≡ j .budget + 1 → KeptBelow j cells found ((i + 1) * (j .budget + 1))
   row-passed i row-is all =
       let next : row + c ≡ (i + 1) * (j .budget + 1) = omega (arith, suc-mul i (j .budget + 1)) in
-      subst (λ (m : ℕ). first (lowAt j cells) m ≡ none) next none-below
+      subst (λ (m : ℕ). KeptBelow j cells found m) next k
 
   pub cell-found : row + c < cellCount j → lowAt j cells (row + c) ≡ true → placeOf (At (row + c)) ≡ lowCell j cells
   unfolding placeOf lowCell
-  cell-found inside breaks = sym (first-passes (lowAt j cells) (row + c) none-below breaks (cellCount j) inside)
+  cell-found inside breaks = sym (first-passes (lowAt j cells) (row + c) (k .kept) breaks (cellCount j) inside)
 
 -- no cell is left
-pub none-found : (j : Job) (cells : List ℕ) (i : ℕ) → i ≡ labels j → first (lowAt j cells) ((i + 1) * (j .budget + 1)) ≡ none → placeOf Nowhere ≡ lowCell j cells
+pub none-found : {j : Job} {cells : List ℕ} {found : Found} (i : ℕ) → i ≡ labels j → KeptBelow j cells found ((i + 1) * (j .budget + 1))
+    → placeOf found ≡ lowCell j cells
 unfolding placeOf lowCell cellCount
-none-found j cells i all none-below = sym (ap (λ (n : ℕ). first (lowAt j cells) ((n + 1) * (j .budget + 1))) (sym all) ∙ none-below)
+none-found {j} {cells} i all k =
+    ap placeOf (k .nowhere) ∙ sym (ap (λ (n : ℕ). first (lowAt j cells) ((n + 1) * (j .budget + 1))) (sym all) ∙ k .kept)

@@ -12,7 +12,7 @@ ghost use Rattle.meaning.specs.Bytes.{numbersIn};
 ghost use Rattle.meaning.specs.Certificates.{lowCell, overPicked, verdictOnCells};
 ghost use Rattle.verdicts.specs.Searching.{placeOf};
 ghost use Rattle.verdicts.specs.Asked.{onceJob, FewPicks, CellsRead};
-ghost use Rattle.verdicts.specs.Rows.{RowThere, anyOf, belowBefore, belowEither, lowIn};
+ghost use Rattle.verdicts.specs.LowRows.{RowThere, anyOf, belowBefore, belowEither, lowIn};
 
 // The most picks that a label may have in a kind that has certificates: in kind 1, one.
 const MOST_PICKS: u32 = 1;

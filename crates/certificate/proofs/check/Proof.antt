@@ -1,16 +1,56 @@
 -- `certificate::check` meets its contract: what the job bytes are read as is asked about refusals 2 to 5, and then its certificate is judged.
 -- Assumes nothing.
-use mathlib.Core.Path.{sym, _∙_}
+use mathlib.Core.List.{List, [], _∷_}
+use mathlib.Core.Path.{_≡_, sym, _∙_}
+use Prim.Native.Nat.{ℕ}
 use borrow.Author.Needs.{needs}
-use Rattle.meaning.specs.Bytes.{between}
-use Rattle.requests.proofs.Reading.{PartsIn, unread, read-in}
+use Rattle.meaning.specs.Job.{Job}
+use Rattle.meaning.specs.Bytes.{readJob, readable}
+use Rattle.meaning.specs.Certificates.{certifiedRefusal}
+use Rattle.numbers.specs.TwoSlices.{jobFrom}
+use Rattle.requests.specs.declared.Parts.{Parts}
+use Rattle.requests.specs.Reading.{PartsOf}
+use Rattle.requests.proofs.Reading.{unread, read-in}
+use Rattle.certificate.proofs.Reading.{lists-cut}
 use Rattle.certificate.proofs.Checking.{not-read, job-refused, once-ok, once-judged}
 use Rattle.certificate.proofs.check.Statement.{statement}
 use Rattle.certificate.proofs.check.Tie as tie
 
--- the job's parts
-parts : (c : tie.After-request) → PartsIn (c .before .before .before .before .before .args .job .now) (c .request .given .0)
-parts c = read-in _ _ (c .request .given .1) (c .before .before .read-job .ensures)
+-- the job's bytes
+abbrev bytes : tie.After-read-job → List ℕ
+bytes c = c .before .before .before .args .job .now
+
+-- they are read as parts
+module _ (c : tie.After-known-told) where
+  abbrev read : tie.After-read-job
+  read = c .before .before .before
+
+  abbrev parts : Parts
+  parts = c .before .request .given .0 .0
+
+  parts-in : PartsOf (bytes read) parts
+  parts-in = read-in _ (c .before .request .given .1) (read .read-job .ensures)
+
+-- and the lists cut out of them
+module _ (c : tie.After-bytes-at3) where
+  abbrev told : tie.After-known-told
+  told = c .before .before .before
+
+  abbrev job : Job
+  job =
+      jobFrom (parts told .kind) (parts told .budget ∷ [])
+      [] (c .before .before .bytes-at .result .now) [] (c .before .bytes-at2 .result .now) [] (c .bytes-at3 .result .now)
+
+  cut : readJob (bytes (read told)) ≡ readable job
+  cut = lists-cut (bytes (read told)) (parts-in told) (c .before .before .bytes-at .ensures) (c .before .bytes-at2 .ensures) (c .bytes-at3 .ensures)
+
+-- where the job is asked about
+abbrev lists : tie.After-job-refusal → tie.After-bytes-at3
+lists c = c .before .before .before .before
+
+-- it isn't refused
+ok : (c : tie.Else1) → 0 ≡ certifiedRefusal (job (lists (c .before))) 0
+ok c = sym (c .if1 .left) ∙ c .before .job-refusal .ensures
 
 read-job-requires : tie.Need-read-job-requires
 read-job-requires c κs = search needs
@@ -26,35 +66,17 @@ refused-with-requires c κs = search needs
 
 returns : tie.Need-returns
 returns c =
-    let told = c .before .enum-told .given in
-    not-read _ _ _ (told .0 .0) (unread _ (told .0 .0) (told .1) (c .before .before .before .read-job .ensures)) (c .refused-with .ensures)
+    let broken = c .before .enum-told .given in
+    not-read _ _ _ (broken .0 .0) (unread _ (broken .1) (c .before .before .before .read-job .ensures)) (c .refused-with .ensures)
 
-sub-weights : tie.Need-sub-weights
-sub-weights c = parts (c .before) .weights-within .ordered
+bytes-at-requires : tie.Need-bytes-at-requires
+bytes-at-requires c κs = parts-in c .weights-within
 
-part-weights-start : tie.Need-part-weights-start
-part-weights-start c = parts (c .before) .weights-within .ordered
+bytes-at-requires-2 : tie.Need-bytes-at-requires-2
+bytes-at-requires-2 c κs = parts-in (c .before) .values-within
 
-part-weights-end : tie.Need-part-weights-end
-part-weights-end c = parts (c .before) .weights-within .inside
-
-sub-values : tie.Need-sub-values
-sub-values c = parts (c .before .before) .values-within .ordered
-
-part-values-start : tie.Need-part-values-start
-part-values-start c = parts (c .before .before) .values-within .ordered
-
-part-values-end : tie.Need-part-values-end
-part-values-end c = parts (c .before .before) .values-within .inside
-
-sub-copies : tie.Need-sub-copies
-sub-copies c = parts (c .before .before .before) .copies-within .ordered
-
-part-copies-start : tie.Need-part-copies-start
-part-copies-start c = parts (c .before .before .before) .copies-within .ordered
-
-part-copies-end : tie.Need-part-copies-end
-part-copies-end c = parts (c .before .before .before) .copies-within .inside
+bytes-at-requires-3 : tie.Need-bytes-at-requires-3
+bytes-at-requires-3 c κs = parts-in (c .before .before) .copies-within
 
 slice-aggregate-job-refusal : tie.Need-slice-aggregate-job-refusal
 slice-aggregate-job-refusal c = search needs
@@ -72,15 +94,15 @@ refused-with-requires-2 : tie.Need-refused-with-requires-2
 refused-with-requires-2 c κs = search needs
 
 returns-2 : tie.Need-returns-2
-unfolding between
-returns-2 c = job-refused _ _ _ _ (parts (c .before .before .before .before .before .before .before .before .before .before) .read) _ (c .before .before .job-refusal .ensures) (c .before .if1 .taken) (c .refused-with2 .ensures)
+returns-2 c =
+    let refusal = c .before .before in
+    job-refused _ _ _ _ (cut (lists refusal)) _ (refusal .job-refusal .ensures) (c .before .if1 .taken) (c .refused-with2 .ensures)
 
 judge-requires : tie.Need-judge-requires
-judge-requires c κs = once-ok _ _ _ _ _ (sym (c .if1 .left) ∙ c .before .job-refusal .ensures)
+judge-requires c κs = once-ok _ _ _ _ _ (ok c)
 
 returns-3 : tie.Need-returns-3
-unfolding between
-returns-3 c = once-judged _ _ _ _ _ (sym (c .before .if1 .left) ∙ c .before .before .job-refusal .ensures) _ _ _ (parts (c .before .before .before .before .before .before .before .before .before .before) .read) (c .judge .ensures)
+returns-3 c = once-judged _ _ _ _ _ (ok (c .before)) _ _ _ (cut (lists (c .before .before))) (c .judge .ensures)
 
 pub check-spec : {M : Type 1} → statement M
 check-spec =
@@ -91,15 +113,9 @@ check-spec =
     enum-told
     refused-with-requires
     returns
-    sub-weights
-    part-weights-start
-    part-weights-end
-    sub-values
-    part-values-start
-    part-values-end
-    sub-copies
-    part-copies-start
-    part-copies-end
+    bytes-at-requires
+    bytes-at-requires-2
+    bytes-at-requires-3
     slice-aggregate-job-refusal
     slice-aggregate-job-refusal-2
     slice-aggregate-job-refusal-3

@@ -4,9 +4,28 @@ use mathlib.Core.Path.{sym}
 use native.Mathlib.Omega.{arith}
 use lib.Seq.{length-take-le}
 use borrow.Author.Needs.{needs}
-use Rattle.certificate.proofs.Copying.{short-picks, short-cells, short-out, picks-long, cells-long, copied}
+use Rattle.certificate.proofs.Copying.{Roomy, short-picks, short-cells, short-out, picks-taken, cells-taken, picks-long, cells-long, copied}
 use Rattle.certificate.proofs.copy_out.Statement.{statement}
 use Rattle.certificate.proofs.copy_out.Tie as tie
+
+-- ---- the contexts, each by the one that it follows
+
+abbrev start : tie.Else1 → tie.Start
+start c = c .before .before .before .before
+
+abbrev asked : tie.After-write-section → tie.Else3
+asked c = c .before .before .before
+
+abbrev first : tie.After-write-section-arg4 → tie.After-write-section
+first c = c .before .before .before .before
+
+-- the three slices are long enough
+module _ (c : tie.Else3) where
+  abbrev entry : tie.Start
+  entry = start (c .before .before)
+
+  roomy : let a = entry .args in Roomy (a .n) (a .count) (a .picks .now) (a .cells .now) (a .out .now)
+  roomy = record { picks-fit = c .before .before .if1 .left; cells-fit = c .before .if2 .left; out-fits = omega (arith, c .if3 .left) }
 
 mul-needed : tie.Need-mul-needed
 mul-needed c = search needs
@@ -34,33 +53,26 @@ slice-aggregate-write-section c = sym (length-take-le _ _ (omega arith))
 
 write-section-requires : tie.Need-write-section-requires
 write-section-requires c κs =
-    let args = c .before .before .before .before .before .before .before .before .args in
-    let e = c .before .before in
-    let long = picks-long (args .n) (args .count) (args .picks .now) (args .cells .now) (args .out .now) (e .before .before .if1 .left) (e .before .if2 .left) in
-    (omega (arith, long), omega (arith, length-take-le (args .n) (args .picks .now) (e .before .before .if1 .left)))
+    let r = roomy (c .before .before) in
+    (omega (arith, picks-long r, r .out-fits), omega (arith, picks-taken r))
 
 slice-aggregate-write-section-2 : tie.Need-slice-aggregate-write-section-2
 slice-aggregate-write-section-2 c = sym (length-take-le _ _ (omega arith))
 
 write-section-requires-2 : tie.Need-write-section-requires-2
 write-section-requires-2 c κs =
-    let written = c .before .before .before .before in
-    let args = written .before .before .before .before .before .before .before .before .before .args in
-    let e = written .before .before .before in
-    let picks-fit = e .before .before .if1 .left in
-    let cells-fit = e .before .if2 .left in
-    let first = picks-long (args .n) (args .count) (args .picks .now) (args .cells .now) (args .out .now) picks-fit cells-fit in
-    let second = cells-long (args .n) (args .count) (args .picks .now) (args .cells .now) (args .out .now) picks-fit cells-fit in
-    (omega (arith, first, second, written .write-section .ensures .ends, written .write-section .kept .0), omega (arith, length-take-le (args .count) (args .cells .now) cells-fit))
+    let w = first c .write-section in
+    let r = roomy (asked (first c)) in
+    (omega (arith, picks-long r, cells-long r, r .out-fits, w .ensures .ends, w .kept .0), omega (arith, cells-taken r))
 
 same-length : tie.Need-same-length
 same-length c = search needs
 
 returns-4 : tie.Need-returns-4
 returns-4 c =
-    let written = c .before .before .before .before .before .before .before in
-    let e = written .before .before .before in
-    copied _ _ _ _ _ (e .before .before .if1 .left) (e .before .if2 .left) (e .if3 .left) _ _ _ _ (written .write-section .ensures) (c .before .before .write-section2 .ensures)
+    let second = c .before .before in
+    let one = first (second .before) in
+    copied (roomy (asked one)) _ _ _ _ (one .write-section .ensures) (second .write-section2 .ensures)
 
 pub copy-out-spec : {M : Type 1} → statement M
 copy-out-spec =

@@ -8,6 +8,13 @@ use borrow.Author.Needs.{needs}
 use Rattle.certificate.proofs.write.Statement.{statement}
 use Rattle.certificate.proofs.write.Tie as tie
 
+-- the function's entry, from where its lists are known and none stands beside them
+abbrev start : tie.After-none → tie.Start
+start c = c .before .before .before .before .before .before .before
+
+abbrev none-beside : tie.After-write-job → tie.After-none
+none-beside c = c .before .before .before .before
+
 slice-aggregate-write-job : tie.Need-slice-aggregate-write-job
 slice-aggregate-write-job c = search needs
 
@@ -26,8 +33,10 @@ same-length c = search needs
 returns : tie.Need-returns
 returns c =
     let d = c .before .before .write-job in
-    let a = c .before .before .before .before .before .before .before .before .before .before .before .before .before .args in
-    subst (λ (j : Job). Writes j (a .picks .now) (a .cells .now) (a .out .now) (d .result) (d .last .1 .1 .1 .1 .1 .1 .1 .1 .1 .1 .0)) (job-of-lists (a .kind) (a .budget) (a .weights .now) (a .values .now) (a .copies .now)) (d .ensures)
+    let a = start (none-beside (c .before .before)) .args in
+    let after = d .last .1 .1 .1 .1 .1 .1 .1 .1 .1 .1 .0 in
+    subst (λ (j : Job). Writes j (a .picks .now) (a .cells .now) (a .out .now) (d .result) after)
+    (job-of-lists (a .kind) (a .budget) (a .weights .now) (a .values .now) (a .copies .now)) (d .ensures)
 
 pub write-spec : {M : Type 1} → statement M
 write-spec =

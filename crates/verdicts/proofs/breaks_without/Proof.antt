@@ -1,14 +1,12 @@
 -- `verdicts::breaks_without` meets its contract: the budgets so far, and one more.
 -- Assumes nothing.
-use mathlib.Core.Path.{_≡_, ap, ap₂, _∙_}
+use mathlib.Core.Path.{_≡_, ap, _∙_}
 use Prim.Native.Nat.{_≤_, _-_}
 use native.Mathlib.Omega.{arith}
-use mathlib.Core.Bool.{_||_}
-use lib.Dec.{ltb}
 use Rattle.meaning.specs.Bytes.{numbersIn}
 use Rattle.meaning.proofs.Numbers.{numbers-long}
-use Rattle.verdicts.specs.Rows.{anyOf, belowBefore}
-use Rattle.verdicts.proofs.Rows.{any-start, any-next}
+use Rattle.verdicts.specs.LowRows.{anyOf, belowBefore}
+use Rattle.verdicts.proofs.LowRows.{any-start, before-next}
 use Rattle.verdicts.proofs.breaks_without.Statement.{statement}
 use Rattle.verdicts.proofs.breaks_without.Tie as tie
 
@@ -40,10 +38,9 @@ loop-less : tie.Need-loop-less Inv-loop μ-loop
 loop-less c = omega arith
 
 loop-again : tie.Need-loop-again Inv-loop μ-loop
-unfolding belowBefore
 loop-again c =
     let q = c .before .before .before .loop in
-    (omega arith, ap₂ _||_ (q .inv .1) (ap₂ ltb (c .before .number-in .ensures) (c .number-in2 .ensures)) ∙ any-next _ 0 (q .c) (omega arith))
+    (omega arith, before-next _ _ _ _ _ _ (c .before .number-in .ensures) (c .number-in2 .ensures) _ (q .inv .1))
 
 returns : tie.Need-returns Inv-loop μ-loop
 returns c =

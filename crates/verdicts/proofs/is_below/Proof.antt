@@ -2,7 +2,7 @@
 -- Assumes nothing.
 use native.Mathlib.Omega.{arith}
 use borrow.Author.Needs.{needs}
-use Rattle.verdicts.proofs.Rows.{below-sum}
+use Rattle.verdicts.proofs.LowRows.{below-sum}
 use Rattle.verdicts.proofs.is_below.Statement.{statement}
 use Rattle.verdicts.proofs.is_below.Tie as tie
 
