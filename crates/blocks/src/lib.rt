@@ -39,7 +39,7 @@ fn lay_stretch(row: &mut [u32], from: usize, to: usize, w: usize)
     }
 }
 
-// A stretch of so many cells is worth the start of a vector loop.
+// A size of so much is heavy: a stretch of so many cells is worth the start of a vector loop.
 const HEAVY: usize = 16;
 
 // Where a stretch of cells that starts at amount a ends. One as long as the size runs in vectors; a light size has one for the whole row.

@@ -155,7 +155,8 @@ fn climb(row: &mut [u32], w: u32, v: u32)
     }
 }
 
-// So much weighs enough: a stretch of so many cells runs in vectors. What weighs less is also told to the compiler, by a remainder (BUDGETS).
+// What weighs so much is heavy: a stretch of so many cells is worth a vector loop. A remainder by it changes no lighter weight, and tells
+// the compiler that it is small, as BUDGETS does.
 const HEAVY: u32 = 16;
 
 // Light labels are bundled: the row is made to hold fewer than a bundle of the label, and the size of a bundle is given. A bundle is
