@@ -5,21 +5,18 @@ use Prim.Native.Nat.{suc, ℕ}
 use mathlib.Core.List.{[], _∷_, map}
 use lib.ListN.{replicate}
 use Rattle.meaning.specs.Lists.{upTo}
-use Rattle.meaning.specs.Bounds.{mostLabels, mostSizes, mostClaims, mostBudget, mostShared, mostValue, mostCopies, leastCopies}
+use Rattle.meaning.specs.Bounds.{mostLabels, mostSizes, mostClaims, mostBudget, mostShared, mostValue, leastCopies}
 use Rattle.meaning.proofs.Opens.{opens}
 use Rattle.meaning.proofs.Cases.{plain}
 use Rattle.meaning.proofs.Computing.{Computes, _gives_, nothing, refusalOf}
 
--- document 01's own numbers: here alone they are said a second time, and a closed case below goes by the name
+-- document 01's own numbers: here alone they are said a second time, and a closed case below goes by the name (CornersNumbers has the other bounds)
 bounds : Computes (λ (x : ℕ). x) (
     mostLabels gives 1_024
     ∷ mostSizes gives 64
     ∷ mostClaims gives 1_024
     ∷ mostBudget gives 65_535
     ∷ mostShared gives 4_294_967_295
-    ∷ mostValue gives 65_535
-    ∷ mostCopies gives 65_535
-    ∷ leastCopies gives 0
     ∷ []
     )
 unfolding opens

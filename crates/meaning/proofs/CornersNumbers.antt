@@ -1,12 +1,22 @@
--- Corner cases of the rules on the numbers of a list (5), at their bounds and one past them.
+-- Corner cases of the rules on the numbers of a list (5), at their bounds and one past them, by the bounds' names; and the numbers that the names stand for.
 -- Assumes nothing.
 use mathlib.Core.Path.{refl}
-use Prim.Native.Nat.{suc}
+use Prim.Native.Nat.{suc, ℕ}
 use mathlib.Core.List.{[], _∷_}
 use Rattle.meaning.specs.Bounds.{leastCopies, mostBudget, mostCopies, mostValue}
 use Rattle.meaning.proofs.Opens.{opens}
 use Rattle.meaning.proofs.Cases.{plain}
 use Rattle.meaning.proofs.Computing.{Computes, _gives_, nothing, plenty, refusalOf}
+
+-- document 01's own numbers: here alone they are said a second time
+number-bounds : Computes (λ (x : ℕ). x) (
+    mostValue gives 65_535
+    ∷ mostCopies gives 65_535
+    ∷ leastCopies gives 0
+    ∷ []
+    )
+unfolding opens
+number-bounds = refl
 
 -- 5: the numbers; a job that keeps their rules gets on to 6
 refusal-5 : Computes refusalOf (
