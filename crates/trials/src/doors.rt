@@ -8,6 +8,15 @@ ghost use lib.ListN.{length};
 // Where the weights' count stands.
 const WEIGHTS: usize = 4;
 
+// How many cells, words and picks are lent where a job says nothing of it, and how many bytes a job may have: more than any of the list needs.
+const CELLS: usize = 131_072;
+
+const WORDS: usize = 65_536;
+
+const PICKS: usize = 4_096;
+
+const BYTES: usize = 65_536;
+
 // The lesser of two numbers.
 pub fn lesser(a: usize, b: usize) -> usize
     ensures { λ r. ⌜ (r ≤ a) × (r ≤ b) ⌝ }
@@ -63,8 +72,8 @@ fn lent(numbers: &[u32], which: usize, most: usize) -> usize
 }
 
 // Shows an answer with the picks of its labels.
-fn show(numbers: &[u32], answer: Answer, picks: [u32; 1_024], whole: bool) {
-    let n = lesser(wide(at(numbers, WEIGHTS)), 1_024);
+fn show(numbers: &[u32], answer: Answer, picks: [u32; PICKS], whole: bool) {
+    let n = lesser(wide(at(numbers, WEIGHTS)), PICKS);
     lines::show(at(numbers, 1), answer, &picks[0..n], whole);
 }
 
@@ -95,12 +104,12 @@ fn solve(
 
 // Its answer on what is lent, which held something else before.
 fn solve_and_show(numbers: &[u32], job: &[u8], as_bytes: bool, whole: bool) {
-    let c = lent(numbers, 1, 131_072);
-    let w = lent(numbers, 2, 65_536);
-    let p = lent(numbers, 3, 1_024);
-    let mut cells = [7u32; 131_072];
-    let mut words = [7u64; 65_536];
-    let mut picks = [9u32; 1_024];
+    let c = lent(numbers, 1, CELLS);
+    let w = lent(numbers, 2, WORDS);
+    let p = lent(numbers, 3, PICKS);
+    let mut cells = [7u32; CELLS];
+    let mut words = [7u64; WORDS];
+    let mut picks = [9u32; PICKS];
     let answer = solve(
         numbers,
         job,
@@ -128,7 +137,7 @@ fn put_bytes(numbers: &[u32], bytes: &mut [u8]) -> usize
 // Its answer to the job as bytes, after how many they are.
 fn by_bytes(numbers: &[u32], whole: bool) {
     let end = lesser(end_of_job(numbers), numbers.len());
-    let mut bytes = [0u8; 16_384];
+    let mut bytes = [0u8; BYTES];
     let size = put_bytes(&numbers[0..end], &mut bytes);
     lines::size(size);
     solve_and_show(numbers, &bytes[0..size], true, whole);

@@ -52,11 +52,11 @@ fn put(lines: &[u8], whole: bool) {
     all_within(lines);
 }
 
-// An answer. Its lines take at most 128 bytes and 21 for each pick.
+// An answer. Its lines take at most 128 bytes and 21 for each of 4,096 picks.
 pub fn show(kind: u32, answer: Answer, picks: &[u32], whole: bool)
-    requires { ⌜ length (now picks) ≤ 1_024 ⌝ }
+    requires { ⌜ length (now picks) ≤ 4_096 ⌝ }
 {
-    let mut out = [0u8; 21_632];
+    let mut out = [0u8; 86_144];
     let size = print::text(kind, answer, picks, &mut out);
     put(&out[0..size], whole);
 }

@@ -10,7 +10,7 @@ use libc::STDIN_FILENO;
 
 // Has the job after a place of a line answered and printed. Answers the place after the job.
 fn run_job(line: &[u8], place: usize, as_bytes: bool, whole: bool) -> usize {
-    let mut numbers = [0u32; 4_096];
+    let mut numbers = [0u32; 16_384];
     let end = reading::read_job(line, place, &mut numbers);
     doors::answer(&numbers, as_bytes, whole);
     end

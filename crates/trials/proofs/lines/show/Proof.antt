@@ -1,4 +1,4 @@
--- `trials::lines::show` is safe and ends: the lines of at most 1,024 picks have room.
+-- `trials::lines::show` is safe and ends: the lines of at most 4,096 picks have room.
 -- Assumes nothing.
 use Prim.Native.Nat.{_+_, _*_, _≤_}
 use native.Mathlib.Omega.{arith}
