@@ -1,5 +1,6 @@
 -- `requests::bytes_at` meets its contract: the part lies within the bytes, as it was asked.
 -- Assumes nothing.
+use mathlib.Core.Path.{refl}
 use Rattle.meaning.specs.Bytes.{between}
 use Rattle.requests.specs.Reading.{bytesAt}
 use borrow.Author.Needs.{needs}
@@ -17,7 +18,7 @@ part-result-end c = search needs
 
 returns : tie.Need-returns
 unfolding bytesAt between
-returns c = search needs
+returns c = refl
 
 pub bytes-at-spec : {M : Type 1} → statement M
 bytes-at-spec = tie.close (tie.spec sub-result part-result-start part-result-end returns)
