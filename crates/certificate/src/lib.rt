@@ -16,8 +16,7 @@ ghost use Rattle.numbers.specs.TwoSlices.{jobFrom};
 ghost use Rattle.verdicts.specs.Asked.{onceJob};
 ghost use Rattle.certificate.specs.Copying.{CopiedFor};
 
-// Where a list comes as numbers and as a part of the job bytes (`listFrom`), weights and wbytes are the weights, values and vbytes the values, copies and cbytes the
-// copies.
+// A list may come in two slices, of which one is empty: numbers (weights) and a part of the job bytes (wbytes), see `listFrom`.
 
 // The lowest of 2 to 5 that applies to a job, and 0 for none. Kind 1 alone has certificates.
 fn job_refusal(
@@ -30,7 +29,8 @@ fn job_refusal(
     copies: &[u32],
     cbytes: &[u8],
 ) -> u32
-    ensures { λ r. ⌜ r ≡ certifiedRefusal (jobFrom kind (budget ∷ []) (now (weights .entry)) (now (wbytes .entry)) (now (values .entry)) (now (vbytes .entry)) (now (copies .entry)) (now (cbytes .entry))) 0 ⌝ }
+    ensures { λ r. ⌜ r ≡ certifiedRefusal (jobFrom kind (budget ∷ []) (now (weights .entry)) (now (wbytes .entry))
+        (now (values .entry)) (now (vbytes .entry)) (now (copies .entry)) (now (cbytes .entry))) 0 ⌝ }
 {
     if kind != 1 {
         return 2;
@@ -149,7 +149,9 @@ fn write_job(
     cells: &[u32],
     out: &mut [u8],
 ) -> Written
-    ensures { λ r. ⌜ Writes (jobFrom kind (budget ∷ []) (now (weights .entry)) (now (wbytes .entry)) (now (values .entry)) (now (vbytes .entry)) (now (copies .entry)) (now (cbytes .entry))) (now (picks .entry)) (now (cells .entry)) (now (out .entry)) r (now (out .exit)) ⌝ }
+    ensures { λ r. ⌜ Writes (jobFrom kind (budget ∷ []) (now (weights .entry)) (now (wbytes .entry))
+        (now (values .entry)) (now (vbytes .entry)) (now (copies .entry)) (now (cbytes .entry))) (now (picks .entry)) (now (cells .entry))
+        (now (out .entry)) r (now (out .exit)) ⌝ }
 {
     let refused = job_refusal(
         kind,
@@ -180,7 +182,8 @@ pub fn write(
     cells: &[u32],
     out: &mut [u8],
 ) -> Written
-    ensures { λ r. ⌜ Writes (jobOf kind (budget ∷ []) (now (weights .entry)) (now (values .entry)) (now (copies .entry))) (now (picks .entry)) (now (cells .entry)) (now (out .entry)) r (now (out .exit)) ⌝ }
+    ensures { λ r. ⌜ Writes (jobOf kind (budget ∷ []) (now (weights .entry)) (now (values .entry)) (now (copies .entry)))
+        (now (picks .entry)) (now (cells .entry)) (now (out .entry)) r (now (out .exit)) ⌝ }
 {
     let none: [u8; 0] = [];
     write_job(

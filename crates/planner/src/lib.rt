@@ -19,8 +19,7 @@ ghost use Rattle.numbers.specs.TwoSlices.{jobFrom};
 ghost use Rattle.rules.specs.Ruling.{rulesFrom};
 ghost use Rattle.rules.specs.Places.{hasRoom};
 
-// Up to `decide`, a list comes as numbers and as a part of the job bytes (`listFrom`): weights and wbytes are the weights, values and vbytes the values, copies
-// and cbytes the copies.
+// Up to `decide`, a list comes in two slices, of which one is empty: numbers (weights) and a part of the job bytes (wbytes), see `listFrom`.
 
 // The lowest of 3 to 6 that applies to a job of a kind with these rules that needs this room, where the lent slices have these lengths;
 // and 0 for none.
@@ -38,7 +37,9 @@ fn refusal(
     words: usize,
     picks: usize,
 ) -> u32
-    ensures { λ r. ⌜ ((kind : ℕ) (needs-sum : Bool) → r ≡ jobRefusal (rulesFrom rules needs-sum) (jobFrom kind (budget ∷ []) (now (weights .entry)) (now (wbytes .entry)) (now (values .entry)) (now (vbytes .entry)) (now (copies .entry)) (now (cbytes .entry))) (if (hasRoom room cells words picks) 0 6)) ⌝ }
+    ensures { λ r. ⌜ ((kind : ℕ) (needs-sum : Bool) → r ≡ jobRefusal (rulesFrom rules needs-sum)
+        (jobFrom kind (budget ∷ []) (now (weights .entry)) (now (wbytes .entry))
+        (now (values .entry)) (now (vbytes .entry)) (now (copies .entry)) (now (cbytes .entry))) (if (hasRoom room cells words picks) 0 6)) ⌝ }
 {
     let refused = requests::job_refusal(
         rules,
@@ -76,7 +77,9 @@ fn pack(
     picks: &mut [u32],
 ) -> Answer
     requires { ⌜ (1 ≤ kind) × (kind ≤ 3) ⌝ }
-    ensures { λ r. ⌜ SolvedInCells (jobFrom kind (budget ∷ []) (now (weights .entry)) (now (wbytes .entry)) (now (values .entry)) (now (vbytes .entry)) (now (copies .entry)) (now (cbytes .entry))) (now (cells .entry)) (now (picks .entry)) r (now (cells .exit)) (now (picks .exit)) ⌝ }
+    ensures { λ r. ⌜ SolvedInCells (jobFrom kind (budget ∷ []) (now (weights .entry)) (now (wbytes .entry))
+        (now (values .entry)) (now (vbytes .entry)) (now (copies .entry)) (now (cbytes .entry))) (now (cells .entry)) (now (picks .entry))
+        r (now (cells .exit)) (now (picks .exit)) ⌝ }
 {
     let n = numbers::list_length(weights, wbytes);
     let rules = rules::knapsack_rules(kind);
@@ -123,7 +126,8 @@ fn reach(
     cbytes: &[u8],
     words: &mut [u64],
 ) -> Answer
-    ensures { λ r. ⌜ SolvedInWords (jobFrom 4 (budget ∷ []) (now (weights .entry)) (now (wbytes .entry)) (now (values .entry)) (now (vbytes .entry)) (now (copies .entry)) (now (cbytes .entry))) (now (words .entry)) r (now (words .exit)) ⌝ }
+    ensures { λ r. ⌜ SolvedInWords (jobFrom 4 (budget ∷ []) (now (weights .entry)) (now (wbytes .entry))
+        (now (values .entry)) (now (vbytes .entry)) (now (copies .entry)) (now (cbytes .entry))) (now (words .entry)) r (now (words .exit)) ⌝ }
 {
     let rules = rules::sums_rules();
     let room = rules::sums_room(budget);
@@ -162,7 +166,10 @@ fn lay(
     picks: &mut [u32],
 ) -> Answer
     requires { ⌜ (5 ≤ kind) × (kind ≤ 6) ⌝ }
-    ensures { λ r. ⌜ Solved (jobFrom kind (budget ∷ []) (now (weights .entry)) (now (wbytes .entry)) (now (values .entry)) (now (vbytes .entry)) (now (copies .entry)) (now (cbytes .entry))) (lentOf (now (cells .entry)) (now (words .entry)) (now (picks .entry))) r (lentOf (now (cells .exit)) (now (words .exit)) (now (picks .exit))) ⌝ }
+    ensures { λ r. ⌜ Solved (jobFrom kind (budget ∷ []) (now (weights .entry)) (now (wbytes .entry))
+        (now (values .entry)) (now (vbytes .entry)) (now (copies .entry)) (now (cbytes .entry)))
+        (lentOf (now (cells .entry)) (now (words .entry)) (now (picks .entry))) r
+        (lentOf (now (cells .exit)) (now (words .exit)) (now (picks .exit))) ⌝ }
 {
     let n = numbers::list_length(weights, wbytes);
     let rules = rules::blocks_rules();
@@ -198,7 +205,8 @@ fn share(
     cbytes: &[u8],
     picks: &mut [u32],
 ) -> Answer
-    ensures { λ r. ⌜ SolvedInPicks (jobFrom 7 (budget ∷ []) (now (weights .entry)) (now (wbytes .entry)) (now (values .entry)) (now (vbytes .entry)) (now (copies .entry)) (now (cbytes .entry))) (now (picks .entry)) r (now (picks .exit)) ⌝ }
+    ensures { λ r. ⌜ SolvedInPicks (jobFrom 7 (budget ∷ []) (now (weights .entry)) (now (wbytes .entry))
+        (now (values .entry)) (now (vbytes .entry)) (now (copies .entry)) (now (cbytes .entry))) (now (picks .entry)) r (now (picks .exit)) ⌝ }
 {
     let n = numbers::list_length(weights, wbytes);
     let rules = rules::shares_rules();
@@ -240,7 +248,10 @@ fn decide(
     words: &mut [u64],
     picks: &mut [u32],
 ) -> Answer
-    ensures { λ r. ⌜ Solved (jobFrom kind (budget ∷ []) (now (weights .entry)) (now (wbytes .entry)) (now (values .entry)) (now (vbytes .entry)) (now (copies .entry)) (now (cbytes .entry))) (lentOf (now (cells .entry)) (now (words .entry)) (now (picks .entry))) r (lentOf (now (cells .exit)) (now (words .exit)) (now (picks .exit))) ⌝ }
+    ensures { λ r. ⌜ Solved (jobFrom kind (budget ∷ []) (now (weights .entry)) (now (wbytes .entry))
+        (now (values .entry)) (now (vbytes .entry)) (now (copies .entry)) (now (cbytes .entry)))
+        (lentOf (now (cells .entry)) (now (words .entry)) (now (picks .entry))) r
+        (lentOf (now (cells .exit)) (now (words .exit)) (now (picks .exit))) ⌝ }
 {
     match kind {
         1..=3 => pack(
@@ -303,7 +314,9 @@ pub fn solve(
     words: &mut [u64],
     picks: &mut [u32],
 ) -> Answer
-    ensures { λ r. ⌜ Solved (jobOf kind (budget ∷ []) (now (weights .entry)) (now (values .entry)) (now (copies .entry))) (lentOf (now (cells .entry)) (now (words .entry)) (now (picks .entry))) r (lentOf (now (cells .exit)) (now (words .exit)) (now (picks .exit))) ⌝ }
+    ensures { λ r. ⌜ Solved (jobOf kind (budget ∷ []) (now (weights .entry)) (now (values .entry)) (now (copies .entry)))
+        (lentOf (now (cells .entry)) (now (words .entry)) (now (picks .entry))) r
+        (lentOf (now (cells .exit)) (now (words .exit)) (now (picks .exit))) ⌝ }
 {
     let none: [u8; 0] = [];
     decide(
@@ -330,7 +343,8 @@ pub struct Told {
 
 // Job bytes. Any bytes and any slices may be handed in. Each section is handed on as the part of the job that it stands in.
 pub fn solve_told(job: &[u8], cells: &mut [u32], words: &mut [u64], picks: &mut [u32]) -> Told
-    ensures { λ r. ⌜ ToldBytes (now (job .entry)) (lentOf (now (cells .entry)) (now (words .entry)) (now (picks .entry))) (r .kind) (r .labels) (r .answer) (lentOf (now (cells .exit)) (now (words .exit)) (now (picks .exit))) ⌝ }
+    ensures { λ r. ⌜ ToldBytes (now (job .entry)) (lentOf (now (cells .entry)) (now (words .entry)) (now (picks .entry)))
+        (r .kind) (r .labels) (r .answer) (lentOf (now (cells .exit)) (now (words .exit)) (now (picks .exit))) ⌝ }
 {
     let request = requests::read_job(job);
     let Request::Read(parts) = request else {
@@ -367,7 +381,8 @@ pub fn solve_told(job: &[u8], cells: &mut [u32], words: &mut [u64], picks: &mut 
 
 // The answer alone.
 pub fn solve_bytes(job: &[u8], cells: &mut [u32], words: &mut [u64], picks: &mut [u32]) -> Answer
-    ensures { λ r. ⌜ SolvedBytes (now (job .entry)) (lentOf (now (cells .entry)) (now (words .entry)) (now (picks .entry))) r (lentOf (now (cells .exit)) (now (words .exit)) (now (picks .exit))) ⌝ }
+    ensures { λ r. ⌜ SolvedBytes (now (job .entry)) (lentOf (now (cells .entry)) (now (words .entry)) (now (picks .entry))) r
+        (lentOf (now (cells .exit)) (now (words .exit)) (now (picks .exit))) ⌝ }
 {
     let told = solve_told(job, cells, words, picks);
     told.answer

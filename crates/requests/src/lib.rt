@@ -215,7 +215,9 @@ fn numbers_fit(
     copies: &[u32],
     cbytes: &[u8],
 ) -> bool
-    ensures { λ r. ⌜ ((kind budget : ℕ) (needs-sum : Bool) → r ≡ numbersFit (rulesFrom rules needs-sum) (jobFrom kind (budget ∷ []) (now (weights .entry)) (now (wbytes .entry)) (now (values .entry)) (now (vbytes .entry)) (now (copies .entry)) (now (cbytes .entry)))) ⌝ }
+    ensures { λ r. ⌜ ((kind budget : ℕ) (needs-sum : Bool) → r ≡ numbersFit (rulesFrom rules needs-sum)
+        (jobFrom kind (budget ∷ []) (now (weights .entry)) (now (wbytes .entry))
+        (now (values .entry)) (now (vbytes .entry)) (now (copies .entry)) (now (cbytes .entry)))) ⌝ }
 {
     let rule = rules.weights;
     if !keeps(rule, weights, wbytes) {
@@ -240,7 +242,9 @@ pub fn job_refusal(
     copies: &[u32],
     cbytes: &[u8],
 ) -> u32
-    ensures { λ r. ⌜ ((kind : ℕ) (needs-sum : Bool) → r ≡ jobRefusal (rulesFrom rules needs-sum) (jobFrom kind (budget ∷ []) (now (weights .entry)) (now (wbytes .entry)) (now (values .entry)) (now (vbytes .entry)) (now (copies .entry)) (now (cbytes .entry))) 0) ⌝ }
+    ensures { λ r. ⌜ ((kind : ℕ) (needs-sum : Bool) → r ≡ jobRefusal (rulesFrom rules needs-sum)
+        (jobFrom kind (budget ∷ []) (now (weights .entry)) (now (wbytes .entry))
+        (now (values .entry)) (now (vbytes .entry)) (now (copies .entry)) (now (cbytes .entry))) 0) ⌝ }
 {
     let n = numbers::list_length(weights, wbytes);
     let valued = numbers::list_length(values, vbytes);

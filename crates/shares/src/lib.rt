@@ -336,7 +336,8 @@ fn share(budget: u32, weights: &[u32], wbytes: &[u8], shares: &mut [u32]) -> u32
 // Kind 7: the shares and the spare of a job that no refusal meets.
 pub fn solve(budget: u32, weights: &[u32], wbytes: &[u8], picks: &mut [u32]) -> Answer
     requires { ⌜ Unrefused sharing (weightsFrom 7 (budget ∷ []) (now weights) (now wbytes)) (lentOf [] [] (now picks)) ⌝ }
-    ensures { λ r. ⌜ SolvedInPicks (weightsFrom 7 (budget ∷ []) (now (weights .entry)) (now (wbytes .entry))) (now (picks .entry)) r (now (picks .exit)) ⌝ }
+    ensures { λ r. ⌜ SolvedInPicks (weightsFrom 7 (budget ∷ []) (now (weights .entry)) (now (wbytes .entry))) (now (picks .entry)) r
+        (now (picks .exit)) ⌝ }
 {
     let n = numbers::list_length(weights, wbytes);
     let spare = share(budget, weights, wbytes, &mut picks[..n]);

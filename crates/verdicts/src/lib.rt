@@ -192,7 +192,8 @@ pub fn judge_cells(
 ) -> Verdict
     requires { ⌜ CellsRead (onceJob budget (now weights) (now values)) (numbersIn (now cells)) ⌝ }
     requires { ⌜ length (numbersIn (now picks)) ≡ labels (onceJob budget (now weights) (now values)) ⌝ }
-    ensures { λ r. ⌜ r ≡ verdictOnCells (onceJob budget (now (weights .entry)) (now (values .entry))) (numbersIn (now (picks .entry))) (numbersIn (now (cells .entry))) ⌝ }
+    ensures { λ r. ⌜ r ≡ verdictOnCells (onceJob budget (now (weights .entry)) (now (values .entry))) (numbersIn (now (picks .entry)))
+        (numbersIn (now (cells .entry))) ⌝ }
 {
     let over = over_picked(picks);
     if let Found::At(label) = over {
