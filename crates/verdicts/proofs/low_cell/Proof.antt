@@ -13,7 +13,8 @@ use Rattle.numbers.specs.TwoSlices.{listFrom}
 use Rattle.verdicts.specs.Asked.{onceJob}
 use Rattle.verdicts.specs.LowRows.{RowThere}
 use Rattle.verdicts.proofs.Once.{valid-once}
-use Rattle.verdicts.proofs.LowCells.{lowAt, LabelRead, label-row, KeptBelow, row-0-kept, low-by, start-kept, cell-passed, row-passed, cell-found, none-found}
+use Rattle.verdicts.proofs.LowCells.{lowAt, LabelRead, label-row, KeptBelow, row-0-kept}
+use Rattle.verdicts.proofs.LowCells.{low-by, start-kept, cell-passed, row-passed, cell-found, none-found}
 use Rattle.verdicts.proofs.low_cell.Statement.{statement}
 use Rattle.verdicts.proofs.low_cell.Tie as tie
 
