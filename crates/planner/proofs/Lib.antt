@@ -1,4 +1,4 @@
 -- Laws of this crate: from what a request was asked to what the planner promises.
-pub mod LetIn
+pub mod Preamble
 pub mod Laying
 pub mod Telling

@@ -9,7 +9,7 @@ use Rattle.meaning.specs.Lent.{Lent, lentOf}
 use Rattle.meaning.specs.Solved.{Unrefused}
 use Rattle.numbers.specs.TwoSlices.{jobFrom, weightsFrom}
 use Rattle.rules.specs.Places.{NeededBy}
-use Rattle.planner.proofs.LetIn.{Lowest, asked, let-in, turned-away, weights-alone}
+use Rattle.planner.proofs.Preamble.{Lowest, asked, let-in, turned-away, weights-alone}
 use Rattle.planner.proofs.Laying.{LaidKind, five-or-six, laid-alone, laid-claims, laid-in, laid-kind, laid-room, laid-rules}
 use borrow.Author.Needs.{needs}
 use Rattle.planner.proofs.lay.Statement.{statement}

@@ -14,7 +14,7 @@ use Rattle.knapsack.proofs.KnapsackDoor.{words-needed}
 use Rattle.rules.specs.Places.{NeededBy}
 use Rattle.rules.proofs.Places.{needed-within}
 use Rattle.rules.proofs.Ruling.{KnapsackOf, knapsack-of}
-use Rattle.planner.proofs.LetIn.{Lowest, asked, let-in, turned-away, unneeded}
+use Rattle.planner.proofs.Preamble.{Lowest, asked, let-in, turned-away, unneeded}
 use borrow.Author.Needs.{needs}
 use Rattle.planner.proofs.pack.Statement.{statement}
 use Rattle.planner.proofs.pack.Tie as tie

@@ -12,7 +12,7 @@ use Rattle.meaning.specs.Refusals.{claimsFit, rulesOf, weightRules}
 use Rattle.meaning.specs.Solved.{Unrefused}
 use Rattle.meaning.specs.SolvedIn.{SolvedInWords}
 use Rattle.numbers.specs.TwoSlices.{jobFrom, weightsFrom}
-use Rattle.planner.proofs.LetIn.{Lowest, asked, let-in, turned-away, unneeded, weights-alone}
+use Rattle.planner.proofs.Preamble.{Lowest, asked, let-in, turned-away, unneeded, weights-alone}
 use borrow.Author.Needs.{needs}
 use Rattle.planner.proofs.reach.Statement.{statement}
 use Rattle.planner.proofs.reach.Tie as tie

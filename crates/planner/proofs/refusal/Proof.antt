@@ -1,7 +1,7 @@
 -- `planner::refusal` meets its contract: 3 to 5 are asked, and then 6.
 -- Assumes nothing.
 use mathlib.Core.Path.{sym, _∙_}
-use Rattle.planner.proofs.LetIn.{room-unasked, has-the-room, lacks-the-room}
+use Rattle.planner.proofs.Preamble.{room-unasked, has-the-room, lacks-the-room}
 use borrow.Author.Needs.{needs}
 use Rattle.planner.proofs.refusal.Statement.{statement}
 use Rattle.planner.proofs.refusal.Tie as tie

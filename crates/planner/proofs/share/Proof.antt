@@ -13,7 +13,7 @@ use Rattle.meaning.specs.Solved.{Unrefused}
 use Rattle.meaning.specs.SolvedIn.{SolvedInPicks}
 use Rattle.numbers.specs.TwoSlices.{jobFrom, weightsFrom}
 use Rattle.rules.specs.Places.{NeededBy}
-use Rattle.planner.proofs.LetIn.{Lowest, asked, let-in, no-claims, turned-away, unneeded, weights-alone}
+use Rattle.planner.proofs.Preamble.{Lowest, asked, let-in, no-claims, turned-away, unneeded, weights-alone}
 use borrow.Author.Needs.{needs}
 use Rattle.planner.proofs.share.Statement.{statement}
 use Rattle.planner.proofs.share.Tie as tie

@@ -47,7 +47,7 @@ pub unneeded : (needed a b : ℕ) → needed ≡ 0 → leb needed a ≡ leb need
 unneeded needed a b none = rw (none, leb·zero a, leb·zero b)
 
 -- the rules of the job's kind; the room that it needs, where its bounds are kept; and lengths that pass the same tests as those of the lent slices
-pub record Chosen (k : Kind) (j : Job) (lent : Lent) (rules : Rules) (needs-sum : Bool) (room : Room) (cells words picks : ℕ) : Type 0 where
+pub record AskedBy (k : Kind) (j : Job) (lent : Lent) (rules : Rules) (needs-sum : Bool) (room : Room) (cells words picks : ℕ) : Type 0 where
   pub of-kind : kindOf (j .kind-number) ≡ some k
   pub its-rules : rulesFrom rules needs-sum ≡ rulesOf k
   pub its-room : labels j ≤ rulesOf k .label-bound → j .budget ≤ rulesOf k .budget-bound → NeededBy k (labels j) (j .budget) room
@@ -74,7 +74,7 @@ same-room need room cells words picks lent e a b c =
 
 -- so what was asked by it is the lowest
 module _ (k : Kind) (j : Job) (lent : Lent) (rules : Rules) (needs-sum : Bool) (room : Room) (cells words picks r : ℕ) where
-  pub asked : Chosen k j lent rules needs-sum room cells words picks
+  pub asked : AskedBy k j lent rules needs-sum room cells words picks
       → r ≡ jobRefusal (rulesFrom rules needs-sum) j (if (hasRoom room cells words picks) 0 6) → Lowest k j lent r
   unfolding NeededBy boundsFit
   asked by asked-so = record {
