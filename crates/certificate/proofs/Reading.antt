@@ -1,4 +1,4 @@
--- What is read: a job's lists, cut out of its bytes; and certificate bytes, section by section, where they break and where they come to the end.
+-- Certificate bytes, read section by section: where they break, and where they come to the end.
 -- Assumes nothing.
 use mathlib.Core.Path.{_≡_, sym, _∙_}
 use Prim.Native.Nat.{ℕ, _≤_, _<_}
@@ -16,19 +16,6 @@ use Rattle.meaning.specs.Bytes.{atEnd, between, numbersIn, readJob, readSection
 use Rattle.meaning.specs.Certificates.{certificateBroken, certificateCells, verdictOnCells, verdictOnCertificate}
 use Rattle.meaning.proofs.Numbers.{goes-on, section-found, section-numbers, stops}
 use Rattle.meaning.proofs.Verdicts.{needed-count}
-use Rattle.numbers.specs.TwoSlices.{jobFrom}
-use Rattle.requests.specs.declared.Parts.{Parts}
-use Rattle.requests.specs.Reading.{PartsOf, bytesAt}
-
--- ---- the job's bytes
-
--- the job with the lists that are cut out of the bytes is the one that they are read as
-pub lists-cut : (b : List ℕ) {parts : Parts} {weights values copies : List ℕ} → PartsOf b parts
-    → weights ≡ bytesAt b (parts .weights) → values ≡ bytesAt b (parts .values) → copies ≡ bytesAt b (parts .copies)
-    → readJob b ≡ readable (jobFrom (parts .kind) (parts .budget ∷ []) [] weights [] values [] copies)
-lists-cut b p weights-are values-are copies-are = rw (weights-are, values-are, copies-are) (p .read)
-
--- ---- the certificate's
 
 -- a section of a needed count: it stands within the bytes, and has that many numbers
 pub record Held (b : List ℕ) (start next count : ℕ) : Type 0 where

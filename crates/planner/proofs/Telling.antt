@@ -8,26 +8,24 @@ use Rattle.meaning.specs.declared.Answer.{Answer}
 use Rattle.meaning.specs.declared.Answer.the-variants as Says
 use Rattle.meaning.specs.Job.{jobOf, labels}
 use Rattle.meaning.specs.Lent.{Lent}
-use Rattle.meaning.specs.Bytes.{readJob, unreadable}
+use Rattle.meaning.specs.Bytes.{readJob, readable, unreadable}
 use Rattle.meaning.specs.Solved.{Solved}
 use Rattle.meaning.specs.Told.{ToldBytes, kindRead, labelsRead}
 use Rattle.meaning.proofs.Laws.{solved-bytes, solved-unreadable}
 use Rattle.numbers.specs.TwoSlices.{jobFrom, listFrom}
-use Rattle.requests.specs.declared.Parts.{Parts}
-use Rattle.requests.specs.Reading.{PartsOf, bytesAt, jobAt}
 
 -- bytes that can't be read tell nothing
 pub told-unread : (b : List ℕ) (before : Lent) {place : ℕ} → readJob b ≡ unreadable place → ToldBytes b before 0 0 (Says.Refused 1) before
 unfolding kindRead labelsRead
 told-unread b before {place} e = record { solved = solved-unreadable b place before e; kind-told = rw e; labels-told = rw e }
 
--- others tell of the job in their parts, whose bytes were cut out and handed on
-pub told-read : (b : List ℕ) (parts : Parts) (before after : Lent) (a : Answer) (wbytes vbytes cbytes : List ℕ) (n : ℕ) → PartsOf b parts
-    → wbytes ≡ bytesAt b (parts .weights) → vbytes ≡ bytesAt b (parts .values) → cbytes ≡ bytesAt b (parts .copies) → n ≡ length (listFrom [] wbytes)
-    → Solved (jobFrom (parts .kind) (parts .budget ∷ []) [] wbytes [] vbytes [] cbytes) before a after → ToldBytes b before (parts .kind) n a after
+-- others tell of the job that they are read as
+pub told-read : (b : List ℕ) (kind budget : ℕ) (wbytes vbytes cbytes : List ℕ) (before after : Lent) (a : Answer) (n : ℕ)
+    → readJob b ≡ readable (jobFrom kind (budget ∷ []) [] wbytes [] vbytes [] cbytes) → n ≡ length (listFrom [] wbytes)
+    → Solved (jobFrom kind (budget ∷ []) [] wbytes [] vbytes [] cbytes) before a after → ToldBytes b before kind n a after
 unfolding kindRead labelsRead jobOf labels
-told-read b parts before after a wbytes vbytes cbytes n of-job w v c counted solved = record {
-  solved = solved-bytes b (jobAt b parts) before after a (of-job .read) (rw (w, v, c) at solved);
-  kind-told = rw (of-job .read);
-  labels-told = rw (of-job .read, counted, w);
+told-read b kind budget wbytes vbytes cbytes before after a n reads counted solved = record {
+  solved = solved-bytes b (jobFrom kind (budget ∷ []) [] wbytes [] vbytes [] cbytes) before after a reads solved;
+  kind-told = rw reads;
+  labels-told = rw (reads, counted);
 }

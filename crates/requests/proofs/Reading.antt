@@ -3,7 +3,7 @@
 use mathlib.Core.Path.{_≡_, sym, ap, _∙_}
 use Prim.Native.Nat.{ℕ, _+_, _≤_, _<_}
 use native.Mathlib.Omega.{arith}
-use mathlib.Core.List.{List}
+use mathlib.Core.List.{List, [], _∷_}
 use lib.ListN.{length}
 use mir.Facts.{eqb-yes}
 use borrow.Author.Tests.{lt-ltb, le-ltb}
@@ -15,7 +15,7 @@ use Rattle.meaning.specs.Lists.{at, if}
 use Rattle.meaning.specs.Job.{jobOf}
 use Rattle.meaning.specs.Bytes.{JobRead, atEnd, between, isNeeded, numberAt, numbersIn, readJob, readSection, readable, unreadable, withSection}
 use Rattle.meaning.proofs.Numbers.{between-long, between-number, numbers-at, goes-on, numbers-long, section-found, stops}
-use Rattle.numbers.specs.TwoSlices.{listFrom}
+use Rattle.numbers.specs.TwoSlices.{jobFrom, listFrom}
 use Rattle.requests.specs.declared.Parts.{Parts}
 use Rattle.requests.specs.declared.Request.{Request}
 use Rattle.requests.specs.declared.Request.the-variants.{Read, Broken}
@@ -159,3 +159,9 @@ unread b e h = rw e at h
 pub read-in : (b : List ℕ) {r : Request} {parts : Parts} → r ≡ Read parts → ReadAs b r → PartsOf b parts
 unfolding ReadAs
 read-in b e h = rw e at h
+
+-- the job with the lists that are cut out of the bytes is the one that they are read as
+pub lists-cut : (b : List ℕ) {parts : Parts} {weights values copies : List ℕ} → PartsOf b parts
+    → weights ≡ bytesAt b (parts .weights) → values ≡ bytesAt b (parts .values) → copies ≡ bytesAt b (parts .copies)
+    → readJob b ≡ readable (jobFrom (parts .kind) (parts .budget ∷ []) [] weights [] values [] copies)
+lists-cut b p weights-are values-are copies-are = rw (weights-are, values-are, copies-are) (p .read)

@@ -10,8 +10,7 @@ use Rattle.meaning.specs.Certificates.{certifiedRefusal}
 use Rattle.numbers.specs.TwoSlices.{jobFrom}
 use Rattle.requests.specs.declared.Parts.{Parts}
 use Rattle.requests.specs.Reading.{PartsOf}
-use Rattle.requests.proofs.Reading.{unread, read-in}
-use Rattle.certificate.proofs.Reading.{lists-cut}
+use Rattle.requests.proofs.Reading.{lists-cut, unread, read-in}
 use Rattle.certificate.proofs.Checking.{not-read, job-refused, once-ok, once-judged}
 use Rattle.certificate.proofs.check.Statement.{statement}
 use Rattle.certificate.proofs.check.Tie as tie

@@ -4,8 +4,7 @@ use mathlib.Core.List.{List}
 use Prim.Native.Nat.{ℕ}
 use borrow.Author.Needs.{needs}
 use Rattle.requests.specs.Reading.{PartsOf}
-use Rattle.requests.proofs.Reading.{unread, read-in}
-use Rattle.certificate.proofs.Reading.{lists-cut}
+use Rattle.requests.proofs.Reading.{lists-cut, unread, read-in}
 use Rattle.certificate.proofs.Copying.{no-job, job-in-bytes}
 use Rattle.certificate.proofs.write_bytes.Statement.{statement}
 use Rattle.certificate.proofs.write_bytes.Tie as tie

@@ -1,7 +1,7 @@
 -- `planner::solve_told` meets its contract: what the bytes are read as is decided, part by part.
 -- Assumes nothing.
 use Rattle.requests.specs.Reading.{PartsOf}
-use Rattle.requests.proofs.Reading.{read-in, unread}
+use Rattle.requests.proofs.Reading.{lists-cut, read-in, unread}
 use Rattle.planner.proofs.Telling.{told-read, told-unread}
 use borrow.Author.Needs.{needs}
 use Rattle.planner.proofs.solve_told.Statement.{statement}
@@ -82,8 +82,8 @@ returns-2 : tie.Need-returns-2
 returns-2 c =
     let n = counted (decided c) in
     let p = n .before .before in
-    told-read _ _ _ _ _ _ _ _ _ (parts (taken p)) (p .before .before .bytes-at .ensures) (p .before .bytes-at2 .ensures) (p .bytes-at3 .ensures)
-    (n .list-length .ensures) (decided c .decide .ensures)
+    let cut = lists-cut _ (parts (taken p)) (p .before .before .bytes-at .ensures) (p .before .bytes-at2 .ensures) (p .bytes-at3 .ensures) in
+    told-read _ _ _ _ _ _ _ _ _ _ cut (n .list-length .ensures) (decided c .decide .ensures)
 
 pub solve-told-spec : {M : Type 1} → statement M
 solve-told-spec =
