@@ -2,8 +2,7 @@
 -- Assumes nothing.
 use mathlib.Core.Path.{_≡_, sym, _∙_}
 use Prim.Native.Nat.{ℕ, _≤_, _<_}
-use native.Mathlib.Omega.{arith}
-use mathlib.Core.List.{List, [], _∷_}
+use mathlib.Core.List.{List}
 use lib.ListN.{length}
 use borrow.Author.Tests.{lt-ltb, le-ltb}
 use Rattle.meaning.specs.declared.Verdict.{Verdict}
@@ -12,23 +11,23 @@ use Rattle.meaning.specs.declared.Section.the-variants.{Part, Broken}
 use Rattle.meaning.specs.declared.Needed.the-variants.{Exactly}
 use Rattle.meaning.specs.Lists.{if}
 use Rattle.meaning.specs.Job.{Job, labels}
-use Rattle.meaning.specs.Bytes.{atEnd, between, numbersIn, readJob, readSection, readable, withSection}
+use Rattle.meaning.specs.Bytes.{atEnd, between, numbersIn, readSection, withSection}
 use Rattle.meaning.specs.Certificates.{certificateBroken, certificateCells, verdictOnCells, verdictOnCertificate}
 use Rattle.meaning.proofs.Numbers.{goes-on, section-found, section-numbers, stops}
 use Rattle.meaning.proofs.Verdicts.{needed-count}
+use Rattle.requests.specs.Reading.{Within}
+use Rattle.requests.proofs.Reading.{within}
 
 -- a section of a needed count: it stands within the bytes, and has that many numbers
 pub record Held (b : List ℕ) (start next count : ℕ) : Type 0 where
-  pub ordered : start ≤ next
-  pub inside : next ≤ length b
+  pub part-within : Within b (record { start = start; end = next })
   pub long : length (numbersIn (between b start next)) ≡ count
 
 pub held : (needed : ℕ) (b : List ℕ) (p start count next : ℕ) → readSection (Exactly needed) b p ≡ Part start count next → Held b start next needed
 held needed b p start count next e =
     let f = section-found (Exactly needed) b p start count next e in
     record {
-      ordered = omega (arith, f .ends);
-      inside = f .inside;
+      part-within = within (Exactly needed) b p start count next e;
       long = section-numbers b start count next (f .ends) (f .inside) ∙ needed-count needed count (f .right);
     }
 

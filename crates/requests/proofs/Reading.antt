@@ -38,7 +38,7 @@ unfolding ReadAs brokenOf
 breaks b e f broke g = rw (g, f) (broke (sym e ∙ f))
 
 -- the part of a section
-within : (needed : Needed) (b : List ℕ) (p start count next : ℕ) → readSection needed b p ≡ Finds.Part start count next
+pub within : (needed : Needed) (b : List ℕ) (p start count next : ℕ) → readSection needed b p ≡ Finds.Part start count next
     → Within b (record { start = start; end = next })
 within needed b p start count next e =
     let f = section-found needed b p start count next e in

@@ -172,22 +172,22 @@ returns-3 c =
     c .refused-with3 .ensures ∙ left-over _ _ _ _ _ (picks-read (before-cells whole)) _ _ _ (cells-read whole) (c .before .if1 .taken)
 
 sub-judge-cells : tie.Need-sub-judge-cells
-sub-judge-cells c = picks-held (before-cells (c .before)) .ordered
+sub-judge-cells c = picks-held (before-cells (c .before)) .part-within .ordered
 
 part-judge-cells-start : tie.Need-part-judge-cells-start
-part-judge-cells-start c = picks-held (before-cells (c .before)) .ordered
+part-judge-cells-start c = picks-held (before-cells (c .before)) .part-within .ordered
 
 part-judge-cells-end : tie.Need-part-judge-cells-end
-part-judge-cells-end c = picks-held (before-cells (c .before)) .inside
+part-judge-cells-end c = picks-held (before-cells (c .before)) .part-within .inside
 
 sub-judge-cells-2 : tie.Need-sub-judge-cells-2
-sub-judge-cells-2 c = cells-held (c .before .before) .ordered
+sub-judge-cells-2 c = cells-held (c .before .before) .part-within .ordered
 
 part-judge-cells-start-2 : tie.Need-part-judge-cells-start-2
-part-judge-cells-start-2 c = cells-held (c .before .before) .ordered
+part-judge-cells-start-2 c = cells-held (c .before .before) .part-within .ordered
 
 part-judge-cells-end-2 : tie.Need-part-judge-cells-end-2
-part-judge-cells-end-2 c = cells-held (c .before .before) .inside
+part-judge-cells-end-2 c = cells-held (c .before .before) .part-within .inside
 
 judge-cells-requires : tie.Need-judge-cells-requires
 unfolding between
