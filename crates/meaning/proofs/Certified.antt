@@ -2,10 +2,10 @@
 -- Assumes nothing.
 use mathlib.Core.Path.{_∙_, _≡_, ap, refl, subst, sym}
 use mathlib.Core.Option.{Option, Option·some-injective, none, some}
-use Prim.Native.Nat.{_%_, _+_, _/_, _<_, _≤_, suc, ℕ, zero}
-use native.Mathlib.Nat.{le-refl, mod-lt, le-trans}
+use Prim.Native.Nat.{_%_, _/_, _<_, suc, ℕ, zero}
+use native.Mathlib.Nat.{mod-lt, le-trans}
 use native.Mathlib.Omega.{arith}
-use mathlib.Core.Bool.{not, true, Bool}
+use mathlib.Core.Bool.{not, true}
 use mathlib.Core.List.{List, [], _++_, _∷_}
 use lib.Dec.{T, lit<, ltb}
 use lib.ListN.{length}
@@ -14,128 +14,106 @@ use borrow.Author.Tests.{eq-eqb, eqb-true, le-ltb, ltb-false, lt-ltb, not-false}
 use Rattle.meaning.specs.declared.Verdict.{Verdict}
 use Rattle.meaning.specs.declared.Verdict.the-variants.{Accepted}
 use Rattle.meaning.specs.Lists.{at, every, total}
-use Rattle.meaning.specs.Job.{Job, Knapsack, packing, labels, once}
-use Rattle.meaning.specs.Lent.{cellCount}
-use Rattle.meaning.specs.Refusals.{rulesOf}
+use Rattle.meaning.specs.Job.{Job, Knapsack, once, limited, free, packing, labels, kindOf, allKinds}
+use Rattle.meaning.specs.Bounds.{mostBudget}
+use Rattle.meaning.specs.Refusals.{jobRefusal, rulesOf}
 use Rattle.meaning.specs.Bytes.{JobRead, bytesOf, bytesOfAll, readJob, readable, sectionBytes, unreadable}
-use Rattle.meaning.specs.Knapsacks.{Best, Fits, FullTable, cellNumber}
+use Rattle.meaning.specs.Knapsacks.{Best, Fits}
 use Rattle.meaning.specs.Answers.{verdictNumbers}
-use Rattle.meaning.specs.Certificates.{certifiedRefusal, cellAt, lowCell, misvalued, mostPicks, overPicked, overweight}
-use Rattle.meaning.specs.Certificates.{tooLow, verdictOf, verdictOnJob, certifiedAs, certifiedKnapsack, Checked}
+use Rattle.meaning.specs.Certificates.{cellAt, certificateCells, certifiedKnapsack, misvalued, mostPicks, overPicked, overweight}
+use Rattle.meaning.specs.Certificates.{verdictOf, verdictOnJob, Checked}
 use Rattle.meaning.specs.Demands.{AcceptedWith, Accepts, BestList, Demand3, Sound, ValidJob, areBytes, listIn}
 use Rattle.meaning.proofs.Totals.{total-part}
-use Rattle.meaning.proofs.CellNumbers.{RowAndBudget, CellOf, row-and-budget, cell-of}
 use Rattle.meaning.proofs.OneOfEach.{best-value-unique}
 use Rattle.meaning.proofs.Unique.{verdict-numbers-unique}
 use Rattle.meaning.proofs.Sections.{All32, limit32}
-use Rattle.meaning.proofs.Valid.{is-valid, Passed, Valid, cells-32, labels-32, has-passed}
-use Rattle.meaning.proofs.Covering.{CountsShown, covered, exact-keeps, once-shown}
-use Rattle.meaning.proofs.FullTables.{full-long, full-table, fullCells, table-32}
-use Rattle.meaning.proofs.Verdicts.{ReadAndSeen, Seen, accepts-seen, first-none, list-written, none-first}
+use Rattle.meaning.proofs.Valid.{is-valid, Valid, certificate-32, labels-32, has-passed}
+use Rattle.meaning.proofs.Covering.{CountsShown, Exact, counts-shown, covered, exact-corner, exact-keeps, fits-often, rule-in, rule-out}
+use Rattle.meaning.proofs.ExactCells.{cells-exact, exact-32, exact-long, exactCells}
+use Rattle.meaning.proofs.Verdicts.{JudgedAs, ReadAndSeen, Seen, accepts-seen, first-none, list-written, none-first}
 use Rattle.meaning.proofs.Verdicts.{on-readable, on-unreadable, read-and-seen, readable-on, verdict-written}
 
 -- ---- a job that a certificate may be for
 
--- the one knapsack that has certificates
-pub certified-once : (n : ℕ) (k : Knapsack) → certifiedKnapsack n ≡ some k → (n ≡ 1) × (k ≡ once)
-unfolding certifiedKnapsack
-certified-once zero k e = let z : _≡_ {A = ℕ} 0 1 = cc in absurd (omega arith)
-certified-once (suc zero) k e = (refl, sym (Option·some-injective once k e))
-certified-once (suc (suc n)) k e = let z : _≡_ {A = ℕ} 0 1 = cc in absurd (omega arith)
+none≢some : {k : Knapsack} → _≡_ {A = Option Knapsack} none (some k) → ⊥
+none≢some e = let z : _≡_ {A = ℕ} 0 1 = cc in omega arith
 
--- a kind that has certificates allows the counts that a certificate may show
-pub counts-shown : (j : Job) (k : Knapsack) → certifiedKnapsack (j .kind-number) ≡ some k → CountsShown k j
-counts-shown j k e = subst (λ (s : Knapsack). CountsShown s j) (sym (certified-once (j .kind-number) k e .1)) (once-shown j)
+-- its kind is a knapsack
+pub certified-kind : (n : ℕ) (k : Knapsack) → certifiedKnapsack n ≡ some k → kindOf n ≡ some (packing k)
+unfolding certifiedKnapsack kindOf allKinds
+certified-kind zero k e = absurd (none≢some e)
+certified-kind (suc zero) k e = ap (λ (s : Knapsack). some (packing s)) (Option·some-injective once k e)
+certified-kind (suc (suc zero)) k e = ap (λ (s : Knapsack). some (packing s)) (Option·some-injective limited k e)
+certified-kind (suc (suc (suc zero))) k e = ap (λ (s : Knapsack). some (packing s)) (Option·some-injective free k e)
+certified-kind (suc (suc (suc (suc n)))) k e = absurd (none≢some e)
 
--- not refused with 2 to 5: it is of a kind that has certificates, and keeps its rules
-pub record MayCertify (j : Job) (later : ℕ) : Type 0 where
-  pub knapsack : Knapsack
-  pub of-knapsack : certifiedKnapsack (j .kind-number) ≡ some knapsack
-  pub keeps : Passed (rulesOf (packing knapsack)) j later
+-- job bytes are of one knapsack
+pub one-knapsack : {jobB : List ℕ} {j j′ : Job} (v : ValidJob jobB j) (v′ : ValidJob jobB j′) → v .knapsack ≡ v′ .knapsack
+one-knapsack {jobB} {j} {j′} v v′ =
+    let same : j ≡ j′ = cc (v .reads, v′ .reads) in
+    Option·some-injective (v .knapsack) (v′ .knapsack)
+    (sym (v .of-knapsack) ∙ ap (λ (x : Job). certifiedKnapsack (x .kind-number)) same ∙ v′ .of-knapsack)
 
-pub may-certify : (j : Job) (later : ℕ) → certifiedRefusal j later ≡ 0 → MayCertify j later
-unfolding certifiedRefusal certifiedAs
-may-certify j later e = go (certifiedKnapsack (j .kind-number)) refl e
-  where
-    go : (o : Option Knapsack) → certifiedKnapsack (j .kind-number) ≡ o → certifiedAs o j later ≡ 0 → MayCertify j later
-    go none f h = absurd (omega arith)
-    go (some k) f h = record { knapsack = k; of-knapsack = f; keeps = has-passed (rulesOf (packing k)) j later h }
-
--- a job of such a kind that is not refused is valid
-pub certified-valid : (j : Job) (k : Knapsack) → certifiedKnapsack (j .kind-number) ≡ some k → certifiedRefusal j 0 ≡ 0 → Valid k j
-unfolding certifiedRefusal certifiedAs
-certified-valid j k e h = is-valid k j 0 (has-passed (rulesOf (packing k)) j 0 (ap (λ (o : Option Knapsack). certifiedAs o j 0) (sym e) ∙ h))
+-- a knapsack that isn't refused with 3 to 5 is valid
+pub certified-valid : (k : Knapsack) (j : Job) → jobRefusal (rulesOf (packing k)) j 0 ≡ 0 → Valid k j
+certified-valid k j ok = is-valid k j 0 (has-passed (rulesOf (packing k)) j 0 ok)
 
 -- ---- accepted picks are best, and best picks with exact cells are accepted, once over the allowed counts
 
-module _ (k : Knapsack) (j : Job) (shown : CountsShown k j) (picks cells : List ℕ) where
-  -- rule 14 at cell m
-  abbrev lowAt : ℕ → Bool
-  lowAt m = tooLow j cells (m / (j .budget + 1)) (m % (j .budget + 1))
+module _ (k : Knapsack) (j : Job) (v : Valid k j) (picks cells : List ℕ) where
+  abbrev shown : CountsShown k j
+  shown = counts-shown k j v
 
   -- first half: accepted picks are best
-  pub seen-best : (v : ℕ) → length picks ≡ labels j → Seen j picks cells v → Best k j (labels j) (j .budget) picks
-  unfolding overPicked overweight lowCell misvalued
-  seen-best v long s =
-      let rule : (i c : ℕ) → i < labels j → c ≤ j .budget → T (not (tooLow j cells (suc i) c)) =
-      λ i c hi hc.
-      let here : CellOf j (suc i) c = cell-of j (suc i) c hi hc in
-      let m : ℕ = cellNumber j (suc i) c in
-      subst (λ (y : ℕ). T (not (tooLow j cells (suc i) y))) (here .column)
-      (subst (λ (x : ℕ). T (not (tooLow j cells x (m % (j .budget + 1))))) (here .row)
-      (first-none lowAt (cellCount j) (s .rule-kept) m (here .inside))) in
+  pub seen-best : (worth : ℕ) → length picks ≡ labels j → Seen k j picks cells worth → Best k j (labels j) (j .budget) picks
+  unfolding overPicked overweight misvalued
+  seen-best worth long s =
       let fits : Fits k j (labels j) (j .budget) picks = record {
         selection = record {
           one-each = long;
           allowed =
-              λ m h. shown .allowed m (at picks m) (ltb-no (first-none (λ i. ltb (mostPicks j i) (at picks i)) (labels j) (s .within-counts) m h));
+              λ m h. shown .allowed m (at picks m) (ltb-no (first-none (λ i. ltb (mostPicks k j i) (at picks i)) (labels j) (s .within-counts) m h));
         };
         weight = omega (arith, ltb-false, s .light);
       } in
-      covered k j shown cells rule picks fits (eqb-true _ _ (not-false _ (s .same)))
+      covered k j shown cells (rule-in j cells k (s .rule-kept)) picks fits (eqb-true _ _ (not-false _ (s .same)))
 
   -- second half: best picks with exact cells are accepted
-  pub best-seen : Best k j (labels j) (j .budget) picks → FullTable k j cells → Seen j picks cells (total (j .values) picks)
-  unfolding overPicked overweight lowCell misvalued FullTable cellAt
-  best-seen best table =
-      let corner : cellAt j cells (labels j) (j .budget) ≡ total (j .values) picks =
-      best-value-unique (table (labels j) (j .budget) (le-refl (labels j)) (le-refl (j .budget)))
-      (record { picks = picks; best = best; value = refl }) in
+  pub best-seen : Best k j (labels j) (j .budget) picks → Exact k j cells → Seen k j picks cells (total (j .values) picks)
+  unfolding overPicked overweight misvalued
+  best-seen best exact =
+      let corner : cellAt k j cells (labels j) (j .budget) ≡ total (j .values) picks =
+      best-value-unique (exact-corner k j cells exact) (record { picks = picks; best = best; value = refl }) in
       record {
-        within-counts = none-first (λ i. ltb (mostPicks j i) (at picks i)) (labels j)
-            (λ i h.
-            no-ltb (shown .within i (at picks i) (best .fits .selection .allowed i h) (le-trans (total-part (j .weights) picks i) (best .fits .weight))));
+        within-counts = none-first (λ i. ltb (mostPicks k j i) (at picks i)) (labels j)
+            (λ i h. no-ltb (shown .within i (at picks i) h (best .fits .selection .allowed i h)
+            (le-trans (total-part (j .weights) picks i) (best .fits .weight))));
         light = le-ltb (j .budget) (total (j .weights) picks) (best .fits .weight);
-        rule-kept = none-first lowAt (cellCount j)
-            (λ m h.
-            let here : RowAndBudget j m = row-and-budget j m h in
-            exact-keeps k j shown cells table (m / (j .budget + 1)) (m % (j .budget + 1)) (here .row) (here .column));
-        same = ap not (eq-eqb (cellAt j cells (labels j) (j .budget)) (total (j .values) picks) corner);
+        rule-kept = rule-out j cells k (exact-keeps k j v shown cells exact);
+        same = ap not (eq-eqb (cellAt k j cells (labels j) (j .budget)) (total (j .values) picks) corner);
         value = refl;
       }
 
 -- best picks fit 32 bits
-pub picks-32 : (k : Knapsack) (j : Job) → CountsShown k j → (picks : List ℕ) → Best k j (labels j) (j .budget) picks → All32 picks
-unfolding All32
-picks-32 k j shown picks best m h =
+pub picks-32 : (k : Knapsack) (j : Job) → Valid k j → (picks : List ℕ) → Best k j (labels j) (j .budget) picks → All32 picks
+unfolding All32 mostBudget
+picks-32 k j v picks best m h =
     let m′ : m < labels j = omega (arith, best .fits .selection .one-each) in
-    let light = le-trans (total-part (j .weights) picks m) (best .fits .weight) in
-    omega (arith, shown .within m (at picks m) (best .fits .selection .allowed m m′) light, shown .narrow m)
+    omega (arith, fits-often v m (at picks m) m′ (le-trans (total-part (j .weights) picks m) (best .fits .weight)))
 
 -- ---- written as bytes
 
 -- the certificate of best picks and exact cells is accepted for a valid job
-pub accepted-written : (j : Job) (k : Knapsack) (picks cells : List ℕ) → certifiedKnapsack (j .kind-number) ≡ some k → certifiedRefusal j 0 ≡ 0
-    → BestList k j picks → length cells ≡ cellCount j → FullTable k j cells
+pub accepted-written : (k : Knapsack) (j : Job) (picks cells : List ℕ) → certifiedKnapsack (j .kind-number) ≡ some k
+    → jobRefusal (rulesOf (packing k)) j 0 ≡ 0 → BestList k j picks → length cells ≡ certificateCells k j → Exact k j cells
     → verdictOnJob (readable j) (sectionBytes picks ++ sectionBytes cells) ≡ Accepted (total (j .values) picks)
 unfolding BestList
-accepted-written j k picks cells of-knapsack ok best long table =
-    let v : Valid k j = certified-valid j k of-knapsack ok in
-    let shown : CountsShown k j = counts-shown j k of-knapsack in
-    readable-on j (sectionBytes picks ++ sectionBytes cells) ok
-    ∙ verdict-written j picks cells (best .fits .selection .one-each) long (labels-32 k j v) (cells-32 k j v)
-    (picks-32 k j shown picks best) (table-32 k j v cells long table)
-    ∙ accepts-seen j picks cells (total (j .values) picks) (best-seen k j shown picks cells best table)
+accepted-written k j picks cells of-knapsack ok best long exact =
+    let v : Valid k j = certified-valid k j ok in
+    readable-on k j (sectionBytes picks ++ sectionBytes cells) of-knapsack ok
+    ∙ verdict-written k j picks cells (best .fits .selection .one-each) long (labels-32 k j v) (certificate-32 k j v)
+    (picks-32 k j v picks best) (exact-32 k j v cells long exact)
+    ∙ accepts-seen k j picks cells (total (j .values) picks) (best-seen k j v picks cells best exact)
 
 -- what is written is bytes
 bytes-append : (xs ys : List ℕ) → T (areBytes xs) → T (areBytes ys) → T (areBytes (xs ++ ys))
@@ -181,13 +159,13 @@ accepted-best jobB certB v e = go (readJob jobB) refl
     go : (r : JobRead) → readJob jobB ≡ r → Sound jobB certB v
     go (unreadable place) f = absurd (on-unreadable place certB v (ap (λ (x : JobRead). verdictOnJob x certB) (sym f) ∙ e))
     go (readable j) f =
-        let (ok, judged) = on-readable j certB v (ap (λ (x : JobRead). verdictOnJob x certB) (sym f) ∙ e) in
-        let s : ReadAndSeen j certB v = read-and-seen j certB v judged in
-        let m : MayCertify j 0 = may-certify j 0 ok in
+        let m : JudgedAs j certB v = on-readable j certB v (ap (λ (x : JobRead). verdictOnJob x certB) (sym f) ∙ e) in
+        let k = m .knapsack in
+        let s : ReadAndSeen k j certB v = read-and-seen k j certB v (m .accepted) in
         record {
           job = j;
-          valid-job = record { reads = f; knapsack = m .knapsack; of-knapsack = m .of-knapsack; not-refused = ok };
-          best = seen-best (m .knapsack) j (counts-shown j (m .knapsack) (m .of-knapsack)) (listIn certB) (s .cells) v (s .long) (s .judged);
+          valid-job = record { reads = f; knapsack = k; of-knapsack = m .of-knapsack; not-refused = m .not-refused };
+          best = seen-best k j (certified-valid k j (m .not-refused)) (listIn certB) (s .cells) v (s .long) (s .judged);
           value = s .judged .value;
         }
 
@@ -196,8 +174,8 @@ module _ (jobB : List ℕ) (j : Job) (job-ok : ValidJob jobB j) (p : List ℕ) w
   abbrev k : Knapsack
   k = job-ok .knapsack
 
-  shown-here : CountsShown k j
-  shown-here = counts-shown j k (job-ok .of-knapsack)
+  valid-here : Valid k j
+  valid-here = certified-valid k j (job-ok .not-refused)
 
   on-job : (certB : List ℕ) → verdictOf jobB certB ≡ verdictOnJob (readable j) certB
   unfolding verdictOf
@@ -206,27 +184,27 @@ module _ (jobB : List ℕ) (j : Job) (job-ok : ValidJob jobB j) (p : List ℕ) w
   only-when : Accepts Checked jobB p → BestList k j p
   unfolding BestList
   only-when a =
-      let (ok, judged) =
-      on-readable j (a .certB) (a .value) (sym (on-job (a .certB)) ∙ verdict-is jobB (a .certB) (Accepted (a .value)) (a .accepted .verdict)) in
-      let s : ReadAndSeen j (a .certB) (a .value) = read-and-seen j (a .certB) (a .value) judged in
+      let accepted = sym (on-job (a .certB)) ∙ verdict-is jobB (a .certB) (Accepted (a .value)) (a .accepted .verdict) in
+      let judged = sym (readable-on k j (a .certB) (job-ok .of-knapsack) (job-ok .not-refused)) ∙ accepted in
+      let s : ReadAndSeen k j (a .certB) (a .value) = read-and-seen k j (a .certB) (a .value) judged in
       subst (λ (q : List ℕ). Best k j (labels j) (j .budget) q) (a .with-list)
-      (seen-best k j shown-here (listIn (a .certB)) (s .cells) (a .value) (s .long) (s .judged))
+      (seen-best k j valid-here (listIn (a .certB)) (s .cells) (a .value) (s .long) (s .judged))
 
   whenever : BestList k j p → Accepts Checked jobB p
   unfolding BestList
   whenever best =
-      let cells : List ℕ = fullCells k j shown-here in
-      let v : Valid k j = certified-valid j k (job-ok .of-knapsack) (job-ok .not-refused) in
-      let few : length p < limit32 = subst (λ (n : ℕ). n < limit32) (sym (best .fits .selection .one-each)) (labels-32 k j v) in
+      let shown : CountsShown k j = counts-shown k j valid-here in
+      let cells : List ℕ = exactCells k j shown in
+      let few : length p < limit32 = subst (λ (n : ℕ). n < limit32) (sym (best .fits .selection .one-each)) (labels-32 k j valid-here) in
       record {
         certB = sectionBytes p ++ sectionBytes cells;
         bytes = bytes-append (sectionBytes p) (sectionBytes cells) (section-are-bytes p) (section-are-bytes cells);
-        with-list = list-written p (sectionBytes cells) few (picks-32 k j shown-here p best);
+        with-list = list-written p (sectionBytes cells) few (picks-32 k j valid-here p best);
         value = total (j .values) p;
         accepted =
             accepted-with jobB (sectionBytes p ++ sectionBytes cells) (total (j .values) p)
             (on-job (sectionBytes p ++ sectionBytes cells)
-            ∙ accepted-written j k p cells (job-ok .of-knapsack) (job-ok .not-refused) best (full-long k j shown-here) (full-table k j shown-here));
+            ∙ accepted-written k j p cells (job-ok .of-knapsack) (job-ok .not-refused) best (exact-long k j shown) (cells-exact k j shown));
       }
 
 -- the checker's promise meets both

@@ -42,8 +42,9 @@ verdicts : Computes judge (
     ∷ (jobJ, 255 ∷ 255 ∷ 255 ∷ 255 ∷ []) gives Refused 11 0  -- a count far past the end
     ∷ (jobJ, []) gives Refused 11 0  -- no certificate
     ∷ ([], []) gives Refused 1 0  -- no job
-    ∷ (jobBytes (plain 2 2 (2 ∷ []) (3 ∷ []) (1 ∷ [])), []) gives Refused 2 0  -- kind 2
     ∷ (jobBytes (plain 0 2 (2 ∷ []) (3 ∷ []) []), []) gives Refused 2 0  -- kind 0
+    ∷ (jobBytes (plain 4 2 (2 ∷ []) [] []), []) gives Refused 2 0  -- kind 4
+    ∷ (jobBytes (plain 1 2 (4_294_967_295 ∷ []) (3 ∷ []) []), certJ (0 ∷ 0 ∷ 0 ∷ 0 ∷ 0 ∷ 0 ∷ [])) gives Refused 13 0  -- a weight of 32 bits
     ∷ (jobBytes (plain 1 2 (0 ∷ []) (3 ∷ []) []), []) gives Refused 5 0  -- the job before the certificate
     ∷ (empty 0, written [] (0 ∷ [])) gives Accepted 0  -- no labels
     ∷ (empty 0, written [] (1 ∷ [])) gives Refused 15 0  -- no labels, and 1 claimed
@@ -52,3 +53,80 @@ verdicts : Computes judge (
     )
 unfolding opens jobJ certJ pair empty written
 verdicts = refl
+
+-- ---- kind 2
+
+-- C 2, and a label that weighs 1, is worth v and has so many copies
+abbrev copied : ℕ → ℕ → List ℕ
+unfolding jobBytes
+copied v copies = jobBytes (plain 2 2 (1 ∷ []) (v ∷ []) (copies ∷ []))
+
+verdicts-copied : Computes judge (
+    (copied 3 2, written (2 ∷ []) (0 ∷ 0 ∷ 0 ∷ 0 ∷ 3 ∷ 6 ∷ [])) gives Accepted 6  -- exact cells
+    ∷ (copied 3 2, written (2 ∷ []) (0 ∷ 0 ∷ 0 ∷ 9 ∷ 9 ∷ 6 ∷ [])) gives Accepted 6  -- some above the best values
+    ∷ (copied 3 2, written (2 ∷ []) (0 ∷ 9 ∷ 0 ∷ 0 ∷ 3 ∷ 6 ∷ [])) gives Refused 14 4  -- too low for none
+    ∷ (copied 3 2, written (2 ∷ []) (0 ∷ 0 ∷ 0 ∷ 0 ∷ 2 ∷ 6 ∷ [])) gives Refused 14 4  -- for one
+    ∷ (copied 3 2, written (2 ∷ []) (0 ∷ 0 ∷ 0 ∷ 0 ∷ 3 ∷ 5 ∷ [])) gives Refused 14 5  -- for the last copy
+    ∷ (copied 3 1, written (1 ∷ []) (0 ∷ 0 ∷ 0 ∷ 0 ∷ 3 ∷ 3 ∷ [])) gives Accepted 3  -- a count past the copies isn't asked about
+    ∷ (copied 3 2, written (2 ∷ []) (0 ∷ 0 ∷ 0 ∷ 0 ∷ 3 ∷ 7 ∷ [])) gives Refused 15 0  -- 7 claimed, and 6 picked
+    ∷ (copied 3 0, written (0 ∷ []) (0 ∷ 0 ∷ 0 ∷ 0 ∷ 0 ∷ 0 ∷ [])) gives Accepted 0  -- no copies
+    ∷ (copied 3 0, written (1 ∷ []) (0 ∷ 0 ∷ 0 ∷ 0 ∷ 0 ∷ 0 ∷ [])) gives Refused 12 0  -- one picked of them
+    ∷ (copied 3 2, written (3 ∷ []) (0 ∷ 0 ∷ 0 ∷ 0 ∷ 3 ∷ 6 ∷ [])) gives Refused 12 0  -- a pick more than the copies
+    ∷ (copied 3 3, written (3 ∷ []) (0 ∷ 0 ∷ 0 ∷ 0 ∷ 3 ∷ 6 ∷ [])) gives Refused 13 0  -- as many, and too heavy
+    ∷ (copied 3 65_535, written (2 ∷ []) (0 ∷ 0 ∷ 0 ∷ 0 ∷ 3 ∷ 6 ∷ [])) gives Accepted 6  -- the most copies
+    ∷ (copied 3 65_535, written (65_535 ∷ []) (0 ∷ 0 ∷ 0 ∷ 0 ∷ 3 ∷ 6 ∷ [])) gives Refused 13 0  -- the most copies, all of them picked
+    ∷ (copied 3 65_535, written (65_536 ∷ []) (0 ∷ 0 ∷ 0 ∷ 0 ∷ 3 ∷ 6 ∷ [])) gives Refused 12 0  -- one more
+    ∷ (copied 3 65_536, []) gives Refused 5 0  -- a copies number past its bound
+    -- picks that weigh more than 32 bits
+    ∷ (jobBytes (plain 2 2 (4_294_967_295 ∷ []) (3 ∷ []) (65_535 ∷ [])), written (65_535 ∷ []) (0 ∷ 0 ∷ 0 ∷ 0 ∷ 0 ∷ 0 ∷ [])) gives Refused 13 0
+    -- two values and a cell near 2^32 pass 32 bits
+    ∷ (copied 65_535 2, written (2 ∷ []) (4_294_836_226 ∷ 0 ∷ 0 ∷ 4_294_836_226 ∷ 4_294_901_761 ∷ 4_294_967_295 ∷ [])) gives Refused 14 5
+    ∷ (copied 65_535 2, written (2 ∷ []) (4_294_836_225 ∷ 0 ∷ 0 ∷ 4_294_836_225 ∷ 4_294_901_760 ∷ 4_294_967_295 ∷ [])) gives Refused 15 0
+    ∷ (copied 3 2, written (2 ∷ []) (0 ∷ 3 ∷ 6 ∷ [])) gives Refused 11 0  -- one row for the table
+    ∷ (jobBytes (plain 2 2 (9 ∷ []) (3 ∷ []) (2 ∷ [])), written (0 ∷ []) (0 ∷ 0 ∷ 0 ∷ 0 ∷ 0 ∷ 0 ∷ [])) gives Accepted 0  -- a weight above C
+    ∷ (jobBytes (plain 2 0 (1 ∷ []) (3 ∷ []) (2 ∷ [])), written (0 ∷ []) (0 ∷ 0 ∷ [])) gives Accepted 0  -- C 0
+    ∷ (jobBytes (plain 2 0 (1 ∷ []) (3 ∷ []) (2 ∷ [])), written (0 ∷ []) (1 ∷ 0 ∷ [])) gives Refused 14 1  -- C 0, below the row before
+    ∷ (jobBytes (plain 2 0 [] [] []), written [] (0 ∷ [])) gives Accepted 0  -- no labels
+    ∷ []
+    )
+unfolding opens copied written
+verdicts-copied = refl
+
+-- ---- kind 3
+
+-- C 4, and a label that weighs 2 and is worth 3
+abbrev unlimited : List ℕ
+unfolding jobBytes
+unlimited = jobBytes (plain 3 4 (2 ∷ []) (3 ∷ []) [])
+
+-- C 2, and labels that weigh 1 and 2 and are worth 1 and 3
+abbrev two : List ℕ
+unfolding jobBytes
+two = jobBytes (plain 3 2 (1 ∷ 2 ∷ []) (1 ∷ 3 ∷ []) [])
+
+verdicts-free : Computes judge (
+    (unlimited, written (2 ∷ []) (0 ∷ 0 ∷ 3 ∷ 3 ∷ 6 ∷ [])) gives Accepted 6  -- exact cells
+    ∷ (unlimited, written (2 ∷ []) (0 ∷ 7 ∷ 3 ∷ 10 ∷ 6 ∷ [])) gives Accepted 6  -- some above the best values
+    ∷ (unlimited, written (2 ∷ []) (0 ∷ 7 ∷ 3 ∷ 3 ∷ 6 ∷ [])) gives Refused 14 3  -- which ask for more
+    ∷ (unlimited, written (2 ∷ []) (0 ∷ 0 ∷ 3 ∷ 3 ∷ 5 ∷ [])) gives Refused 14 4  -- too low at cell C
+    ∷ (unlimited, written (2 ∷ []) (0 ∷ 0 ∷ 0 ∷ 0 ∷ 0 ∷ [])) gives Refused 14 2  -- no cell below the weight is too low
+    ∷ (unlimited, written (2 ∷ []) (9 ∷ 0 ∷ 12 ∷ 3 ∷ 15 ∷ [])) gives Refused 15 0  -- cell 0 may be any; 15 claimed, and 6 picked
+    ∷ (unlimited, written (3 ∷ []) (0 ∷ 0 ∷ 3 ∷ 3 ∷ 6 ∷ [])) gives Refused 13 0  -- too heavy
+    ∷ (unlimited, written (65_535 ∷ []) (0 ∷ 0 ∷ 3 ∷ 3 ∷ 6 ∷ [])) gives Refused 13 0  -- the most picks
+    ∷ (unlimited, written (65_536 ∷ []) (0 ∷ 0 ∷ 3 ∷ 3 ∷ 6 ∷ [])) gives Refused 12 0  -- one more
+    ∷ (two, written (0 ∷ 1 ∷ []) (0 ∷ 1 ∷ 3 ∷ [])) gives Accepted 3  -- two labels
+    ∷ (two, written (0 ∷ 1 ∷ []) (0 ∷ 1 ∷ 1 ∷ [])) gives Refused 14 2  -- both at fault in one cell
+    ∷ (two, written (0 ∷ 1 ∷ []) (0 ∷ 0 ∷ 0 ∷ [])) gives Refused 14 1  -- the first cell, though a later one is lower
+    ∷ (two, written (0 ∷ 1 ∷ []) (4_294_967_294 ∷ 4_294_967_295 ∷ 4_294_967_295 ∷ [])) gives Refused 14 2  -- sums of cells pass 32 bits
+    -- picks that weigh more than 32 bits
+    ∷ (jobBytes (plain 3 0 (4_294_967_295 ∷ []) (1 ∷ []) []), written (65_535 ∷ []) (0 ∷ [])) gives Refused 13 0
+    ∷ (unlimited, written (2 ∷ []) (0 ∷ 0 ∷ 0 ∷ 0 ∷ 0 ∷ 0 ∷ 0 ∷ 3 ∷ 3 ∷ 6 ∷ [])) gives Refused 11 0  -- the count of the full table
+    ∷ (jobBytes (plain 3 1 (9 ∷ []) (3 ∷ []) []), written (0 ∷ []) (5 ∷ 0 ∷ [])) gives Accepted 0  -- a weight above C
+    ∷ (jobBytes (plain 3 0 (1 ∷ []) (3 ∷ []) []), written (0 ∷ []) (0 ∷ [])) gives Accepted 0  -- C 0
+    ∷ (jobBytes (plain 3 0 (1 ∷ []) (3 ∷ []) []), written (0 ∷ []) (1 ∷ [])) gives Refused 15 0  -- C 0, and 1 claimed
+    ∷ (jobBytes (plain 3 1 [] [] []), written [] (7 ∷ 0 ∷ [])) gives Accepted 0  -- no labels
+    ∷ (jobBytes (plain 3 2 (1 ∷ []) (0 ∷ []) []), []) gives Refused 5 0  -- the job before the certificate
+    ∷ []
+    )
+unfolding opens unlimited two written
+verdicts-free = refl

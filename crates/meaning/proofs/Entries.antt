@@ -14,11 +14,11 @@ use Rattle.meaning.specs.declared.Verdict.the-variants.{Accepted, Refuse
 use Rattle.meaning.specs.declared.Section.{Section}
 use Rattle.meaning.specs.declared.Section.the-variants.{Part, Broken}
 use Rattle.meaning.specs.Lists.{if}
-use Rattle.meaning.specs.Job.{Job}
+use Rattle.meaning.specs.Job.{Job, Knapsack}
 use Rattle.meaning.specs.Bytes.{JobRead, atEnd, readJob, readable, unreadable, withSection}
 use Rattle.meaning.specs.Answers.{verdictNumbers}
-use Rattle.meaning.specs.Certificates.{Checked, certificateBroken, certifiedRefusal, unlessFound, unlessRefused}
-use Rattle.meaning.specs.Certificates.{verdictOf, verdictOnCells, verdictOnCertificate, verdictOnJob}
+use Rattle.meaning.specs.Certificates.{Checked, certificateBroken, certifiedKnapsack, unlessFound, unlessRefused}
+use Rattle.meaning.specs.Certificates.{verdictFor, verdictOf, verdictOnCells, verdictOnCertificate, verdictOnJob}
 use Rattle.meaning.specs.Host.{refusalNumber, valueOrPlace}
 
 -- ---- no verdict refuses with 0
@@ -52,18 +52,23 @@ on-end : (b : List ℕ) (p : ℕ) (next : Verdict) → Numbered next → Numbere
 unfolding atEnd certificateBroken
 on-end b p next h = on-test (ltb p (length b)) 10 next h
 
-on-cells : (j : Job) (picks cells : List ℕ) → Numbered (verdictOnCells j picks cells)
+on-cells : (k : Knapsack) (j : Job) (picks cells : List ℕ) → Numbered (verdictOnCells k j picks cells)
 unfolding verdictOnCells
-on-cells j picks cells = on-found _ 11 _ (on-test _ 12 _ (on-found _ 13 _ (on-test _ 14 _ (accepts _))))
+on-cells k j picks cells = on-found _ 11 _ (on-test _ 12 _ (on-found _ 13 _ (on-test _ 14 _ (accepts _))))
 
-on-certificate : (j : Job) (b : List ℕ) → Numbered (verdictOnCertificate j b)
+on-certificate : (k : Knapsack) (j : Job) (b : List ℕ) → Numbered (verdictOnCertificate k j b)
 unfolding verdictOnCertificate
-on-certificate j b = on-section b _ _ (λ picks p. on-section b _ _ (λ cells q. on-end b q _ (on-cells j picks cells)))
+on-certificate k j b = on-section b _ _ (λ picks p. on-section b _ _ (λ cells q. on-end b q _ (on-cells k j picks cells)))
+
+on-knapsack : (o : Option Knapsack) (j : Job) (b : List ℕ) → Numbered (verdictFor o j b)
+unfolding verdictFor
+on-knapsack none j b = refuses 1 0
+on-knapsack (some k) j b = on-refusal _ (verdictOnCertificate k j b) (on-certificate k j b)
 
 on-job : (r : JobRead) (b : List ℕ) → Numbered (verdictOnJob r b)
 unfolding verdictOnJob
 on-job (unreadable place) b = refuses 0 0
-on-job (readable j) b = on-refusal (certifiedRefusal j 0) (verdictOnCertificate j b) (on-certificate j b)
+on-job (readable j) b = on-knapsack (certifiedKnapsack (j .kind-number)) j b
 
 -- ---- the two entries
 

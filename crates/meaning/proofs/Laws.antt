@@ -1,4 +1,4 @@
--- Laws of `Solved` and `SolvedBytes` that the operations' proofs cite in place of their text.
+-- Laws of `Solved`, `SolvedBytes` and `Writes` that the operations' proofs cite in place of their text.
 -- Assumes nothing.
 use mathlib.Core.Path.{_∙_, _≡_, ap, refl, subst, sym}
 use mathlib.Core.Logic.{_⊎_, inl, inr}
@@ -11,14 +11,17 @@ use lib.ListN.{drop, getElem?, length, take}
 use lib.Seq.{take-at}
 use Rattle.meaning.specs.declared.Answer.{Answer}
 use Rattle.meaning.specs.declared.Answer.the-variants as Says
+use Rattle.meaning.specs.declared.Written.{Written}
 use Rattle.meaning.specs.Slices.{Holds}
-use Rattle.meaning.specs.Job.{Job, Kind, kindOf, allKinds}
+use Rattle.meaning.specs.Job.{Job, Kind, Knapsack, kindOf, allKinds}
 use Rattle.meaning.specs.Lent.{Lent, roomFor}
 use Rattle.meaning.specs.Refusals.{kindRefusal}
 use Rattle.meaning.specs.Bytes.{readJob, readable, unreadable}
 use Rattle.meaning.specs.Answers.{answerNumbers}
 use Rattle.meaning.specs.Solved.{Unrefused, Answered, Gives, Outcome, Solved, SolvedAs}
 use Rattle.meaning.specs.Solved.{SolvedBytes, SolvedRead, TableHolds, TurnedDown, SolvedLists}
+use Rattle.meaning.specs.Certificates.{certifiedKnapsack}
+use Rattle.meaning.specs.Writer.{Writes, WritesAs, WritesFor, bytesNeeded, certificate, writerRefusal}
 use Rattle.meaning.proofs.EachKind.{gives-unique, table-unique}
 use Rattle.meaning.proofs.Unique.{no-influence, answer-numbers-unique}
 -- a kind's number, passed on
@@ -148,3 +151,20 @@ pub uninfluenced-bytes : (bytes : List ℕ) (k : Kind) (j : Job) (before after b
 uninfluenced-bytes bytes k j before after before′ after′ a a′ reads ok ok′ h h′ =
     uninfluenced k j before after before′ after′ a a′ ok ok′ (bytes-solved bytes j before after a reads h)
     (bytes-solved bytes j before′ after′ a′ reads h′)
+
+-- ---- the writer
+
+-- its promise for a job of a knapsack that has certificates
+module _ (k : Knapsack) (j : Job) (of-knapsack : certifiedKnapsack (j .kind-number) ≡ some k) (picks cells before : List ℕ) (a : Written)
+    (after : List ℕ) where
+  abbrev ByKnapsack : Type 0
+  ByKnapsack = WritesAs (writerRefusal k j picks cells before) (bytesNeeded k j) (certificate k j picks cells) before a after
+
+  pub knapsack-writes : ByKnapsack → Writes j picks cells before a after
+  unfolding Writes WritesFor
+  knapsack-writes h = rw of-knapsack h
+
+  -- and back
+  pub writes-knapsack : Writes j picks cells before a after → ByKnapsack
+  unfolding Writes WritesFor
+  writes-knapsack h = rw of-knapsack at h

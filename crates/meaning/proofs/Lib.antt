@@ -31,7 +31,7 @@ pub mod Sections
 pub mod Valid
 pub mod SolvedIn
 pub mod Covering
-pub mod FullTables
+pub mod ExactCells
 pub mod Verdicts
 pub mod Certified
 pub mod Ours

@@ -3,7 +3,7 @@
 use Rattle.meaning.specs.Lists.{sum, total, every, upTo, if, tally}
 use Rattle.meaning.specs.Job.{jobOf, budgetsOf, labels, allKinds, kindOf}
 use Rattle.meaning.specs.Lent.{lentOf, roomOf, cellCount, roomFor}
-use Rattle.meaning.specs.Bounds.{mostLabels, mostSizes, mostClaims, mostBudget, mostShared, mostValue, mostCopies, leastCopies}
+use Rattle.meaning.specs.Bounds.{mostLabels, mostSizes, mostClaims, mostBudget, mostShared, mostValue, mostCopies, leastCopies, mostOfOne}
 use Rattle.meaning.specs.Refusals.{positive, ascendingFrom, anything, eachWithin, hasCopies, leastValue, knapsackRules, weightRules}
 use Rattle.meaning.specs.Refusals.{rulesOf, listsFit, boundsFit, numbersFit, roomFits, claimsFit, jobRefusal, kindRefusal}
 use Rattle.meaning.specs.Bytes.{numberAt, numbersIn, between, isNeeded, wholeSection, readSection, withSection}
@@ -13,15 +13,15 @@ use Rattle.meaning.specs.Blocks.{blockOrder, tooMany}
 use Rattle.meaning.specs.Shares.{startOf, remainderOf, spareOf, precedes, rankOf, shareOf, sharesOf}
 use Rattle.meaning.specs.Answers.{answerNumbers, verdictNumbers, writtenNumbers}
 use Rattle.meaning.specs.Solved.{waysAnswer}
-use Rattle.meaning.specs.Certificates.{orElse, first, someCount, mostPicks, cellAt, belowWith, tooLow, overPicked, overweight, lowCell}
-use Rattle.meaning.specs.Certificates.{misvalued, unlessFound, verdictOnCells, certificateBroken, verdictOnCertificate, certifiedKnapsack}
-use Rattle.meaning.specs.Certificates.{certifiedAs, certifiedRefusal, unlessRefused, verdictOnJob, verdictOf}
+use Rattle.meaning.specs.Certificates.{orElse, first, someOf, mostPicks, certificateCells, certificateCell, cellAt, belowWith, lowInRow, lowForOne}
+use Rattle.meaning.specs.Certificates.{tooLow, overPicked, overweight, lowCell, misvalued, unlessFound, verdictOnCells, certificateBroken}
+use Rattle.meaning.specs.Certificates.{verdictOnCertificate, certifiedKnapsack, verdictFor, unlessRefused, verdictOnJob, verdictOf}
 
 unfoldable pub opens : Unit {0}
 unfolding sum total every upTo if tally
     jobOf budgetsOf labels allKinds kindOf
     lentOf roomOf cellCount roomFor
-    mostLabels mostSizes mostClaims mostBudget mostShared mostValue mostCopies leastCopies
+    mostLabels mostSizes mostClaims mostBudget mostShared mostValue mostCopies leastCopies mostOfOne
     positive ascendingFrom anything eachWithin hasCopies leastValue knapsackRules weightRules
     rulesOf listsFit boundsFit numbersFit roomFits claimsFit jobRefusal kindRefusal
     numberAt numbersIn between isNeeded wholeSection readSection withSection
@@ -31,7 +31,7 @@ unfolding sum total every upTo if tally
     startOf remainderOf spareOf precedes rankOf shareOf sharesOf
     answerNumbers verdictNumbers writtenNumbers
     waysAnswer
-    orElse first someCount mostPicks cellAt belowWith tooLow overPicked overweight lowCell
+    orElse first someOf mostPicks certificateCells certificateCell cellAt belowWith lowInRow lowForOne tooLow overPicked overweight lowCell
     misvalued unlessFound verdictOnCells certificateBroken verdictOnCertificate certifiedKnapsack
-    certifiedAs certifiedRefusal unlessRefused verdictOnJob verdictOf
+    verdictFor unlessRefused verdictOnJob verdictOf
 opens = tt

@@ -1,7 +1,7 @@
--- Given the picks and the full table as a kind 1 answer left them, the writer's output, unless refused, is accepted for that job.
+-- Given the picks and the table as an answer of kinds 1 to 3 left them, the writer's output, unless refused, is accepted for that job.
 -- Assumes nothing.
 use mathlib.Core.Path.{_∙_, _≡_, ap, ap₂, refl, subst, sym}
-use mathlib.Core.Option.{some}
+use mathlib.Core.Option.{Option, none, some}
 use Prim.Native.Nat.{_≤_, suc, zero, ℕ, zero-le}
 use native.Mathlib.Omega.{arith}
 use mathlib.Core.Bool.{Bool, _&&_, not}
@@ -15,59 +15,70 @@ use Rattle.meaning.specs.declared.Answer.the-variants as Says
 use Rattle.meaning.specs.declared.Written.the-variants.{Bytes, Refused}
 use Rattle.meaning.specs.Lists.{if, total}
 use Rattle.meaning.specs.Slices.{Holds}
-use Rattle.meaning.specs.Job.{Job, Kind, kindOf, allKinds, packing, labels, once, Knapsack}
-use Rattle.meaning.specs.Lent.{Lent, Room, cellCount, roomFor, roomOf}
-use Rattle.meaning.specs.Refusals.{kindRefusal, rulesOf, roomFits}
+use Rattle.meaning.specs.Job.{Job, Kind, packing, labels, once, limited, free, Knapsack}
+use Rattle.meaning.specs.Lent.{Lent, Room, roomFor, roomOf}
+use Rattle.meaning.specs.Refusals.{jobRefusal, kindRefusal, rulesOf, roomFits}
 use Rattle.meaning.specs.Bytes.{JobRead, readJob, readable, sectionBytes, unreadable}
-use Rattle.meaning.specs.Knapsacks.{BestPicks, ValueTable}
+use Rattle.meaning.specs.Knapsacks.{BestPicks}
 use Rattle.meaning.specs.Answers.{answerNumbers, writtenNumbers, AnswerNumbers}
 use Rattle.meaning.specs.Solved.{Answered, Gives, Outcome, Packed, Solved, SolvedBytes, SolvedRead, TableHolds}
-use Rattle.meaning.specs.Certificates.{Checked, certifiedRefusal, verdictOf, verdictOnJob}
-use Rattle.meaning.specs.Writer.{Writes, WritesBytes, WritesRead, bytesNeeded, newBytes}
+use Rattle.meaning.specs.Certificates.{Checked, certificateCells, certifiedKnapsack, verdictOf, verdictOnJob}
+use Rattle.meaning.specs.Writer.{Writes, WritesBytes, WritesFor, WritesRead, bytesNeeded, newBytes}
 use Rattle.meaning.specs.Writer.{certificate, slicesFit, writerRefusal, writtenAs, WritesAs}
 use Rattle.meaning.specs.Demands.{AcceptedWith, BestList, OursAccepted}
 use Rattle.meaning.proofs.Unique.{answer-numbers-unique, written-numbers-unique}
 use Rattle.meaning.proofs.Laws.{holds-first, kind-solved}
 use Rattle.meaning.proofs.Numbers.{section-long}
-use Rattle.meaning.proofs.Valid.{Passed, not-refused, past-if}
-use Rattle.meaning.proofs.Certified.{accepted-with, accepted-written, MayCertify, certified-once, may-certify}
+use Rattle.meaning.proofs.Valid.{Passed, has-passed, not-refused, past-if}
+use Rattle.meaning.proofs.Covering.{exact-table}
+use Rattle.meaning.proofs.Certified.{accepted-with, accepted-written, certified-kind}
 
 -- ---- the bytes of a certificate
 
--- 8 + 4n + 4(n+1)(C+1) of them
-pub certificate-long : (j : Job) (picks cells : List ℕ) → labels j ≤ length picks → cellCount j ≤ length cells
-    → length (certificate j picks cells) ≡ bytesNeeded j
+-- as many as are needed
+pub certificate-long : (k : Knapsack) (j : Job) (picks cells : List ℕ) → labels j ≤ length picks → certificateCells k j ≤ length cells
+    → length (certificate k j picks cells) ≡ bytesNeeded k j
 unfolding certificate bytesNeeded
-certificate-long j picks cells hp hc =
+certificate-long k j picks cells hp hc =
     let p : List ℕ = take (labels j) picks in
-    let k : List ℕ = take (cellCount j) cells in
+    let c : List ℕ = take (certificateCells k j) cells in
     omega (
       arith,
-      length-append (sectionBytes p) (sectionBytes k),
+      length-append (sectionBytes p) (sectionBytes c),
       section-long p,
-      section-long k,
+      section-long c,
       length-take-le (labels j) picks hp,
-      length-take-le (cellCount j) cells hc,
+      length-take-le (certificateCells k j) cells hc,
     )
 
 -- ---- a writer that answers how many bytes it wrote
 
--- it didn't refuse, and wrote the certificate
+-- the job is of a knapsack that has certificates, the writer didn't refuse, and wrote one
 pub record WroteAll (j : Job) (picks cells out : List ℕ) (n : ℕ) (out′ : List ℕ) : Type 0 where
-  pub not-turned-down : writerRefusal j picks cells out ≡ 0
-  pub many : n ≡ bytesNeeded j
-  pub written : Holds (certificate j picks cells) out out′
+  pub knapsack : Knapsack
+  pub of-knapsack : certifiedKnapsack (j .kind-number) ≡ some knapsack
+  pub not-turned-down : writerRefusal knapsack j picks cells out ≡ 0
+  pub many : n ≡ bytesNeeded knapsack j
+  pub written : Holds (certificate knapsack j picks cells) out out′
 
 bytes≢refused : (n r : ℕ) → writtenNumbers (Bytes n) ≡ writtenNumbers (Refused r) → ⊥
 bytes≢refused n r e = let f : Bytes n ≡ Refused r = written-numbers-unique (Bytes n) (Refused r) e in let z : _≡_ {A = ℕ} 0 1 = cc in omega arith
 
-wrote-all : (r : ℕ) (j : Job) (picks cells out : List ℕ) (n : ℕ) (out′ : List ℕ) → writerRefusal j picks cells out ≡ r
-    → WritesAs r (bytesNeeded j) (certificate j picks cells) out (Bytes n) out′ → WroteAll j picks cells out n out′
+-- bytes were written, so there was no refusal
+wrote-as : (r many : ℕ) (certB out : List ℕ) (n : ℕ) (out′ : List ℕ) → WritesAs r many certB out (Bytes n) out′
+    → (r ≡ 0) × (n ≡ many) × Holds certB out out′
 unfolding writtenAs newBytes
-wrote-all zero j picks cells out n out′ e w =
-    let f : Bytes n ≡ Bytes (bytesNeeded j) =
-    written-numbers-unique (Bytes n) (Bytes (bytesNeeded j)) (w .numbers) in record { not-turned-down = e; many = cc; written = w .leaves }
-wrote-all (suc r) j picks cells out n out′ e w = absurd (bytes≢refused n (suc r) (w .numbers))
+wrote-as zero many certB out n out′ w =
+    let f : Bytes n ≡ Bytes many = written-numbers-unique (Bytes n) (Bytes many) (w .numbers) in (refl, cc, w .leaves)
+wrote-as (suc r) many certB out n out′ w = absurd (bytes≢refused n (suc r) (w .numbers))
+
+wrote-all : (o : Option Knapsack) (j : Job) (picks cells out : List ℕ) (n : ℕ) (out′ : List ℕ) → certifiedKnapsack (j .kind-number) ≡ o
+    → WritesFor o j picks cells out (Bytes n) out′ → WroteAll j picks cells out n out′
+unfolding WritesFor writtenAs
+wrote-all none j picks cells out n out′ e w = absurd (bytes≢refused n 2 (w .numbers))
+wrote-all (some k) j picks cells out n out′ e w =
+    let (ok, many, written) = wrote-as (writerRefusal k j picks cells out) (bytesNeeded k j) (certificate k j picks cells) out n out′ w in
+    record { knapsack = k; of-knapsack = e; not-turned-down = ok; many = many; written = written }
 
 -- what came of a job that is not refused with the slices as they are after the call
 answered-after : (r : ℕ) (room : Room) (table : Lent → Type 0) (k : Kind) (j : Job) (before after : Lent) (s : AnswerNumbers)
@@ -78,66 +89,72 @@ answered-after zero room table k j before after s e f h = h
 answered-after (suc r) room table k j before after s e f h =
     absurd (omega (arith, e, f, ap (λ (l : Lent). kindRefusal room k j l) (h .nothing-written)))
 
+-- the table of a knapsack is what its certificate needs
+pub table-room : (k : Knapsack) (j : Job) → roomFor (packing k) j ≡ roomOf (certificateCells k j) 0 (labels j)
+unfolding roomFor certificateCells
+table-room once j = refl
+table-room limited j = refl
+table-room free j = refl
+
 -- ---- the ring: solve, write, check
 
 module _ (j : Job) (before after : Lent) (a : Answer) (out out′ : List ℕ) (n : ℕ)
     (solved : Solved j before a after) (writes : Writes j (after .picks) (after .cells) out (Bytes n) out′) where
-  abbrev one : Kind
-  one = packing once
-
   wrote : WroteAll j (after .picks) (after .cells) out n out′
   unfolding Writes
-  wrote = wrote-all (writerRefusal j (after .picks) (after .cells) out) j (after .picks) (after .cells) out n out′ refl writes
+  wrote = wrote-all (certifiedKnapsack (j .kind-number)) j (after .picks) (after .cells) out n out′ refl writes
+
+  abbrev k : Knapsack
+  k = wrote .knapsack
+
+  abbrev kind : Kind
+  kind = packing k
 
   -- refusal 6, or none
   abbrev later : ℕ
-  later = if (not (slicesFit j (after .picks) (after .cells) out)) 6 0
+  later = if (not (slicesFit k j (after .picks) (after .cells) out)) 6 0
 
-  certify : MayCertify j later
+  keeps : Passed (rulesOf kind) j later
   unfolding writerRefusal
-  certify = may-certify j later (wrote .not-turned-down)
+  keeps = has-passed (rulesOf kind) j later (wrote .not-turned-down)
 
-  is-once : (j .kind-number ≡ 1) × (certify .knapsack ≡ once)
-  is-once = certified-once (j .kind-number) (certify .knapsack) (certify .of-knapsack)
-
-  ok : certifiedRefusal j 0 ≡ 0
+  ok : jobRefusal (rulesOf kind) j 0 ≡ 0
   unfolding writerRefusal
-  ok = subst (λ (x : ℕ). certifiedRefusal j x ≡ 0) (certify .keeps .later-none) (wrote .not-turned-down)
+  ok = subst (λ (x : ℕ). jobRefusal (rulesOf kind) j x ≡ 0) (keeps .later-none) (wrote .not-turned-down)
 
-  rooms : (labels j ≤ length (after .picks)) × (cellCount j ≤ length (after .cells))
+  rooms : (labels j ≤ length (after .picks)) × (certificateCells k j ≤ length (after .cells))
   unfolding slicesFit
   rooms =
-      let out-fits : Bool = leb (bytesNeeded j) (length out) in
+      let out-fits : Bool = leb (bytesNeeded k j) (length out) in
       let picks-fit : Bool = leb (labels j) (length (after .picks)) in
-      let cells-fit : Bool = leb (cellCount j) (length (after .cells)) in
+      let cells-fit : Bool = leb (certificateCells k j) (length (after .cells)) in
       let (inputs, output-fits) =
-      and-yes (picks-fit && cells-fit) out-fits (past-if (slicesFit j (after .picks) (after .cells) out) 5 0 (certify .keeps .later-none) .0) in
+      and-yes (picks-fit && cells-fit) out-fits (past-if (slicesFit k j (after .picks) (after .cells) out) 5 0 (keeps .later-none) .0) in
       let (picks-do, cells-do) = and-yes picks-fit cells-fit inputs in
       (leb-yes picks-do, leb-yes cells-do)
 
-  enough : T (roomFits (roomFor one j) after)
-  unfolding roomFor roomOf roomFits
+  enough : T (roomFits (roomFor kind j) after)
+  unfolding roomOf roomFits
   enough =
-      let cells-fit : Bool = leb (cellCount j) (length (after .cells)) in
-      yes-and (cells-fit && leb 0 (length (after .words))) (leb (labels j) (length (after .picks)))
-      (yes-and cells-fit (leb 0 (length (after .words))) (yes-leb (rooms .1)) (yes-leb {b = length (after .words)} zero-le)) (yes-leb (rooms .0))
+      let cells-fit : Bool = leb (certificateCells k j) (length (after .cells)) in
+      rw (table-room k j)
+      (yes-and (cells-fit && leb 0 (length (after .words))) (leb (labels j) (length (after .picks)))
+      (yes-and cells-fit (leb 0 (length (after .words))) (yes-leb (rooms .1)) (yes-leb {b = length (after .words)} zero-le)) (yes-leb (rooms .0)))
 
-  answered : Answered (roomFor one j) (TableHolds one j) one j before (answerNumbers a) after
-  unfolding kindOf allKinds
+  answered : Answered (roomFor kind j) (TableHolds kind j) kind j before (answerNumbers a) after
   answered =
-      answered-after (kindRefusal (roomFor one j) one j before) (roomFor one j) (TableHolds one j) one j before after (answerNumbers a) refl
-      (not-refused (roomFor one j) once j after later
-      (subst (λ (k : Knapsack). Passed (rulesOf (packing k)) j later) (is-once .1) (certify .keeps)) enough)
-      (kind-solved j before one (kindRefusal (roomFor one j) one j before) a after (ap kindOf (is-once .0)) refl solved)
+      answered-after (kindRefusal (roomFor kind j) kind j before) (roomFor kind j) (TableHolds kind j) kind j before after (answerNumbers a) refl
+      (not-refused (roomFor kind j) k j after later keeps enough)
+      (kind-solved j before kind (kindRefusal (roomFor kind j) kind j before) a after (certified-kind (j .kind-number) k (wrote .of-knapsack)) refl solved)
 
   abbrev picks : List ℕ
   picks = answered .content .picks
 
-  packed : Packed once j (answerNumbers a) picks
+  packed : Packed k j (answerNumbers a) picks
   unfolding Gives
   packed = answered .gives
 
-  best : BestList once j picks
+  best : BestList k j picks
   unfolding BestPicks BestList
   best = packed .picked .one-of
 
@@ -145,32 +162,32 @@ module _ (j : Job) (before after : Lent) (a : Answer) (out out′ : List ℕ) (n
   unfolding BestList
   same-picks = holds-first _ _ _ _ (answered .picks-hold) (best .fits .selection .one-each)
 
-  long-cells : length (answered .content .cells) ≡ cellCount j
-  unfolding roomFor roomOf
-  long-cells = answered .cells-needed
+  long-cells : length (answered .content .cells) ≡ certificateCells k j
+  unfolding roomOf
+  long-cells = answered .cells-needed ∙ ap (λ (r : Room). r .cells) (table-room k j)
 
-  same-cells : take (cellCount j) (after .cells) ≡ answered .content .cells
+  same-cells : take (certificateCells k j) (after .cells) ≡ answered .content .cells
   same-cells = holds-first _ _ _ _ (answered .cells-hold) long-cells
 
   output : take n out′ ≡ sectionBytes picks ++ sectionBytes (answered .content .cells)
   unfolding certificate
   output =
       holds-first _ _ _ _ (wrote .written)
-      (certificate-long j (after .picks) (after .cells) (rooms .0) (rooms .1) ∙ sym (wrote .many))
+      (certificate-long k j (after .picks) (after .cells) (rooms .0) (rooms .1) ∙ sym (wrote .many))
       ∙ ap₂ (λ (p c : List ℕ). sectionBytes p ++ sectionBytes c) same-picks same-cells
 
   -- the bytes written are accepted, with the value of the answer
   ours : (jobB : List ℕ) → readJob jobB ≡ readable j
       → (value weight : ℕ) × (a ≡ Says.Knapsack value weight) × AcceptedWith Checked jobB (take n out′) value
-  unfolding verdictOf TableHolds ValueTable
+  unfolding verdictOf TableHolds
   ours jobB reads = (
     total (j .values) picks,
     total (j .weights) picks,
     answer-numbers-unique (packed .numbers),
     accepted-with jobB (take n out′) (total (j .values) picks)
         (ap₂ verdictOnJob reads output
-        ∙ accepted-written j once picks (answered .content .cells) (certify .of-knapsack ∙ ap some (is-once .1)) ok best long-cells
-        (answered .table-right)),
+        ∙ accepted-written k j picks (answered .content .cells) (wrote .of-knapsack) ok best long-cells
+        (exact-table k j (answered .content .cells) (answered .table-right))),
   )
 
 -- the same where the job comes as bytes to all three

@@ -1,7 +1,8 @@
--- Solve, write, check: where a kind 1 job was answered, a writer with room doesn't refuse, and whoever checks what it wrote accepts the
--- answer's value.
+-- Solve, write, check: where a job of kinds 1 to 3 was answered, a writer with room doesn't refuse, and whoever checks what it wrote accepts
+-- the answer's value.
 -- Assumes nothing.
-use mathlib.Core.Path.{_∙_, _≡_, ap, refl, subst}
+use mathlib.Core.Path.{_≡_, ap, refl, subst}
+use mathlib.Core.Option.{some}
 use Prim.Native.Nat.{_≤_, suc, zero, ℕ}
 use native.Mathlib.Omega.{arith}
 use mathlib.Core.Bool.{true}
@@ -13,25 +14,26 @@ use Rattle.meaning.specs.declared.Written.{Written}
 use Rattle.meaning.specs.declared.Written.the-variants.{Bytes}
 use Rattle.meaning.specs.Lists.{if}
 use Rattle.meaning.specs.Slices.{Holds}
-use Rattle.meaning.specs.Job.{Job, Kind, kindOf, allKinds, packing, labels, once}
-use Rattle.meaning.specs.Lent.{Lent, Room, cellCount, roomFor, roomOf}
+use Rattle.meaning.specs.Job.{Job, Kind, Knapsack, packing, labels}
+use Rattle.meaning.specs.Lent.{Lent, Room, roomFor, roomOf}
 use Rattle.meaning.specs.Refusals.{jobRefusal, kindRefusal, rulesOf}
 use Rattle.meaning.specs.Bytes.{readJob, readable}
 use Rattle.meaning.specs.Knapsacks.{BestPicks}
 use Rattle.meaning.specs.Answers.{answerNumbers}
 use Rattle.meaning.specs.Solved.{Answered, Gives, Outcome, Solved, SolvedBytes, TableHolds}
-use Rattle.meaning.specs.Certificates.{Checked, certifiedAs, certifiedRefusal, certifiedKnapsack}
+use Rattle.meaning.specs.Certificates.{Checked, certificateCells, certifiedKnapsack}
 use Rattle.meaning.specs.Writer.{Writes, WritesBytes, WritesRead, bytesNeeded, certificate, slicesFit, writerRefusal, writtenAs, WritesAs}
 use Rattle.meaning.specs.Demands.{AcceptedWith}
 use Rattle.meaning.proofs.Unique.{answer-numbers-unique, written-numbers-unique}
-use Rattle.meaning.proofs.Laws.{bytes-solved, kind-solved}
+use Rattle.meaning.proofs.Laws.{bytes-solved, kind-solved, writes-knapsack}
 use Rattle.meaning.proofs.Valid.{is-cleared}
-use Rattle.meaning.proofs.Ours.{ours-accepted}
+use Rattle.meaning.proofs.Certified.{certified-kind}
+use Rattle.meaning.proofs.Ours.{ours-accepted, table-room}
 
 -- the writer wrote all of it, and whoever checks what it wrote accepts it
-pub record RingClosed (jobB : List ℕ) (j : Job) (value : ℕ) (w : Written) (out′ : List ℕ) : Type 0 where
-  pub written : w ≡ Bytes (bytesNeeded j)
-  pub accepted : AcceptedWith Checked jobB (take (bytesNeeded j) out′) value
+pub record RingClosed (jobB : List ℕ) (k : Knapsack) (j : Job) (value : ℕ) (w : Written) (out′ : List ℕ) : Type 0 where
+  pub written : w ≡ Bytes (bytesNeeded k j)
+  pub accepted : AcceptedWith Checked jobB (take (bytesNeeded k j) out′) value
 
 -- a slice is as long as what it holds, or longer
 holds-long : (new before after : List ℕ) → Holds new before after → length new ≤ length after
@@ -49,17 +51,16 @@ module _ (room : Room) (table : Lent → Type 0) (k : Kind) (j : Job) (before af
       let z : _≡_ {A = ℕ} 0 1 = cc in
       absurd (omega arith)
 
-module _ (j : Job) (one : j .kind-number ≡ 1) (before after : Lent) (value weight : ℕ)
+module _ (k : Knapsack) (j : Job) (of-knapsack : certifiedKnapsack (j .kind-number) ≡ some k) (before after : Lent) (value weight : ℕ)
     (solved : Solved j before (Says.Knapsack value weight) after) where
   abbrev kind : Kind
-  kind = packing once
+  kind = packing k
 
   answered : (kindRefusal (roomFor kind j) kind j before ≡ 0) × Answered (roomFor kind j)
       (TableHolds kind j) kind j before (answerNumbers (Says.Knapsack value weight)) after
-  unfolding kindOf allKinds
   answered =
       not-turned-down (roomFor kind j) (TableHolds kind j) kind j before after value weight (kindRefusal (roomFor kind j) kind j before)
-      (kind-solved j before kind _ (Says.Knapsack value weight) after (ap kindOf one) refl solved)
+      (kind-solved j before kind _ (Says.Knapsack value weight) after (certified-kind (j .kind-number) k of-knapsack) refl solved)
 
   -- so it may have a certificate
   keeps-rules : jobRefusal (rulesOf kind) j 0 ≡ 0
@@ -68,53 +69,51 @@ module _ (j : Job) (one : j .kind-number ≡ 1) (before after : Lent) (value wei
       subst (λ (later : ℕ). jobRefusal (rulesOf kind) j later ≡ 0) (is-cleared (roomFor kind j) kind j before (answered .0) .keeps .later-none)
       (answered .0)
 
-  not-refused : certifiedRefusal j 0 ≡ 0
-  unfolding certifiedRefusal certifiedAs certifiedKnapsack
-  not-refused = ap (λ (n : ℕ). certifiedAs (certifiedKnapsack n) j 0) one ∙ keeps-rules
-
   -- and left its picks and cells in the slices
   picks-there : labels j ≤ length (after .picks)
   unfolding Gives BestPicks
   picks-there = omega (arith, holds-long _ _ _ (answered .1 .picks-hold), answered .1 .gives .picked .one-of .fits .selection .one-each)
 
-  cells-there : cellCount j ≤ length (after .cells)
-  unfolding roomFor roomOf
-  cells-there = omega (arith, holds-long _ _ _ (answered .1 .cells-hold), answered .1 .cells-needed)
+  cells-there : certificateCells k j ≤ length (after .cells)
+  unfolding roomOf
+  cells-there =
+      omega (arith, holds-long _ _ _ (answered .1 .cells-hold), answered .1 .cells-needed, ap (λ (r : Room). r .cells) (table-room k j))
 
-  module _ (out : List ℕ) (roomy : bytesNeeded j ≤ length out) where
-    fits : slicesFit j (after .picks) (after .cells) out ≡ true
+  module _ (out : List ℕ) (roomy : bytesNeeded k j ≤ length out) where
+    fits : slicesFit k j (after .picks) (after .cells) out ≡ true
     unfolding slicesFit
     fits = rw (le-leb _ _ picks-there, le-leb _ _ cells-there, le-leb _ _ roomy)
 
-    not-refused-6 : writerRefusal j (after .picks) (after .cells) out ≡ 0
+    not-refused-6 : writerRefusal k j (after .picks) (after .cells) out ≡ 0
     unfolding writerRefusal if
-    not-refused-6 = rw fits not-refused
+    not-refused-6 = rw fits keeps-rules
 
-    all-written : (w : Written) (out′ : List ℕ) → Writes j (after .picks) (after .cells) out w out′ → w ≡ Bytes (bytesNeeded j)
-    unfolding Writes writtenAs
+    all-written : (w : Written) (out′ : List ℕ) → Writes j (after .picks) (after .cells) out w out′ → w ≡ Bytes (bytesNeeded k j)
+    unfolding writtenAs
     all-written w out′ writes =
-        written-numbers-unique w (Bytes (bytesNeeded j))
-        (subst (λ (r : ℕ). WritesAs r (bytesNeeded j) (certificate j (after .picks) (after .cells)) out w out′) not-refused-6 writes .numbers)
+        written-numbers-unique w (Bytes (bytesNeeded k j))
+        (subst (λ (r : ℕ). WritesAs r (bytesNeeded k j) (certificate k j (after .picks) (after .cells)) out w out′) not-refused-6
+        (writes-knapsack k j of-knapsack (after .picks) (after .cells) out w out′ writes) .numbers)
 
     pub ring-by-lists : (jobB : List ℕ) → readJob jobB ≡ readable j → (w : Written) (out′ : List ℕ)
         → Writes j (after .picks) (after .cells) out w out′
-        → RingClosed jobB j value w out′
+        → RingClosed jobB k j value w out′
     ring-by-lists jobB reads w out′ writes =
         let written = all-written w out′ writes in
         let (value′, weight′, same, accepted) =
-        ours-accepted .by-lists jobB j reads before after (Says.Knapsack value weight) solved out out′ (bytesNeeded j) (rw written at writes) in
+        ours-accepted .by-lists jobB j reads before after (Says.Knapsack value weight) solved out out′ (bytesNeeded k j) (rw written at writes) in
         let worth : value′ ≡ value = cc in
         record {
           written = written;
-          accepted = subst (AcceptedWith Checked jobB (take (bytesNeeded j) out′)) worth accepted;
+          accepted = subst (AcceptedWith Checked jobB (take (bytesNeeded k j) out′)) worth accepted;
         }
 
 -- the same where the job comes as bytes to all three
-pub ring-by-bytes : (jobB : List ℕ) (j : Job) → readJob jobB ≡ readable j → j .kind-number ≡ 1
+pub ring-by-bytes : (jobB : List ℕ) (k : Knapsack) (j : Job) → readJob jobB ≡ readable j → certifiedKnapsack (j .kind-number) ≡ some k
     → (before after : Lent) (value weight : ℕ) → SolvedBytes jobB before (Says.Knapsack value weight) after
-    → (out : List ℕ) → bytesNeeded j ≤ length out → (w : Written) (out′ : List ℕ) → WritesBytes jobB (after .picks) (after .cells) out w out′
-    → RingClosed jobB j value w out′
+    → (out : List ℕ) → bytesNeeded k j ≤ length out → (w : Written) (out′ : List ℕ) → WritesBytes jobB (after .picks) (after .cells) out w out′
+    → RingClosed jobB k j value w out′
 unfolding WritesBytes WritesRead
-ring-by-bytes jobB j reads one before after value weight solved out roomy w out′ writes =
-    ring-by-lists j one before after value weight
+ring-by-bytes jobB k j reads of-knapsack before after value weight solved out roomy w out′ writes =
+    ring-by-lists k j of-knapsack before after value weight
     (bytes-solved jobB j before after (Says.Knapsack value weight) reads solved) out roomy jobB reads w out′ (rw reads at writes)

@@ -14,7 +14,7 @@ use Rattle.meaning.specs.Job.{Job, Knapsack, free, labels, once}
 use Rattle.meaning.specs.Knapsacks.{BestValue, FullTable, OneRow, cellNumber}
 use Rattle.meaning.specs.Sums.{BitTable, ReachedWithin, Tells, bit, is-not, is-so}
 use Rattle.meaning.specs.Blocks.{FewestRow, MadeOf, WaysRow, tooMany}
-use Rattle.meaning.specs.Certificates.{someCount}
+use Rattle.meaning.specs.Certificates.{someOf}
 use Rattle.meaning.proofs.Tests.{_implies_, all, all-out, below, below-out, implied}
 use Rattle.meaning.proofs.Steps.{best-by}
 use Rattle.meaning.proofs.Small.{areWays, block-limits, exact, fitting, isMaking, isSelection, limits-hold}
@@ -25,20 +25,20 @@ use Rattle.meaning.proofs.Small.{selects, selects-out, unmade, unmade-o
 
 -- some list within the limits passes
 unfoldable some : List ℕ → (List ℕ → Bool) → Bool
-unfolding someCount
+unfolding someOf
 some [] f = f []
-some (l ∷ ls) f = someCount l (λ x. some ls (λ q. f (x ∷ q)))
+some (l ∷ ls) f = someOf (λ x. some ls (λ q. f (x ∷ q))) (suc l)
 
-some-count-out : (n : ℕ) (f : ℕ → Bool) → T (someCount n f) → (x : ℕ) × T (f x)
-unfolding someCount
-some-count-out zero f t = (0, t)
-some-count-out (suc n) f t = elim (or-yes (someCount n f) (f (suc n)) t) [ inl a ↦ some-count-out n f a | inr b ↦ (suc n, b) ]
+some-of-out : (f : ℕ → Bool) (n : ℕ) → T (someOf f n) → (x : ℕ) × T (f x)
+unfolding someOf
+some-of-out f zero t = absurd t
+some-of-out f (suc n) t = elim (or-yes (someOf f n) (f n) t) [ inl a ↦ some-of-out f n a | inr b ↦ (n, b) ]
 
 some-out : (ls : List ℕ) (f : List ℕ → Bool) → T (some ls f) → (q : List ℕ) × T (f q)
 unfolding some
 some-out [] f t = ([], t)
 some-out (l ∷ ls) f t =
-    let (x, u) = some-count-out l (λ x. some ls (λ q. f (x ∷ q))) t in
+    let (x, u) = some-of-out (λ x. some ls (λ q. f (x ∷ q))) (suc l) t in
     let (q, h) = some-out ls (λ q. f (x ∷ q)) u in
     (x ∷ q, h)
 

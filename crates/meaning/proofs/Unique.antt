@@ -23,8 +23,8 @@ use Rattle.meaning.specs.Answers.{Which, is-refusal, is-knapsack, is-sum
 use Rattle.meaning.specs.Answers.{AnswerNumbers, answerNumbers, VerdictNumbers, verdictNumbers, WrittenNumbers, writtenNumbers}
 use Rattle.meaning.specs.Solved.{Answered, Outcome, Solved, SolvedAs, SolvedBytes, SolvedLists, SolvedRead, TableHolds, TurnedDown}
 use Rattle.meaning.specs.Told.{ToldBytes}
-use Rattle.meaning.specs.Certificates.{Checked}
-use Rattle.meaning.specs.Writer.{Writes, WritesBytes, WritesRead, WritesAs}
+use Rattle.meaning.specs.Certificates.{Checked, certifiedKnapsack}
+use Rattle.meaning.specs.Writer.{Writes, WritesBytes, WritesFor, WritesRead, WritesAs}
 use Rattle.meaning.specs.Host.{firstNumber, secondNumber, SolvedHost, WritesHost}
 use Rattle.meaning.proofs.EachKind.{OneTable, Sized, gives-unique, table-unique}
 
@@ -176,10 +176,17 @@ writes-as-unique : {r n : ℕ} {certB before after after′ : List ℕ} {a a′ 
 writes-as-unique {a = a} {a′ = a′} x y =
     record { answer = written-numbers-unique a a′ (x .numbers ∙ sym (y .numbers)); left = holds-unique _ _ _ _ _ refl (x .leaves) (y .leaves) }
 
+writes-for-unique : (o : Option Knapsack) (j : Job) (picks cells before after after′ : List ℕ) (a a′ : Written)
+    → WritesFor o j picks cells before a after → WritesFor o j picks cells before a′ after′ → OneWriting a a′ after after′
+unfolding WritesFor
+writes-for-unique none j picks cells before after after′ a a′ x y = writes-as-unique x y
+writes-for-unique (some k) j picks cells before after after′ a a′ x y = writes-as-unique x y
+
 pub no-second-writing : (j : Job) (picks cells before after after′ : List ℕ) (a a′ : Written)
     → Writes j picks cells before a after → Writes j picks cells before a′ after′ → OneWriting a a′ after after′
 unfolding Writes
-no-second-writing j picks cells before after after′ a a′ x y = writes-as-unique x y
+no-second-writing j picks cells before after after′ a a′ x y =
+    writes-for-unique (certifiedKnapsack (j .kind-number)) j picks cells before after after′ a a′ x y
 
 writes-read-unique : (b : JobRead) (picks cells before after after′ : List ℕ) (a a′ : Written)
     → WritesRead b picks cells before a after → WritesRead b picks cells before a′ after′ → OneWriting a a′ after after′

@@ -11,12 +11,13 @@ use lib.Dec.{T, eqb, leb}
 use lib.ListN.{length}
 use mir.Facts.{and-yes, eqb-yes, leb-yes}
 use Rattle.meaning.specs.Lists.{at, every, if, total}
-use Rattle.meaning.specs.Job.{Job, Knapsack, packing, labels, Kind, free, jobOf}
+use Rattle.meaning.specs.Job.{Job, Knapsack, once, limited, free, packing, labels, Kind, jobOf}
 use Rattle.meaning.specs.Lent.{cellCount, Lent, Room}
 use Rattle.meaning.specs.Bounds.{leastCopies, mostBudget, mostCopies, mostLabels, mostValue}
 use Rattle.meaning.specs.Refusals.{Rules, ascendingFrom, boundsFit, eachWithin, hasCopies, jobRefusal, knapsackRules, leastValue}
 use Rattle.meaning.specs.Refusals.{listsFit, numbersFit, positive, rulesOf, claimsFit, kindRefusal, roomFits}
 use Rattle.meaning.specs.Knapsacks.{BestValue, MayPick}
+use Rattle.meaning.specs.Certificates.{certificateCells}
 use Rattle.meaning.proofs.Steps.{best-by}
 use Rattle.meaning.proofs.Sections.{limit32}
 
@@ -169,12 +170,19 @@ module _ (k : Knapsack) (j : Job) (ok : Valid k j) where
   unfolding mostLabels
   labels-32 = omega (arith, ok .few)
 
-  pub cells-32 : cellCount j < limit32
+  cells-32 : cellCount j < limit32
   unfolding cellCount mostLabels mostBudget
   cells-32 =
       let n-few : labels j + 1 ≤ mostLabels + 1 = omega (arith, ok .few) in
       let c-small : j .budget + 1 ≤ mostBudget + 1 = omega (arith, ok .small) in
       omega (arith, mul-le-mul n-few c-small)
+
+-- of a certificate's too
+pub certificate-32 : (k : Knapsack) (j : Job) → Valid k j → certificateCells k j < limit32
+unfolding certificateCells mostBudget
+certificate-32 once j ok = cells-32 once j ok
+certificate-32 limited j ok = cells-32 limited j ok
+certificate-32 free j ok = omega (arith, ok .small)
 
 -- ---- and that value is reached
 

@@ -18,12 +18,12 @@ use Rattle.meaning.specs.declared.Section.the-variants.{Part, Broken}
 use Rattle.meaning.specs.declared.Needed.{Needed}
 use Rattle.meaning.specs.declared.Needed.the-variants.{Any, Exactly}
 use Rattle.meaning.specs.Lists.{if, total}
-use Rattle.meaning.specs.Job.{Job, labels}
-use Rattle.meaning.specs.Lent.{cellCount}
+use Rattle.meaning.specs.Job.{Job, Knapsack, labels, packing}
+use Rattle.meaning.specs.Refusals.{jobRefusal, rulesOf}
 use Rattle.meaning.specs.Bytes.{atEnd, isNeeded, numberAt, numbersIn, between, readSection}
 use Rattle.meaning.specs.Bytes.{readable, sectionBytes, unreadable, wholeSection, withSection}
-use Rattle.meaning.specs.Certificates.{certifiedRefusal, certificateBroken, first, lowCell, misvalued, orElse, overPicked}
-use Rattle.meaning.specs.Certificates.{overweight, unlessFound, unlessRefused, verdictOnCells, verdictOnCertificate, verdictOnJob}
+use Rattle.meaning.specs.Certificates.{certificateBroken, certificateCells, certifiedKnapsack, first, lowCell, misvalued, orElse, overPicked}
+use Rattle.meaning.specs.Certificates.{overweight, unlessFound, unlessRefused, verdictFor, verdictOnCells, verdictOnCertificate, verdictOnJob}
 use Rattle.meaning.specs.Demands.{listIn}
 use Rattle.meaning.proofs.Numbers.{section-whole, SectionFound, section-found, section-numbers}
 use Rattle.meaning.proofs.Sections.{All32, Stands, end-back, read-on, section-next, stands-first, limit32}
@@ -85,17 +85,17 @@ past-refusal (suc r) next v e = absurd (refused≢accepted e)
 -- ---- picks and cells
 
 -- what the checker has seen of picks and cells that it accepts with v
-pub record Seen (j : Job) (picks cells : List ℕ) (v : ℕ) : Type 0 where
-  pub within-counts : overPicked j picks ≡ none
+pub record Seen (k : Knapsack) (j : Job) (picks cells : List ℕ) (v : ℕ) : Type 0 where
+  pub within-counts : overPicked k j picks ≡ none
   pub light : overweight j picks ≡ false
-  pub rule-kept : lowCell j cells ≡ none
-  pub same : misvalued j picks cells ≡ false
+  pub rule-kept : lowCell k j cells ≡ none
+  pub same : misvalued k j picks cells ≡ false
   pub value : total (j .values) picks ≡ v
 
 -- accepted, so all this was seen
-pub was-seen : (j : Job) (picks cells : List ℕ) (v : ℕ) → verdictOnCells j picks cells ≡ Accepted v → Seen j picks cells v
+pub was-seen : (k : Knapsack) (j : Job) (picks cells : List ℕ) (v : ℕ) → verdictOnCells k j picks cells ≡ Accepted v → Seen k j picks cells v
 unfolding verdictOnCells
-was-seen j picks cells v e =
+was-seen k j picks cells v e =
     let (a, e₁) = past-found _ _ _ v e in
     let (b, e₂) = past-test _ _ _ v e₁ in
     let (c, e₃) = past-found _ _ _ v e₂ in
@@ -103,9 +103,9 @@ was-seen j picks cells v e =
     record { within-counts = a; light = b; rule-kept = c; same = d; value = cc }
 
 -- and back
-pub accepts-seen : (j : Job) (picks cells : List ℕ) (v : ℕ) → Seen j picks cells v → verdictOnCells j picks cells ≡ Accepted v
+pub accepts-seen : (k : Knapsack) (j : Job) (picks cells : List ℕ) (v : ℕ) → Seen k j picks cells v → verdictOnCells k j picks cells ≡ Accepted v
 unfolding verdictOnCells unlessFound if
-accepts-seen j picks cells v s = rw (s .within-counts, s .light, s .rule-kept, s .same) (ap Accepted (s .value))
+accepts-seen k j picks cells v s = rw (s .within-counts, s .light, s .rule-kept, s .same) (ap Accepted (s .value))
 
 -- ---- the bytes
 
@@ -120,10 +120,10 @@ unfolding atEnd certificateBroken
 past-end b p next v e = past-test (ltb p (length b)) 11 next v e .1
 
 -- what was read and seen of certificate bytes that are accepted: their list, of n numbers, and some cells
-pub record ReadAndSeen (j : Job) (certB : List ℕ) (v : ℕ) : Type 0 where
+pub record ReadAndSeen (k : Knapsack) (j : Job) (certB : List ℕ) (v : ℕ) : Type 0 where
   pub cells : List ℕ
   pub long : length (listIn certB) ≡ labels j
-  pub judged : Seen j (listIn certB) cells v
+  pub judged : Seen k j (listIn certB) cells v
 
 -- the count that was asked for was found
 pub needed-count : (n c : ℕ) → isNeeded (Exactly n) c ≡ true → c ≡ n
@@ -145,9 +145,9 @@ unfolding listIn withSection
 list-read b start count next e = rw e
 
 -- certificate bytes that are accepted were read, and seen so
-pub read-and-seen : (j : Job) (certB : List ℕ) (v : ℕ) → verdictOnCertificate j certB ≡ Accepted v → ReadAndSeen j certB v
+pub read-and-seen : (k : Knapsack) (j : Job) (certB : List ℕ) (v : ℕ) → verdictOnCertificate k j certB ≡ Accepted v → ReadAndSeen k j certB v
 unfolding verdictOnCertificate
-read-and-seen j b v e =
+read-and-seen k j b v e =
     let (s, c, n, e₁, e₂) = past-section b _ _ v e in
     let (s′, c′, n′, e₃, e₄) = past-section b _ _ v e₂ in
     let r : SectionFound (Exactly (labels j)) b 0 s c n = section-found (Exactly (labels j)) b 0 s c n e₁ in
@@ -157,18 +157,18 @@ read-and-seen j b v e =
       cells = cells;
       long = ap length list ∙ section-numbers b s c n (r .ends) (r .inside) ∙ needed-count (labels j) c (r .right);
       judged =
-          subst (λ (p : List ℕ). Seen j p cells v) (sym list)
-          (was-seen j (numbersIn (between b s n)) cells v (past-end b n′ (verdictOnCells j (numbersIn (between b s n)) cells) v e₄));
+          subst (λ (p : List ℕ). Seen k j p cells v) (sym list)
+          (was-seen k j (numbersIn (between b s n)) cells v (past-end b n′ (verdictOnCells k j (numbersIn (between b s n)) cells) v e₄));
     }
 
 -- ---- picks and cells that were written
 
 -- certificate bytes of picks and cells that are of the needed counts and of 32 bits are read as those
-pub verdict-written : (j : Job) (picks cells : List ℕ) → length picks ≡ labels j → length cells ≡ cellCount j → labels j < limit32
-    → cellCount j < limit32
-    → All32 picks → All32 cells → verdictOnCertificate j (sectionBytes picks ++ sectionBytes cells) ≡ verdictOnCells j picks cells
+pub verdict-written : (k : Knapsack) (j : Job) (picks cells : List ℕ) → length picks ≡ labels j → length cells ≡ certificateCells k j
+    → labels j < limit32 → certificateCells k j < limit32 → All32 picks → All32 cells
+    → verdictOnCertificate k j (sectionBytes picks ++ sectionBytes cells) ≡ verdictOnCells k j picks cells
 unfolding verdictOnCertificate isNeeded
-verdict-written j picks cells lp lc np nc sp sc =
+verdict-written k j picks cells lp lc np nc sp sc =
     let b : List ℕ = sectionBytes picks ++ sectionBytes cells in
     let one : Stands b 0 (sectionBytes picks ++ (sectionBytes cells ++ [])) =
     subst (λ (l : List ℕ). Stands b 0 l) (simp append-nil) (stands-first b) in
@@ -176,9 +176,9 @@ verdict-written j picks cells lp lc np nc sp sc =
     let three = section-next b _ cells [] two in
     read-on b 0 picks _ one (subst (λ (n : ℕ). n < limit32) (sym lp) np) (Exactly (labels j)) certificateBroken _ sp
     (eq-eqb (length picks) (labels j) lp)
-    ∙ read-on b _ cells [] two (subst (λ (n : ℕ). n < limit32) (sym lc) nc) (Exactly (cellCount j)) certificateBroken _ sc
-    (eq-eqb (length cells) (cellCount j) lc)
-    ∙ end-back b _ certificateBroken (verdictOnCells j picks cells) three
+    ∙ read-on b _ cells [] two (subst (λ (n : ℕ). n < limit32) (sym lc) nc) (Exactly (certificateCells k j)) certificateBroken _ sc
+    (eq-eqb (length cells) (certificateCells k j) lc)
+    ∙ end-back b _ certificateBroken (verdictOnCells k j picks cells) three
 
 -- and their list is the picks
 pub list-written : (picks cells : List ℕ) → length picks < limit32 → All32 picks → listIn (sectionBytes picks ++ cells) ≡ picks
@@ -193,13 +193,25 @@ pub on-unreadable : (place : ℕ) (certB : List ℕ) (v : ℕ) → verdictOnJob 
 unfolding verdictOnJob
 on-unreadable place certB v e = refused≢accepted e
 
--- accepted for a job: it isn't refused, and its certificate is accepted
-pub on-readable : (j : Job) (certB : List ℕ) (v : ℕ) → verdictOnJob (readable j) certB ≡ Accepted v
-    → (certifiedRefusal j 0 ≡ 0) × (verdictOnCertificate j certB ≡ Accepted v)
-unfolding verdictOnJob
-on-readable j certB v e = past-refusal (certifiedRefusal j 0) (verdictOnCertificate j certB) v e
+-- accepted for a job: it is of a knapsack that has certificates, none of 3 to 5 applies, and its certificate is accepted
+pub record JudgedAs (j : Job) (certB : List ℕ) (v : ℕ) : Type 0 where
+  pub knapsack : Knapsack
+  pub of-knapsack : certifiedKnapsack (j .kind-number) ≡ some knapsack
+  pub not-refused : jobRefusal (rulesOf (packing knapsack)) j 0 ≡ 0
+  pub accepted : verdictOnCertificate knapsack j certB ≡ Accepted v
+
+pub on-readable : (j : Job) (certB : List ℕ) (v : ℕ) → verdictOnJob (readable j) certB ≡ Accepted v → JudgedAs j certB v
+unfolding verdictOnJob verdictFor
+on-readable j certB v e = go (certifiedKnapsack (j .kind-number)) refl e
+  where
+    go : (o : Option Knapsack) → certifiedKnapsack (j .kind-number) ≡ o → verdictFor o j certB ≡ Accepted v → JudgedAs j certB v
+    go none f h = absurd (refused≢accepted h)
+    go (some k) f h =
+        let (ok, accepted) = past-refusal (jobRefusal (rulesOf (packing k)) j 0) (verdictOnCertificate k j certB) v h in
+        record { knapsack = k; of-knapsack = f; not-refused = ok; accepted = accepted }
 
 -- the verdict on a job that isn't refused is that on its certificate
-pub readable-on : (j : Job) (certB : List ℕ) → certifiedRefusal j 0 ≡ 0 → verdictOnJob (readable j) certB ≡ verdictOnCertificate j certB
-unfolding verdictOnJob unlessRefused
-readable-on j certB e = rw e
+pub readable-on : (k : Knapsack) (j : Job) (certB : List ℕ) → certifiedKnapsack (j .kind-number) ≡ some k → jobRefusal (rulesOf (packing k)) j 0 ≡ 0
+    → verdictOnJob (readable j) certB ≡ verdictOnCertificate k j certB
+unfolding verdictOnJob verdictFor unlessRefused
+readable-on k j certB e ok = rw (e, ok)

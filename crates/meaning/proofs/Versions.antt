@@ -28,8 +28,9 @@ use Rattle.meaning.specs.Trials.{jobJ}
 use Rattle.meaning.proofs.EachKind.{Late, not-said, numbered, table-left, table-unique, tableOf}
 use Rattle.meaning.proofs.Unique.{no-influence}
 use Rattle.meaning.proofs.Laws.{bytes-solved, unrefused-answered}
-use Rattle.meaning.proofs.FullTables.{best-of}
-use Rattle.meaning.proofs.Certified.{certified-once, counts-shown}
+use Rattle.meaning.proofs.ExactCells.{best-of}
+use Rattle.meaning.proofs.Certified.{certified-valid, one-knapsack}
+use Rattle.meaning.proofs.Covering.{counts-shown}
 use Rattle.meaning.proofs.Small.{picked, picked-out, selects, selects-out}
 use Rattle.meaning.proofs.Opens.{opens}
 use Rattle.meaning.proofs.Cases.{caseJ, tried, filled, trial-facts}
@@ -275,7 +276,7 @@ record ListFits (k : Knapsack) (j : Job) (certB : List ℕ) : Type 0 where
   cells : List ℕ
   written : certB ≡ sectionBytes picks ++ sectionBytes cells
   fits : Fits k j (labels j) (j .budget) picks
-  cells-needed : length cells ≡ certificateCells j
+  cells-needed : length cells ≡ certificateCells k j
 
 -- J's job with nothing kept, and claims of nothing
 unfoldable keepNone : List ℕ
@@ -305,7 +306,7 @@ accepts-what-fits Check all d =
     let (v, e) = all jobJ keepNone caseJ valid-J none-fits in
     let s : Sound jobJ keepNone v = d .accepted-is-best jobJ keepNone v e in
     let same : s .job ≡ caseJ = cc (valid-J .reads, s .valid-job .reads) in
-    let kind : s .valid-job .knapsack ≡ once = certified-once (s .job .kind-number) (s .valid-job .knapsack) (s .valid-job .of-knapsack) .1 in
+    let kind : s .valid-job .knapsack ≡ once = one-knapsack (s .valid-job) valid-J in
     let best : BestList once caseJ (listIn keepNone) = rw (same, kind) at (s .best) in
     none-worth-most best
 
@@ -318,6 +319,7 @@ pub refuses-all : (Check : List ℕ → List ℕ → Verdict → Type 0) (jobB :
     → ((certB : List ℕ) (v : ℕ) → ¬ Check jobB certB (Accepted v)) → ¬ Demand3 Check
 unfolding BestList
 refuses-all Check jobB j ok none d =
-    let (v, b) = best-of (ok .knapsack) j (counts-shown j (ok .knapsack) (ok .of-knapsack)) (labels j) (j .budget) (le-refl (j .budget)) in
+    let k = ok .knapsack in
+    let (v, b) = best-of k j (counts-shown k j (certified-valid k j (ok .not-refused))) (labels j) (j .budget) (le-refl (labels j)) (le-refl (j .budget)) in
     let a : Accepts Check jobB (b .picks) = d .exactly-when-best jobB j ok (b .picks) .1 (b .best) in
     none (a .certB) (a .value) (a .accepted .verdict)

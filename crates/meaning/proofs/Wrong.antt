@@ -1,7 +1,8 @@
 -- Wrong answers that the promises rule out: on all bytes that can't be read, by the writer, by the checker on one job, and from C. (Versions has
 -- those that document 01 names.)
 -- Assumes nothing.
-use mathlib.Core.Path.{_∙_, _≡_, ap, refl, sym}
+use mathlib.Core.Path.{_∙_, _≡_, ap, refl, subst, sym}
+use mathlib.Core.Option.{some}
 use Prim.Native.Nat.{ℕ}
 use native.Mathlib.Omega.{arith}
 use mathlib.Core.List.{List, [], _∷_}
@@ -16,19 +17,19 @@ use Rattle.meaning.specs.declared.Verdict.{Verdict}
 use Rattle.meaning.specs.declared.Verdict.the-variants.{Accepted, Refused}
 use Rattle.meaning.specs.Lists.{at}
 use Rattle.meaning.specs.Slices.{Holds}
-use Rattle.meaning.specs.Job.{Job}
+use Rattle.meaning.specs.Job.{Job, Knapsack}
 use Rattle.meaning.specs.Lent.{Lent}
 use Rattle.meaning.specs.Bytes.{readJob, readable, unreadable}
 use Rattle.meaning.specs.Answers.{verdictNumbers, answerNumbers, writtenNumbers}
 use Rattle.meaning.specs.Solved.{SolvedBytes, SolvedRead, TurnedDown}
-use Rattle.meaning.specs.Certificates.{Checked, verdictOf}
-use Rattle.meaning.specs.Writer.{Writes, WritesAs, WritesBytes, WritesRead, bytesNeeded}
+use Rattle.meaning.specs.Certificates.{Checked, certifiedKnapsack, verdictOf}
+use Rattle.meaning.specs.Writer.{Writes, WritesAs, WritesBytes, WritesFor, WritesRead, bytesNeeded}
 use Rattle.meaning.specs.Writer.{certificate, newBytes, slicesFit, writerRefusal, writtenAs}
 use Rattle.meaning.specs.Host.{WritesHost, refusalNumber, valueOrPlace}
 use Rattle.meaning.specs.Demands.{ValidJob}
 use Rattle.meaning.specs.Trials.{certJ, jobJ}
 use Rattle.meaning.proofs.Unique.{answer-numbers-unique, written-numbers-unique}
-use Rattle.meaning.proofs.Laws.{holds-first}
+use Rattle.meaning.proofs.Laws.{holds-first, writes-knapsack}
 use Rattle.meaning.proofs.Certified.{meets-demand-3, verdict-is}
 use Rattle.meaning.proofs.Entries.{zero-is-accepted}
 use Rattle.meaning.proofs.Versions.{accepts-all, refuses-all}
@@ -64,23 +65,24 @@ module _ (bytes : List ℕ) (place : ℕ) (unread : readJob bytes ≡ unreadable
 
 -- ---- the writer on any job that it doesn't refuse: one that counts or writes other bytes, or clears what lies past; and one that writes none
 
-module _ (j : Job) (picks cells before after : List ℕ) (a : Written) (ok : writerRefusal j picks cells before ≡ 0)
-    (w : Writes j picks cells before a after) where
-  writes-all : WritesAs 0 (bytesNeeded j) (certificate j picks cells) before a after
-  unfolding Writes
-  writes-all = rw ok at w
+module _ (k : Knapsack) (j : Job) (of-knapsack : certifiedKnapsack (j .kind-number) ≡ some k) (picks cells before after : List ℕ) (a : Written)
+    (ok : writerRefusal k j picks cells before ≡ 0) (w : Writes j picks cells before a after) where
+  writes-all : WritesAs 0 (bytesNeeded k j) (certificate k j picks cells) before a after
+  writes-all =
+      subst (λ (r : ℕ). WritesAs r (bytesNeeded k j) (certificate k j picks cells) before a after) ok
+      (writes-knapsack k j of-knapsack picks cells before a after w)
 
-  counts-all : a ≡ Bytes (bytesNeeded j)
+  counts-all : a ≡ Bytes (bytesNeeded k j)
   unfolding writtenAs
-  counts-all = written-numbers-unique a (Bytes (bytesNeeded j)) (writes-all .numbers)
+  counts-all = written-numbers-unique a (Bytes (bytesNeeded k j)) (writes-all .numbers)
 
-  copies-out : take (length (certificate j picks cells)) after ≡ certificate j picks cells
+  copies-out : take (length (certificate k j picks cells)) after ≡ certificate k j picks cells
   unfolding newBytes
-  copies-out = holds-first (certificate j picks cells) before after (length (certificate j picks cells)) (writes-all .leaves) refl
+  copies-out = holds-first (certificate k j picks cells) before after (length (certificate k j picks cells)) (writes-all .leaves) refl
 
-  keeps-what-lies-past : drop (length (certificate j picks cells)) after ≡ drop (length (certificate j picks cells)) before
+  keeps-what-lies-past : drop (length (certificate k j picks cells)) after ≡ drop (length (certificate k j picks cells)) before
   unfolding newBytes Holds
-  keeps-what-lies-past = ap (drop (length (certificate j picks cells))) (writes-all .leaves) ∙ drop-at (certificate j picks cells) _ _ refl
+  keeps-what-lies-past = ap (drop (length (certificate k j picks cells))) (writes-all .leaves) ∙ drop-at (certificate k j picks cells) _ _ refl
 
 -- thirteen places of 9
 nines : List ℕ
@@ -89,7 +91,7 @@ nines = replicate 13 9
 -- the certificate of the job of no labels and budget 0 is 12 bytes
 written-12 : (a : Written) (after : List ℕ) → Writes noLabels [] (5 ∷ []) nines a after
     → (a ≡ Bytes 12) × (after ≡ 0 ∷ 0 ∷ 0 ∷ 0 ∷ 1 ∷ 0 ∷ 0 ∷ 0 ∷ 5 ∷ 0 ∷ 0 ∷ 0 ∷ 9 ∷ [])
-unfolding nines Writes opens writerRefusal slicesFit bytesNeeded certificate writtenAs newBytes Holds
+unfolding nines Writes WritesFor opens writerRefusal slicesFit bytesNeeded certificate writtenAs newBytes Holds
 written-12 a after w = (written-numbers-unique a (Bytes 12) (w .numbers), w .leaves)
 
 writes-something : (a : Written) → ¬ Writes noLabels [] (5 ∷ []) nines a nines
@@ -143,11 +145,11 @@ entry-names-the-place : valueOrPlace (verdictOf jobJ (certJ (0 ∷ 9 ∷ 0 ∷ 0
 unfolding opens jobJ certJ valueOrPlace
 entry-names-the-place = refl
 
-entry-counts : (jobB : List ℕ) (j : Job) (picks cells before after : List ℕ) (r bytes : ℕ) → readJob jobB ≡ readable j
-    → writerRefusal j picks cells before ≡ 0
-    → WritesHost jobB picks cells before r bytes after → (r ≡ 0) × (bytes ≡ bytesNeeded j)
+entry-counts : (jobB : List ℕ) (k : Knapsack) (j : Job) (picks cells before after : List ℕ) (r bytes : ℕ) → readJob jobB ≡ readable j
+    → certifiedKnapsack (j .kind-number) ≡ some k → writerRefusal k j picks cells before ≡ 0
+    → WritesHost jobB picks cells before r bytes after → (r ≡ 0) × (bytes ≡ bytesNeeded k j)
 unfolding WritesBytes WritesRead writtenNumbers
-entry-counts jobB j picks cells before after r bytes reads ok h =
+entry-counts jobB k j picks cells before after r bytes reads of-knapsack ok h =
     let w : Writes j picks cells before (h .answer) after = rw reads at (h .writes) in
-    let wrote : h .answer ≡ Bytes (bytesNeeded j) = counts-all j picks cells before after (h .answer) ok w in
+    let wrote : h .answer ≡ Bytes (bytesNeeded k j) = counts-all k j of-knapsack picks cells before after (h .answer) ok w in
     (h .refusal ∙ ap (λ (a : Written). writtenNumbers a .refusal) wrote, h .bytes-are ∙ ap (λ (a : Written). writtenNumbers a .bytes) wrote)

@@ -33,3 +33,7 @@ mostCopies = 65_535
 -- copies, at least
 unfoldable pub leastCopies : ℕ
 leastCopies = 0
+
+-- picks of one label in a certificate of kind 3
+unfoldable pub mostOfOne : ℕ
+mostOfOne = 65_535

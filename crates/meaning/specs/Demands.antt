@@ -16,12 +16,13 @@ use Rattle.meaning.specs.declared.Written.the-variants.{Bytes}
 use Rattle.meaning.specs.declared.Verdict.the-variants.{Accepted}
 use Rattle.meaning.specs.declared.Needed.the-variants.{Any}
 use Rattle.meaning.specs.Lists.{total, every}
-use Rattle.meaning.specs.Job.{Job, labels, Knapsack}
+use Rattle.meaning.specs.Job.{Job, labels, Knapsack, packing}
 use Rattle.meaning.specs.Lent.{Lent}
+use Rattle.meaning.specs.Refusals.{jobRefusal, rulesOf}
 use Rattle.meaning.specs.Bytes.{readSection, withSection, readable, readJob}
 use Rattle.meaning.specs.Knapsacks.{Best}
 use Rattle.meaning.specs.Solved.{Solved, SolvedBytes}
-use Rattle.meaning.specs.Certificates.{certifiedRefusal, certifiedKnapsack}
+use Rattle.meaning.specs.Certificates.{certifiedKnapsack}
 use Rattle.meaning.specs.Writer.{Writes, WritesBytes}
 
 -- each number is a byte
@@ -37,7 +38,7 @@ pub record ValidJob (jobB : List ℕ) (j : Job) : Type 0 where
   pub reads : readJob jobB ≡ readable j
   pub knapsack : Knapsack
   pub of-knapsack : certifiedKnapsack (j .kind-number) ≡ some knapsack
-  pub not-refused : certifiedRefusal j 0 ≡ 0
+  pub not-refused : jobRefusal (rulesOf (packing knapsack)) j 0 ≡ 0
 
 -- the list is one the rules allow, fits and is best
 unfoldable pub BestList : Knapsack → Job → List ℕ → Type 0
