@@ -9,7 +9,7 @@ use mathlib.Core.Bool.{not, true}
 use mathlib.Core.List.{List, [], _++_, _∷_}
 use lib.Dec.{T, lit<, ltb}
 use lib.ListN.{length}
-use mir.Facts.{and-yes, ltb-no, no-ltb, yes-and}
+use mir.Facts.{and-yes, yes-and}
 use borrow.Author.Tests.{eq-eqb, eqb-true, le-ltb, ltb-false, lt-ltb, not-false}
 use Rattle.meaning.specs.declared.Verdict.{Verdict}
 use Rattle.meaning.specs.declared.Verdict.the-variants.{Accepted}
@@ -30,7 +30,8 @@ use Rattle.meaning.proofs.Sections.{All32, limit32}
 use Rattle.meaning.proofs.Valid.{is-valid, Valid, certificate-32, labels-32, has-passed}
 use Rattle.meaning.proofs.Covering.{CountsShown, Exact, counts-shown, covered, exact-corner, exact-keeps, fits-often, rule-in, rule-out}
 use Rattle.meaning.proofs.ExactCells.{cells-exact, exact-32, exact-long, exactCells}
-use Rattle.meaning.proofs.Verdicts.{JudgedAs, ReadAndSeen, Seen, accepts-seen, first-none, list-written, none-first}
+use Rattle.meaning.proofs.Searches.{first-none, none-first}
+use Rattle.meaning.proofs.Verdicts.{JudgedAs, ReadAndSeen, Seen, accepts-seen, list-written}
 use Rattle.meaning.proofs.Verdicts.{on-readable, on-unreadable, read-and-seen, readable-on, verdict-written}
 
 -- ---- a job that a certificate may be for
@@ -72,7 +73,7 @@ module _ (k : Knapsack) (j : Job) (v : Valid k j) (picks cells : List ℕ) where
         selection = record {
           one-each = long;
           allowed =
-              λ m h. shown .allowed m (at picks m) (ltb-no (first-none (λ i. ltb (mostPicks k j i) (at picks i)) (labels j) (s .within-counts) m h));
+              λ m h. shown .allowed m (at picks m) (ltb-false _ _ (first-none (λ i. ltb (mostPicks k j i) (at picks i)) (labels j) (s .within-counts) m h));
         };
         weight = omega (arith, ltb-false, s .light);
       } in
@@ -86,7 +87,7 @@ module _ (k : Knapsack) (j : Job) (v : Valid k j) (picks cells : List ℕ) where
       best-value-unique (exact-corner k j cells exact) (record { picks = picks; best = best; value = refl }) in
       record {
         within-counts = none-first (λ i. ltb (mostPicks k j i) (at picks i)) (labels j)
-            (λ i h. no-ltb (shown .within i (at picks i) h (best .fits .selection .allowed i h)
+            (λ i h. le-ltb _ _ (shown .within i (at picks i) h (best .fits .selection .allowed i h)
             (le-trans (total-part (j .weights) picks i) (best .fits .weight))));
         light = le-ltb (j .budget) (total (j .weights) picks) (best .fits .weight);
         rule-kept = rule-out j cells k (exact-keeps k j v shown cells exact);

@@ -1,17 +1,16 @@
 -- Rule 14 as an order between cells; cells that keep it are no less than the values they stand for, and exact cells keep it. What a knapsack
 -- brings is which counts the rule asks about, and that every allowed count follows; the argument is made once over the allowed counts.
 -- Assumes nothing.
-use mathlib.Core.Path.{_∙_, _≡_, ap, refl, subst, sym}
-use mathlib.Core.Logic.{inl, inr}
+use mathlib.Core.Path.{_∙_, _≡_, ap, ap₂, refl, subst, sym}
 use mathlib.Core.Option.{none}
 use Prim.Native.Nat.{_%_, _*_, _+_, _-_, _/_, _<_, _≤_, suc, zero, zero-le, ℕ}
-use native.Mathlib.Nat.{add-zero, le-mul-of-pos-right, le-of-eq, le-refl, le-trans, mul-comm, mul-one, mul-suc, mul-zero, not-suc-le-zero, sub-zero}
+use native.Mathlib.Nat.{add-zero, le-mul-of-pos-right, le-of-eq, le-refl, le-trans, mul-comm, mul-one, mul-suc, mul-zero, sub-zero}
+use native.Mathlib.Decide.{decLt}
 use native.Mathlib.Omega.{arith}
-use mathlib.Core.Bool.{Bool, _&&_, _||_, false, not, true}
+use mathlib.Core.Bool.{Bool, _&&_, _||_, false}
 use mathlib.Core.List.{List, [], _++_, _∷_}
-use lib.Dec.{T, leb, leb·zero, ltb, not-T}
-use borrow.Author.Count.{below-more}
-use mir.Facts.{and-no, and-yes, clash, leb-no, leb-yes, ltb-absurd, ltb-no, or-no}
+use lib.Dec.{leb, leb·zero, ltb}
+use borrow.Author.Tests.{le-leb, le-ltb, lt-leb, ltb-false}
 use Rattle.meaning.specs.Lists.{at, total}
 use Rattle.meaning.specs.Job.{Job, Knapsack, free, labels, limited, once}
 use Rattle.meaning.specs.Bounds.{mostBudget, mostOfOne}
@@ -24,27 +23,7 @@ use Rattle.meaning.proofs.Steps.{fits-less, fits-more}
 use Rattle.meaning.proofs.Free.{free-more}
 use Rattle.meaning.proofs.CellNumbers.{CellOf, RowAndBudget, cell-of, row-and-budget}
 use Rattle.meaning.proofs.Valid.{Valid, weight-rule}
-use Rattle.meaning.proofs.Verdicts.{first-none, none-first}
-
--- ---- some of so many numbers
-
--- none passes, so i does not
-pub none-of : (f : ℕ → Bool) (n : ℕ) → T (not (someOf f n)) → (i : ℕ) → i < n → T (not (f i))
-unfolding someOf
-none-of f zero t i h = absurd (not-suc-le-zero h)
-none-of f (suc n) t i h =
-    let (before, here) = or-no (someOf f n) (f n) t in
-    below-more (λ (x : ℕ). T (not (f x))) n (none-of f n before) here i (omega arith)
-
-neither : (a b : Bool) → T (not a) → T (not b) → T (not (a || b))
-neither true b s t = absurd s
-neither false b s t = t
-
--- and where none does, the test says so
-pub of-none : (f : ℕ → Bool) (n : ℕ) → ((i : ℕ) → i < n → T (not (f i))) → T (not (someOf f n))
-unfolding someOf
-of-none f zero h = tt
-of-none f (suc n) h = neither (someOf f n) (f n) (of-none f n (λ i k. h i (omega arith))) (h n (le-refl (suc n)))
+use Rattle.meaning.proofs.Searches.{first-none, none-first, none-pass, none-passes}
 
 -- ---- rule 14 at one count, as an order
 
@@ -56,20 +35,18 @@ module _ (k : Knapsack) (j : Job) (cells : List ℕ) (i c x : ℕ) where
   v = at (j .values) i
 
   -- the rule holds, so where x fit K(i+1,c) is no less
-  pub not-below : T (not (belowWith k j cells i c x)) → w * x ≤ c → cellAt k j cells i (c - w * x) + v * x ≤ cellAt k j cells (suc i) c
+  pub not-below : belowWith k j cells i c x ≡ false → w * x ≤ c → cellAt k j cells i (c - w * x) + v * x ≤ cellAt k j cells (suc i) c
   unfolding belowWith
-  not-below t heavy =
-      elim (and-no (leb (w * x) c) (ltb (cellAt k j cells (suc i) c) (cellAt k j cells i (c - w * x) + v * x)) t) [
-        | inl too-heavy ↦ clash (leb-no too-heavy) heavy
-        | inr enough ↦ ltb-no enough
-      ]
+  not-below e light = ltb-false _ _ (rw (le-leb (w * x) c light) at e)
 
   -- and back
-  pub below-not : (w * x ≤ c → cellAt k j cells i (c - w * x) + v * x ≤ cellAt k j cells (suc i) c) → T (not (belowWith k j cells i c x))
+  pub below-not : (w * x ≤ c → cellAt k j cells i (c - w * x) + v * x ≤ cellAt k j cells (suc i) c) → belowWith k j cells i c x ≡ false
   unfolding belowWith
   below-not h =
-      let low : Bool = ltb (cellAt k j cells (suc i) c) (cellAt k j cells i (c - w * x) + v * x) in
-      not-T (leb (w * x) c && low) (λ s. let (light, less) = and-yes (leb (w * x) c) low s in ltb-absurd (h (leb-yes light)) less)
+      elim (decLt c (w * x)) [
+        | yes heavy ↦ rw (lt-leb (w * x) c heavy)
+        | no light ↦ ap₂ _&&_ (le-leb (w * x) c (omega arith)) (le-ltb _ _ (h (omega arith)))
+      ]
 
 -- ---- rule 14 at every cell, as an order
 
@@ -93,26 +70,24 @@ module _ (j : Job) (cells : List ℕ) where
   width = j .budget + 1
 
   -- kinds 1 and 2: no row is too low
-  rows-kept : (k : Knapsack) → ((m : ℕ) → m < cellCount j → T (not (lowInRow k j cells (m / width) (m % width))))
+  rows-kept : (k : Knapsack) → ((m : ℕ) → m < cellCount j → lowInRow k j cells (m / width) (m % width) ≡ false)
       → (i x : ℕ) → i < labels j → x ≤ mostPicks k j i → NoneBelow k j cells i x
   unfolding lowInRow
   rows-kept k kept i x hi few = record {
     no-less = λ c hc light.
         let here : CellOf j (suc i) c = cell-of j (suc i) c hi hc in
-        let m : ℕ = cellNumber j (suc i) c in
-        let row : T (not (lowInRow k j cells (suc i) c)) =
-        subst (λ (y : ℕ). T (not (lowInRow k j cells (suc i) y))) (here .column)
-        (subst (λ (r : ℕ). T (not (lowInRow k j cells r (m % width)))) (here .row) (kept m (here .inside))) in
-        not-below k j cells i c x (none-of (belowWith k j cells i c) (suc (mostPicks k j i)) row x (omega arith)) light;
+        let row : lowInRow k j cells (suc i) c ≡ false =
+        sym (ap₂ (lowInRow k j cells) (here .row) (here .column)) ∙ kept (cellNumber j (suc i) c) (here .inside) in
+        not-below k j cells i c x (none-passes (belowWith k j cells i c) (suc (mostPicks k j i)) row x (omega arith)) light;
   }
 
   -- and back
   kept-rows : (k : Knapsack) → ((i x : ℕ) → i < labels j → x ≤ mostPicks k j i → NoneBelow k j cells i x)
-      → (i c : ℕ) → i ≤ labels j → c ≤ j .budget → T (not (lowInRow k j cells i c))
+      → (i c : ℕ) → i ≤ labels j → c ≤ j .budget → lowInRow k j cells i c ≡ false
   unfolding lowInRow
-  kept-rows k h zero c hi hc = tt
+  kept-rows k h zero c hi hc = refl
   kept-rows k h (suc i) c hi hc =
-      of-none (belowWith k j cells i c) (suc (mostPicks k j i))
+      none-pass (belowWith k j cells i c) (suc (mostPicks k j i))
       (λ x few. below-not k j cells i c x (λ light. h i x hi (omega arith) .no-less c hc light))
 
   -- no cell is too low exactly where the rule is kept
@@ -125,12 +100,12 @@ module _ (j : Job) (cells : List ℕ) where
       no-less = λ c hc light.
           let row = first-none (tooLow free j cells) width e c (omega arith) in
           not-below free j cells i c x
-          (subst (λ (y : ℕ). T (not (belowWith free j cells i c y))) (sym one) (none-of (λ i. belowWith free j cells i c 1) (labels j) row i hi)) light;
+          (ap (belowWith free j cells i c) one ∙ none-passes (λ i. belowWith free j cells i c 1) (labels j) row i hi) light;
     };
   }
 
   rows-out : (k : Knapsack) → ((i x : ℕ) → i < labels j → x ≤ mostPicks k j i → NoneBelow k j cells i x)
-      → (m : ℕ) → m < cellCount j → T (not (lowInRow k j cells (m / width) (m % width)))
+      → (m : ℕ) → m < cellCount j → lowInRow k j cells (m / width) (m % width) ≡ false
   rows-out k h m inside = let here : RowAndBudget j m = row-and-budget j m inside in kept-rows k h (m / width) (m % width) (here .row) (here .column)
 
   pub rule-out : (k : Knapsack) → RuleKept k j cells → lowCell k j cells ≡ none
@@ -139,7 +114,7 @@ module _ (j : Job) (cells : List ℕ) where
   rule-out limited r = none-first (tooLow limited j cells) (cellCount j) (rows-out limited (r .none-below))
   rule-out free r =
       none-first (tooLow free j cells) width
-      (λ c inside. of-none (λ i. belowWith free j cells i c 1) (labels j)
+      (λ c inside. none-pass (λ i. belowWith free j cells i c 1) (labels j)
       (λ i hi. below-not free j cells i c 1 (λ light. r .none-below i 1 hi refl .no-less c (omega arith) light)))
 
 -- ---- every allowed count
@@ -358,9 +333,5 @@ module _ (j : Job) (cells : List ℕ) where
 pub cell-0-kept : (j : Job) → Valid free j → (cells : List ℕ) → tooLow free j cells 0 ≡ false
 unfolding tooLow lowForOne
 cell-0-kept j v cells =
-    not-true (someOf (λ i. belowWith free j cells i 0 1) (labels j)) (of-none (λ i. belowWith free j cells i 0 1) (labels j)
-    (λ i hi. below-not free j cells i 0 1 (λ light. absurd (omega (arith, weight-rule free j v i hi, mul-one (at (j .weights) i))))))
-  where
-    not-true : (b : Bool) → T (not b) → b ≡ false
-    not-true true t = absurd t
-    not-true false t = refl
+    none-pass (λ i. belowWith free j cells i 0 1) (labels j)
+    (λ i hi. below-not free j cells i 0 1 (λ light. absurd (omega (arith, weight-rule free j v i hi, mul-one (at (j .weights) i)))))

@@ -28,6 +28,7 @@ pub mod Laws
 pub mod Numbers
 pub mod Sections
 -- certificates: the third demand
+pub mod Searches
 pub mod Valid
 pub mod SolvedIn
 pub mod Covering

@@ -69,6 +69,7 @@ pub record Valid (k : Knapsack) (j : Job) : Type 0 where
   pub copied : length (j .copies) ≡ if (hasCopies k) (labels j) 0
   pub weights : T (positive (j .weights))
   pub values : T (eachWithin (leastValue k) mostValue (j .values))
+  pub copies : T (eachWithin leastCopies mostCopies (j .copies))
 
 -- a knapsack that passed is valid
 pub is-valid : (k : Knapsack) (j : Job) (later : ℕ) → Passed (rulesOf (packing k)) j later → Valid k j
@@ -86,6 +87,7 @@ is-valid k j later p =
       copied = eqb-yes l′;
       weights = w;
       values = v;
+      copies = cs;
     }
 
 -- what every member passes, the one at a place does
@@ -95,16 +97,22 @@ every-at test [] i h t = absurd (not-suc-le-zero h)
 every-at test (x ∷ xs) zero h t = and-yes (test x) (every test xs) t .0
 every-at test (x ∷ xs) (suc i) h t = every-at test xs i (le-of-suc-le-suc h) (and-yes (test x) (every test xs) t .1)
 
--- the weights and values of a valid knapsack, one by one
+-- the weights, values and copies of a valid knapsack, one by one
 pub weight-rule : (k : Knapsack) (j : Job) → Valid k j → (i : ℕ) → i < labels j → 1 ≤ at (j .weights) i
 unfolding positive labels
 weight-rule k j ok i h = leb-yes (every-at (leb 1) (j .weights) i h (ok .weights))
 
-pub value-rule : (k : Knapsack) (j : Job) → Valid k j → (i : ℕ) → i < labels j → at (j .values) i ≤ mostValue
+within-rule : (least most : ℕ) (xs : List ℕ) → T (eachWithin least most xs) → (i : ℕ) → i < length xs → at xs i ≤ most
 unfolding eachWithin
-value-rule k j ok i h =
-    let within = every-at (λ x. leb (leastValue k) x && leb x mostValue) (j .values) i (omega (arith, ok .valued)) (ok .values) in
-    leb-yes (and-yes (leb (leastValue k) (at (j .values) i)) (leb (at (j .values) i) mostValue) within .1)
+within-rule least most xs ok i h =
+    leb-yes (and-yes (leb least (at xs i)) (leb (at xs i) most) (every-at (λ x. leb least x && leb x most) xs i h ok) .1)
+
+pub value-rule : (k : Knapsack) (j : Job) → Valid k j → (i : ℕ) → i < labels j → at (j .values) i ≤ mostValue
+value-rule k j ok i h = within-rule (leastValue k) mostValue (j .values) (ok .values) i (omega (arith, ok .valued))
+
+-- a copies number, where there is one
+pub copies-rule : (k : Knapsack) (j : Job) → Valid k j → (i : ℕ) → i < length (j .copies) → at (j .copies) i ≤ mostCopies
+copies-rule k j ok i h = within-rule leastCopies mostCopies (j .copies) (ok .copies) i h
 
 -- block sizes are no less than where they ascend from
 pub size-rule : (low : ℕ) (sizes : List ℕ) (i : ℕ) → i < length sizes → T (ascendingFrom low sizes) → low ≤ at sizes i

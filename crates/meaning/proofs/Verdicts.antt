@@ -3,13 +3,11 @@
 use mathlib.Core.Path.{_∙_, _≡_, ap, ap₂, refl, subst, sym}
 use mathlib.Core.Option.{Option, none, some}
 use Prim.Native.Nat.{_*_, _+_, _<_, _≤_, suc, zero, ℕ}
-use native.Mathlib.Nat.{le-refl, not-suc-le-zero}
 use native.Mathlib.Omega.{arith}
-use mathlib.Core.Bool.{Bool, false, not, true}
+use mathlib.Core.Bool.{Bool, false, true}
 use mathlib.Core.List.{List, [], _++_, append-nil}
-use lib.Dec.{T, ltb}
+use lib.Dec.{ltb}
 use lib.ListN.{length}
-use borrow.Author.Count.{below-more}
 use borrow.Author.Tests.{eq-eqb, eqb-true}
 use Rattle.meaning.specs.declared.Verdict.{Verdict}
 use Rattle.meaning.specs.declared.Verdict.the-variants.{Accepted, Refused}
@@ -22,45 +20,11 @@ use Rattle.meaning.specs.Job.{Job, Knapsack, labels, packing}
 use Rattle.meaning.specs.Refusals.{jobRefusal, rulesOf}
 use Rattle.meaning.specs.Bytes.{atEnd, isNeeded, numberAt, numbersIn, between, readSection}
 use Rattle.meaning.specs.Bytes.{readable, sectionBytes, unreadable, wholeSection, withSection}
-use Rattle.meaning.specs.Certificates.{certificateBroken, certificateCells, certifiedKnapsack, first, lowCell, misvalued, orElse, overPicked}
+use Rattle.meaning.specs.Certificates.{certificateBroken, certificateCells, certifiedKnapsack, lowCell, misvalued, overPicked}
 use Rattle.meaning.specs.Certificates.{overweight, unlessFound, unlessRefused, verdictFor, verdictOnCells, verdictOnCertificate, verdictOnJob}
 use Rattle.meaning.specs.Demands.{listIn}
 use Rattle.meaning.proofs.Numbers.{section-whole, SectionFound, section-found, section-numbers}
 use Rattle.meaning.proofs.Sections.{All32, Stands, end-back, read-on, section-next, stands-first, limit32}
-
--- ---- `first`
-
-some≢none : {n : ℕ} → _≡_ {A = Option ℕ} (some n) none → ⊥
-some≢none e = let z : _≡_ {A = ℕ} 0 1 = cc in omega arith
-
-or-else-none : (o p : Option ℕ) → orElse o p ≡ none → (o ≡ none) × (p ≡ none)
-unfolding orElse
-or-else-none (some i) p e = absurd (some≢none e)
-or-else-none none p e = (refl, e)
-
-if-none : (b : Bool) (n : ℕ) → if b (some n) none ≡ none → T (not b)
-unfolding if
-if-none true n e = absurd (some≢none e)
-if-none false n e = tt
-
-none-if : (b : Bool) (n : ℕ) → T (not b) → if b (some n) none ≡ none
-unfolding if
-none-if true n t = absurd t
-none-if false n t = refl
-
--- it finds nothing exactly where no number passes
-pub first-none : (f : ℕ → Bool) (n : ℕ) → first f n ≡ none → (i : ℕ) → i < n → T (not (f i))
-unfolding first
-first-none f zero e i h = absurd (not-suc-le-zero h)
-first-none f (suc n) e i h =
-    let (before, here) = or-else-none (first f n) (if (f n) (some n) none) e in
-    below-more (λ (x : ℕ). T (not (f x))) n (first-none f n before) (if-none (f n) n here) i (omega arith)
-
--- and back
-pub none-first : (f : ℕ → Bool) (n : ℕ) → ((i : ℕ) → i < n → T (not (f i))) → first f n ≡ none
-unfolding first orElse
-none-first f zero h = refl
-none-first f (suc n) h = rw (none-first f n (λ i k. h i (omega arith)), orElse) (none-if (f n) n (h n (le-refl (suc n))))
 
 -- ---- past each refusal to what was accepted
 
