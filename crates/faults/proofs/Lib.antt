@@ -1,0 +1,10 @@
+-- The laws behind the proofs of this crate.
+pub mod Telling
+pub mod Passes
+pub mod Pairs
+pub mod Carrying
+pub mod Within
+pub mod Across
+pub mod Blocks
+pub mod Counts
+pub mod Rule

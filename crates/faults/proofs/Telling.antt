@@ -1,0 +1,20 @@
+-- Answers with what stands behind them.
+-- Assumes nothing.
+use mathlib.Core.Path.{_≡_, sym}
+use Prim.Native.Nat.{ℕ}
+use native.Mathlib.Omega.{arith}
+use mathlib.Core.Bool.{Bool, true, false}
+use Rattle.faults.specs.Columns.{Tells}
+
+pub never : true ≡ false → ⊥
+never e = let z : _≡_ {A = ℕ} 0 1 = cc in omega arith
+
+pub tells-low : {Broken Kept : Type 0} → Broken → Tells true Broken Kept
+tells-low x = record { broken = λ e. x; kept = λ e. absurd (never e) }
+
+pub tells-high : {Broken Kept : Type 0} → Kept → Tells false Broken Kept
+tells-high x = record { broken = λ e. absurd (never (sym e)); kept = λ e. x }
+
+-- the same answer to another question
+pub tells-as : (r : Bool) {Broken Kept Broken′ Kept′ : Type 0} → (Broken → Broken′) → (Kept → Kept′) → Tells r Broken Kept → Tells r Broken′ Kept′
+tells-as r f g t = record { broken = λ e. f (t .broken e); kept = λ e. g (t .kept e) }

@@ -1,0 +1,103 @@
+-- `faults::breaks_pair` meets its contract, budget by budget.
+-- Assumes nothing.
+use Prim.Native.Nat.{_≤_, _-_}
+use native.Mathlib.Omega.{arith}
+use borrow.Author.Needs.{needs}
+use Rattle.meaning.specs.Bytes.{numbersIn}
+use Rattle.meaning.proofs.Numbers.{numbers-long}
+use Rattle.faults.specs.Columns.{BothTold}
+use Rattle.faults.proofs.Pairs.{pair-start, pair-next, pair-end}
+use Rattle.faults.proofs.breaks_pair.Statement.{statement}
+use Rattle.faults.proofs.breaks_pair.Tie as tie
+
+abbrev Inv-loop : tie.InvT-loop
+Inv-loop cells prior row left far w gain v up beside more low₀ c₀ low c =
+    (c ≤ left) × BothTold low (numbersIn cells) prior row c far w gain v
+
+abbrev μ-loop : tie.MeasureT-loop
+μ-loop cells prior row left far w gain v up beside more low₀ c₀ low c = left - c
+
+-- the function's entry, from the loop's head, and a turn's, once the claim is read
+abbrev start : tie.At-loop Inv-loop μ-loop → tie.Start Inv-loop μ-loop
+start c = c .before .before
+
+abbrev turn : tie.After-number-in Inv-loop μ-loop → tie.In-loop Inv-loop μ-loop
+turn c = c .before
+
+add-up : tie.Need-add-up Inv-loop μ-loop
+add-up c = omega (arith, numbers-long (c .before .args .cells .now))
+
+add-up-2 : tie.Need-add-up-2 Inv-loop μ-loop
+add-up-2 c = omega (arith, numbers-long (c .before .args .cells .now))
+
+add-beside : tie.Need-add-beside Inv-loop μ-loop
+add-beside c = omega (arith, numbers-long (c .before .args .cells .now))
+
+add-more : tie.Need-add-more Inv-loop μ-loop
+add-more c = search needs
+
+loop-holds : tie.Need-loop-holds Inv-loop μ-loop
+loop-holds c = (omega arith, pair-start _ _ _ _ _ _ _)
+
+add-number-in : tie.Need-add-number-in Inv-loop μ-loop
+add-number-in c = omega (arith, numbers-long (start (c .before) .args .cells .now))
+
+number-in-requires : tie.Need-number-in-requires Inv-loop μ-loop
+number-in-requires c κs = omega (arith, start (c .before) .pre)
+
+add-number-in-2 : tie.Need-add-number-in-2 Inv-loop μ-loop
+add-number-in-2 c = omega (arith, numbers-long (start (turn c .before) .args .cells .now))
+
+number-in-requires-2 : tie.Need-number-in-requires-2 Inv-loop μ-loop
+number-in-requires-2 c κs = omega (arith, start (turn c .before) .pre)
+
+add-number-in-3 : tie.Need-add-number-in-3 Inv-loop μ-loop
+add-number-in-3 c = omega (arith, numbers-long (start (turn (c .before) .before) .args .cells .now))
+
+number-in-requires-3 : tie.Need-number-in-requires-3 Inv-loop μ-loop
+number-in-requires-3 c κs = omega (arith, start (turn (c .before) .before) .pre)
+
+is-below-either-requires : tie.Need-is-below-either-requires Inv-loop μ-loop
+is-below-either-requires c κs = omega arith
+
+add-c : tie.Need-add-c Inv-loop μ-loop
+add-c c = omega arith
+
+loop-less : tie.Need-loop-less Inv-loop μ-loop
+loop-less c = omega arith
+
+loop-again : tie.Need-loop-again Inv-loop μ-loop
+loop-again c =
+    let other = c .before in
+    let near = other .before in
+    let claim = near .before in (
+      omega arith,
+      pair-next _ _ _ _ _ _ _ _ _ _ _ _ _ (c .is-below-either .ensures) (claim .number-in .ensures) (near .number-in2 .ensures)
+          (other .number-in3 .ensures) (turn claim .before .loop .inv .1),
+    )
+
+returns : tie.Need-returns Inv-loop μ-loop
+returns c = pair-end _ _ _ _ _ _ _ _ _ _ (omega arith) (c .before .loop .inv .1)
+
+pub breaks-pair-spec : {M : Type 1} → statement M
+breaks-pair-spec =
+    tie.close
+    (tie.spec
+    Inv-loop
+    μ-loop
+    add-up
+    add-up-2
+    add-beside
+    add-more
+    loop-holds
+    add-number-in
+    number-in-requires
+    add-number-in-2
+    number-in-requires-2
+    add-number-in-3
+    number-in-requires-3
+    is-below-either-requires
+    add-c
+    loop-less
+    loop-again
+    returns)
