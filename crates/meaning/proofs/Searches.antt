@@ -68,6 +68,12 @@ module _ (test : ℕ → Bool) where
       let (before, here) = or-neither (someOf test n) (test n) e in
       below-more (λ (x : ℕ). test x ≡ false) n (none-passes n before) here i (omega arith)
 
+-- two tests that agree on them
+pub some-same : (f g : ℕ → Bool) (n : ℕ) → ((i : ℕ) → i < n → f i ≡ g i) → someOf f n ≡ someOf g n
+unfolding someOf
+some-same f g zero same = refl
+some-same f g (suc n) same = ap₂ _||_ (some-same f g n (λ i h. same i (omega arith))) (same n (le-refl (suc n)))
+
 -- ---- the first that does
 
 some≢none : {n : ℕ} → _≡_ {A = Option ℕ} (some n) none → ⊥

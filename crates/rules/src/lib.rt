@@ -5,7 +5,7 @@ ghost use mathlib.Core.Option.{some};
 ghost use Prim.Native.Nat.{ℕ, _≤_, min};
 ghost use mathlib.Core.Bool.{Bool, true, false};
 ghost use Rattle.meaning.specs.Job.{Knapsack, packing, subset-sums, fewest-blocks, block-ways, sharing, kindOf};
-ghost use Rattle.meaning.specs.Bounds.{mostLabels, mostBudget, mostValue, mostCopies, leastCopies};
+ghost use Rattle.meaning.specs.Bounds.{mostLabels, mostBudget, mostValue, mostCopies, leastCopies, mostOfOne};
 ghost use Rattle.meaning.specs.Refusals.{rulesOf, weightRules};
 ghost use Rattle.rules.specs.Ruling.{rulesFrom, ruleFrom};
 ghost use Rattle.rules.specs.Places.{NeededBy, hasRoom};
@@ -28,6 +28,8 @@ const MOST_VALUE: u32 = 65_535;
 const MOST_COPIES: u32 = 65_535;
 // Copies, at least.
 const LEAST_COPIES: u32 = 0;
+// Picks of one label in a certificate of kind 3.
+const MOST_OF_ONE: u32 = 65_535;
 
 // ---- the rules
 
@@ -123,6 +125,13 @@ pub fn copies_bounds() -> Bounds
         least: LEAST_COPIES,
         most: MOST_COPIES,
     }
+}
+
+// The most picks of one label in a certificate of kind 3.
+pub fn most_of_one() -> u32
+    ensures { λ r. ⌜ r ≡ mostOfOne ⌝ }
+{
+    MOST_OF_ONE
 }
 
 // ---- the room

@@ -1,7 +1,6 @@
--- The laws behind the proofs of this crate; those of Once are for `certificate` too.
-pub mod Once
-pub mod Searching
+-- Laws that the proofs of this crate's functions cite, and the crates above.
+pub mod Taken
+pub mod PickedSums
 pub mod LowRows
 pub mod LowCells
-pub mod PickedSums
 pub mod Judging

@@ -1,169 +1,123 @@
--- Rule 14 at one cell after the other: by the cells that the code reads, none of a label and one of it; and kept below a cell.
+-- The search for the first cell at fault: rule 14 is kept below a cell, and a run of cells that breaks it is narrowed by halves.
 -- Assumes nothing.
-use mathlib.Core.Path.{_≡_, refl, sym, ap, ap₂, _∙_, subst}
+use mathlib.Core.Path.{_≡_, refl, sym, ap, subst, _∙_}
 use mathlib.Core.Option.{none}
-use Prim.Native.Nat.{ℕ, suc, _+_, _-_, _*_, _/_, _%_, _≤_, _<_}
-use native.Mathlib.Nat.{add-assoc, div-eq-of-lt, mul-le-mul-right, one-mul, suc-mul}
+use Prim.Native.Nat.{ℕ, _+_, _-_, _≤_, _<_}
 use native.Mathlib.Decide.{decLt}
 use native.Mathlib.Omega.{arith}
-use mathlib.Core.Bool.{Bool, true, false, not, _&&_, _||_}
+use mathlib.Core.Bool.{Bool, true, false}
 use mathlib.Core.List.{List}
-use lib.Dec.{T, ltb}
-use lib.ListN.{length}
-use borrow.Author.Tests.{le-leb, lt-leb}
-use Rattle.meaning.specs.Lists.{at, if}
-use Rattle.meaning.specs.Job.{Job, labels}
-use Rattle.meaning.specs.Lent.{cellCount}
-use Rattle.meaning.specs.Knapsacks.{cellNumber}
-use Rattle.meaning.specs.Certificates.{belowWith, cellAt, first, lowCell, mostPicks, someCount, tooLow}
-use Rattle.meaning.proofs.CellNumbers.{CellOf, cell-of}
-use Rattle.meaning.proofs.Verdicts.{none-first}
+use Rattle.meaning.specs.Lists.{if}
+use Rattle.meaning.specs.Job.{Job, Knapsack}
+use Rattle.meaning.specs.Certificates.{certificateCells, first, lowCell, someOf, tooLow}
+use Rattle.meaning.proofs.Searches.{first-none, first-passes, first-start, none-first, none-passes, passing}
 use Rattle.verdicts.specs.declared.Found.{Found}
 use Rattle.verdicts.specs.declared.Found.the-variants.{At, Nowhere}
 use Rattle.verdicts.specs.Searching.{placeOf}
-use Rattle.verdicts.specs.LowRows.{RowThere, anyOf, belowBefore, belowWithLabel, lowIn}
-use Rattle.verdicts.proofs.Searching.{first-clear, first-fails, first-passes}
-use Rattle.verdicts.proofs.LowRows.{from-within, passed-over}
 
--- ---- the rule at one cell
+-- where a run is searched from, by what was told of it
+pub from-start : {low : Bool} (from end : ℕ) → low ≡ true → from ≡ if low from end
+unfolding if
+from-start from end e = rw e
 
-module _ (j : Job) (cells : List ℕ) where
-  abbrev width : ℕ
-  width = j .budget + 1
+pub from-end : {low : Bool} (from end : ℕ) → low ≡ false → end ≡ if low from end
+unfolding if
+from-end from end e = rw e
 
-  -- rule 14 is broken at cell m
-  abbrev pub lowAt : ℕ → Bool
-  lowAt m = tooLow j cells (m / width) (m % width)
+-- more than one is left
+pub two-left : (kept end : ℕ) → kept < end → ¬ (end - kept ≡ 1) → kept + 1 < end
+two-left kept end more not-one = elim (decLt (kept + 1) end) [
+  | yes two ↦ two
+  | no one ↦ absurd (not-one (omega arith))
+]
 
-  -- row 0 may hold any claims
-  row-0-free : first lowAt (1 * width) ≡ none
-  unfolding tooLow
-  row-0-free =
-      subst (λ (m : ℕ). first lowAt m ≡ none) (sym (one-mul width))
-      (none-first lowAt width (λ m h. subst (λ (i : ℕ). T (not (tooLow j cells i (m % width)))) (sym (div-eq-of-lt h)) tt))
+module _ (k : Knapsack) (j : Job) (cells : List ℕ) where
+  -- some cell from one on and below another is at fault
+  abbrev pub lowBetween : ℕ → ℕ → Bool
+  lowBetween from end = someOf (λ (m : ℕ). tooLow k j cells (from + m)) (end - from)
 
-  -- the rule at row i+1, by the two counts that a label may have: none of it, and one
-  by-counts : (i c : ℕ) → tooLow j cells (suc i) c ≡ (belowWith j cells i c 0 || belowWith j cells i c 1)
-  unfolding tooLow mostPicks someCount
-  by-counts i c = refl
+  -- nothing was found yet, and rule 14 is kept at every cell below m
+  pub record KeptBelow (found : Found) (m : ℕ) : Type 0 where
+    pub nowhere : found ≡ Nowhere
+    pub kept : first (tooLow k j cells) m ≡ none
 
-  module _ (i c : ℕ) (label : i < labels j) (budget : c < width) where
-    abbrev w : ℕ
-    w = at (j .weights) i
+  pub kept-start : KeptBelow Nowhere 0
+  kept-start = record { nowhere = refl; kept = first-start (tooLow k j cells) }
 
-    abbrev m : ℕ
-    m = (i + 1) * width + c
-
-    numbered : cellNumber j (suc i) c ≡ m
-    unfolding cellNumber
-    numbered = omega (arith, suc-mul i width)
-
-    low-here : lowAt m ≡ tooLow j cells (suc i) c
-    low-here =
-        let here : CellOf j (suc i) c = cell-of j (suc i) c label (omega arith) in
-        ap (λ (k : ℕ). lowAt k) (sym numbered) ∙ ap₂ (λ (x y : ℕ). tooLow j cells x y) (here .row) (here .column)
-
-    -- a count that weighs at most c is asked about
-    asked : (x : ℕ) → w * x ≤ c → belowWith j cells i c x ≡ ltb (at cells m) (at cells (m - width - w * x) + at (j .values) i * x)
-    unfolding belowWith cellAt cellNumber
-    asked x fits =
-        let place : i * width + (c - w * x) ≡ m - width - w * x = omega (arith, suc-mul i width) in
-        ap (λ (b : Bool). b && ltb (at cells (suc i * width + c)) (at cells (i * width + (c - w * x)) + at (j .values) i * x)) (le-leb (w * x) c fits)
-        ∙ ap₂ (λ (claim before : ℕ). ltb (at cells claim) (at cells before + at (j .values) i * x)) numbered place
-
-    -- and one that weighs more isn't
-    unasked : (x : ℕ) → c < w * x → belowWith j cells i c x ≡ false
-    unfolding belowWith
-    unasked x heavy = rw (lt-leb (w * x) c heavy)
-
-    none-of-it : belowWith j cells i c 0 ≡ ltb (at cells m) (at cells (m - width))
-    none-of-it =
-        let place : m - width - w * 0 ≡ m - width = omega arith in
-        let claimed : at cells (m - width) + at (j .values) i * 0 ≡ at cells (m - width) = omega arith in
-        asked 0 (omega arith) ∙ ap (λ (k : ℕ). ltb (at cells m) (at cells k + at (j .values) i * 0)) place ∙ ap (ltb (at cells m)) claimed
-
-    one-of-it : w ≤ c → belowWith j cells i c 1 ≡ ltb (at cells m) (at cells (m - width - w) + at (j .values) i)
-    one-of-it heavy =
-        let place : m - width - w * 1 ≡ m - width - w = omega arith in
-        let more : at (j .values) i * 1 ≡ at (j .values) i = omega arith in
-        asked 1 (omega arith) ∙ ap₂ (λ (k v : ℕ). ltb (at cells m) (at cells k + v)) place more
-
-    -- the rule by cells alone
-    low-is : lowAt m ≡ lowIn cells ((i + 1) * width) width w (at (j .values) i) c
-    unfolding lowIn belowBefore belowWithLabel
-    low-is =
-        low-here ∙ by-counts i c
-        ∙ ap₂ _||_ none-of-it (elim (decLt c w) [
-          | yes light ↦ unasked 1 (omega arith) ∙ rw (lt-leb w c light)
-          | no heavy ↦ one-of-it (omega arith) ∙ rw (le-leb w c (omega arith))
-        ])
-
--- ---- a label's row
-
--- label i was read, w is its weight and v its value; and there are as many cells as the job needs
-pub record LabelRead (j : Job) (cells : List ℕ) (i w v : ℕ) : Type 0 where
-  pub long : length cells ≡ cellCount j
-  pub label : i < labels j
-  pub w-is : w ≡ at (j .weights) i
-  pub v-is : v ≡ at (j .values) i
-
--- its row is there
-pub label-row : (j : Job) (cells : List ℕ) (i : ℕ) → length cells ≡ cellCount j → i < labels j
-    → RowThere cells ((i + 1) * (j .budget + 1)) (j .budget + 1)
-unfolding cellCount
-label-row j cells i long label =
-    let n = labels j in
-    let width = j .budget + 1 in
-    record { not-first = omega (arith, suc-mul i width); ends = omega (arith, mul-le-mul-right width label, suc-mul i width, suc-mul n width) }
-
--- ---- the rule kept below a cell
-
--- nothing was found yet, and rule 14 is kept at every cell below m
-pub record KeptBelow (j : Job) (cells : List ℕ) (found : Found) (m : ℕ) : Type 0 where
-  pub nowhere : found ≡ Nowhere
-  pub kept : first (lowAt j cells) m ≡ none
-
--- it is kept in row 0
-pub row-0-kept : (j : Job) (cells : List ℕ) → KeptBelow j cells Nowhere (1 * (j .budget + 1))
-row-0-kept j cells = record { nowhere = refl; kept = row-0-free j cells }
-
-module _ {j : Job} {cells : List ℕ} {i w v : ℕ} (r : LabelRead j cells i w v) where
-  abbrev row : ℕ
-  row = (i + 1) * (j .budget + 1)
-
-  pub low-by : (c : ℕ) → c < j .budget + 1 → lowAt j cells (row + c) ≡ lowIn cells row (j .budget + 1) w v c
-  low-by c h = low-is j cells i c (r .label) h ∙ ap₂ (λ (x y : ℕ). lowIn cells row (j .budget + 1) x y c) (sym (r .w-is)) (sym (r .v-is))
-
-  -- a row is searched from where it keeps the rule below
-  pub start-kept : {found : Found} (from : ℕ) → from ≡ if (anyOf (lowIn cells row (j .budget + 1) w v) 0 (j .budget + 1)) 0 (j .budget + 1)
-      → KeptBelow j cells found row → (from ≤ j .budget + 1) × KeptBelow j cells found (row + from)
-  start-kept from from-is k =
-      let test = lowIn cells row (j .budget + 1) w v in
-      let within = from-within (anyOf test 0 (j .budget + 1)) (j .budget + 1) in
-      let passed : (c : ℕ) → c < from → lowAt j cells (row + c) ≡ false =
-      λ c h. low-by c (omega (arith, within)) ∙ passed-over test (j .budget + 1) from from-is c h in
-      (omega (arith, within), record { nowhere = k .nowhere; kept = first-clear (lowAt j cells) row (k .kept) from passed })
-
--- it is kept at one more, to the end of a row, or not at the one that is found
-module _ {j : Job} {cells : List ℕ} {found : Found} (row c : ℕ) (k : KeptBelow j cells found (row + c)) where
-  pub cell-passed : lowAt j cells (row + c) ≡ false → KeptBelow j cells found (row + (c + 1))
-  cell-passed keeps = record {
-    nowhere = k .nowhere;
-    kept = subst (λ (m : ℕ). first (lowAt j cells) m ≡ none) (add-assoc row c 1) (first-fails (lowAt j cells) (row + c) (k .kept) keeps);
+  -- some more that keep it
+  kept-on : {found : Found} (from m end : ℕ) → from ≤ m → KeptBelow found m → lowBetween from end ≡ false → KeptBelow found end
+  kept-on from m end h b none-low = record {
+    nowhere = b .nowhere;
+    kept = none-first (tooLow k j cells) end
+        (λ c inside. elim (decLt c m) [
+          | yes below ↦ first-none (tooLow k j cells) m (b .kept) c below
+          | no above ↦
+              let place : from + (c - from) ≡ c = omega arith in
+              sym (ap (tooLow k j cells) place) ∙ none-passes (λ (x : ℕ). tooLow k j cells (from + x)) (end - from) none-low (c - from) (omega arith)
+        ]);
   }
 
-  pub row-passed : (i : ℕ) → row ≡ i * (j .budget + 1) → c ≡ j .budget + 1 → KeptBelow j cells found ((i + 1) * (j .budget + 1))
-  row-passed i row-is all =
-      let next : row + c ≡ (i + 1) * (j .budget + 1) = omega (arith, suc-mul i (j .budget + 1)) in
-      subst (λ (m : ℕ). KeptBelow j cells found m) next k
+  -- of the cells from `from` on and below `last`: they keep the rule; or some below `end` doesn't, and all below `kept` do
+  pub data Narrowed (found : Found) (from last kept end : ℕ) : Type 0 where
+    all-kept : kept ≡ last → end ≤ last → KeptBelow found last → Narrowed found from last kept end
+    one-low : from ≤ kept → kept < end → end ≤ last → lowBetween from end ≡ true → KeptBelow found kept → Narrowed found from last kept end
 
-  pub cell-found : row + c < cellCount j → lowAt j cells (row + c) ≡ true → placeOf (At (row + c)) ≡ lowCell j cells
+  -- a run is searched from its start, or not at all
+  pub narrow-start : {found : Found} (from last start : ℕ) → from < last → start ≡ if (lowBetween from last) from last → KeptBelow found from
+      → Narrowed found from last start last
+  unfolding if
+  narrow-start {found} from last start filled start-is b = by (lowBetween from last) refl start-is
+    where
+      by : (low : Bool) → lowBetween from last ≡ low → start ≡ if low from last → Narrowed found from last start last
+      by true e s = one-low (omega arith) (omega arith) (omega arith) e (subst (λ (m : ℕ). KeptBelow found m) (sym s) b)
+      by false e s = all-kept s (omega arith) (kept-on from from last (omega arith) b e)
+
+  module _ {found : Found} {from last kept end : ℕ} where
+    -- no more than `last` is asked about
+    pub narrow-within : Narrowed found from last kept end → end ≤ last
+    narrow-within (all-kept e h b) = h
+    narrow-within (one-low f l h low b) = h
+
+    module _ (more : kept < end) where
+      pub narrow-from : Narrowed found from last kept end → from ≤ kept
+      narrow-from (all-kept e h b) = absurd (omega arith)
+      narrow-from (one-low f l h low b) = f
+
+      -- the half up to a cell in the middle breaks the rule, or keeps it
+      pub half-low : (middle : ℕ) → kept < middle → middle < end → lowBetween from middle ≡ true → Narrowed found from last kept end
+          → Narrowed found from last kept middle
+      half-low middle above below low (all-kept e h b) = absurd (omega arith)
+      half-low middle above below low (one-low f l h one b) = one-low f above (omega arith) low b
+
+      pub half-kept : (middle : ℕ) → kept < middle → middle < end → lowBetween from middle ≡ false → Narrowed found from last kept end
+          → Narrowed found from last middle end
+      half-kept middle above below none-low (all-kept e h b) = absurd (omega arith)
+      half-kept middle above below none-low (one-low f l h one b) = one-low (omega arith) below h one (kept-on from kept middle f b none-low)
+
+      -- one is left
+      pub found-low : end - kept ≡ 1 → last ≤ certificateCells k j → Narrowed found from last kept end → placeOf (At kept) ≡ lowCell k j cells
+      unfolding placeOf lowCell
+      found-low one-left inside (all-kept e h b) = absurd (omega arith)
+      found-low one-left inside (one-low f l h one b) =
+          let p = passing (λ (m : ℕ). tooLow k j cells (from + m)) (end - from) one in
+          let place : from + p .place ≡ kept = here (p .place) (p .inside) (p .passes) in
+          sym (first-passes (tooLow k j cells) kept (b .kept) (sym (ap (tooLow k j cells) place) ∙ p .passes) (certificateCells k j) (omega arith))
+        where
+          here : (m : ℕ) → m < end - from → tooLow k j cells (from + m) ≡ true → from + m ≡ kept
+          here m within passes = elim (decLt (from + m) kept) [
+            | yes below ↦ let never : true ≡ false = sym passes ∙ first-none (tooLow k j cells) kept (b .kept) (from + m) below in
+                let z : _≡_ {A = ℕ} 0 1 = cc in absurd (omega arith)
+            | no above ↦ omega arith
+          ]
+
+    -- none is left
+    pub run-passed : end ≤ kept → Narrowed found from last kept end → KeptBelow found last
+    run-passed past (all-kept e h b) = b
+    run-passed past (one-low f l h one b) = absurd (omega arith)
+
+  -- no cell is left
+  pub none-found : {found : Found} (from : ℕ) → certificateCells k j ≤ from → KeptBelow found from → placeOf found ≡ lowCell k j cells
   unfolding placeOf lowCell
-  cell-found inside breaks = sym (first-passes (lowAt j cells) (row + c) (k .kept) breaks (cellCount j) inside)
-
--- no cell is left
-pub none-found : {j : Job} {cells : List ℕ} {found : Found} (i : ℕ) → i ≡ labels j → KeptBelow j cells found ((i + 1) * (j .budget + 1))
-    → placeOf found ≡ lowCell j cells
-unfolding placeOf lowCell cellCount
-none-found {j} {cells} i all k =
-    ap placeOf (k .nowhere) ∙ sym (ap (λ (n : ℕ). first (lowAt j cells) ((n + 1) * (j .budget + 1))) (sym all) ∙ k .kept)
+  none-found from past b =
+      ap placeOf (b .nowhere)
+      ∙ sym (none-first (tooLow k j cells) (certificateCells k j) (λ i h. first-none (tooLow k j cells) from (b .kept) i (omega arith)))

@@ -1,195 +1,287 @@
--- Rule 14 over a row: some budgets after others, the code's test without a sum, and the two parts of a row.
+-- Rule 14 over some cells of a row, as `faults` tells it by cells alone.
 -- Assumes nothing.
-use mathlib.Core.Path.{_≡_, refl, sym, ap, ap₂, _∙_}
-use Prim.Native.Nat.{ℕ, zero, zero-le, suc, _+_, _-_, _%_, _≤_, _<_, min}
+use mathlib.Core.Path.{_≡_, refl, sym, ap, ap₂, subst, _∙_}
+use Prim.Native.Nat.{ℕ, zero, suc, _+_, _-_, _*_, _/_, _%_, _≤_, _<_, min}
+use native.Mathlib.Nat.{div-eq-of-lt, lt-of-mul-lt-mul-right, mul-le-mul-right, one-mul, suc-mul, zero-mul}
 use native.Mathlib.Decide.{decLt}
-use native.Mathlib.Nat.{add-zero, le-refl}
 use native.Mathlib.Omega.{arith}
-use mathlib.Core.Bool.{Bool, true, false, _&&_, _||_}
+use mathlib.Core.Bool.{Bool, true, false, _&&_}
 use mathlib.Core.List.{List}
+use lib.Arith.{digits-div}
 use lib.Dec.{leb, ltb}
-use borrow.Author.Tests.{le-leb, le-ltb, lt-leb, lt-ltb}
-use Rattle.meaning.specs.Lists.{at, if}
-use Rattle.verdicts.specs.LowRows.{anyOf, belowBefore, belowWithLabel, belowEither, lowIn}
+use lib.ListN.{length}
+use borrow.Author.Tests.{lt-leb}
+use Rattle.meaning.specs.Lists.{at}
+use Rattle.meaning.specs.Job.{Job, Knapsack, labels, once, limited, free}
+use Rattle.meaning.specs.Bounds.{mostBudget, mostValue}
+use Rattle.meaning.specs.Lent.{cellCount}
+use Rattle.meaning.specs.Knapsacks.{cellNumber}
+use Rattle.meaning.specs.Certificates.{belowWith, cellAt, certificateCell, certificateCells, lowForOne, lowInRow, mostPicks, someOf, tooLow}
+use Rattle.meaning.proofs.CellNumbers.{CellOf, cell-of}
+use Rattle.meaning.proofs.Searches.{none-pass, none-passes, passing, some-passes, some-same}
+use Rattle.meaning.proofs.Valid.{Valid, value-rule, weight-rule}
+use Rattle.meaning.proofs.Covering.{rule-14-free}
+use Rattle.faults.specs.LowRows.{Budgets, RowThere, belowCount, belowOne, lowIn}
+use Rattle.verdicts.specs.Asked.{InRow, Together, knapsackIn}
+use Rattle.verdicts.proofs.Taken.{taken-free, taken-limited, taken-once}
 
--- ---- some of so many numbers
+-- ---- kinds 1 and 2: a table
 
-or-assoc : (a b c : Bool) → ((a || b) || c) ≡ (a || (b || c))
-or-assoc true b c = refl
-or-assoc false b c = refl
+-- the knapsacks whose certificate is a table
+pub data Tabled : Knapsack → Type 0 where
+  once-tabled : Tabled once
+  limited-tabled : Tabled limited
 
-or-false : (b : Bool) → (b || false) ≡ b
-or-false true = refl
-or-false false = refl
+pub tabled : (kind : ℕ) → ¬ (kind ≡ 3) → Tabled (knapsackIn kind)
+tabled kind not-3 = elim (decLt 1 kind) [
+  | yes more ↦ subst Tabled (sym (taken-limited kind (λ e. absurd (omega arith)) not-3)) limited-tabled
+  | no less ↦ elim (decLt 0 kind) [
+    | yes some ↦ let one : kind ≡ 1 = omega arith in subst Tabled (sym (taken-once kind one)) once-tabled
+    | no none ↦ subst Tabled (sym (taken-limited kind (λ e. absurd (omega arith)) not-3)) limited-tabled
+  ]
+]
 
-or-neither : (a b : Bool) → (a || b) ≡ false → (a ≡ false) × (b ≡ false)
-or-neither true b e = (e, let c : true ≡ false = e in cc)
-or-neither false b e = (refl, e)
+-- what a table is
+pub record TableOf (k : Knapsack) (j : Job) : Type 0 where
+  pub many : certificateCells k j ≡ cellCount j
+  pub cell-is : (i c : ℕ) → certificateCell k j i c ≡ cellNumber j i c
+  pub low-is : (cells : List ℕ) (m : ℕ) → tooLow k j cells m ≡ lowInRow k j cells (m / (j .budget + 1)) (m % (j .budget + 1))
+  pub in-row : (from end : ℕ) → Together k j from end → InRow j from end
 
--- two tests that agree on them
-any-same : (f g : ℕ → Bool) (from k : ℕ) → ((c : ℕ) → from ≤ c → c < from + k → f c ≡ g c) → anyOf f from k ≡ anyOf g from k
-unfolding anyOf
-any-same f g from zero same = refl
-any-same f g from (suc k) same = ap₂ _||_ (any-same f g from k (λ c h l. same c h (omega arith))) (same (from + k) (omega arith) (omega arith))
+pub table-of : {k : Knapsack} → Tabled k → (j : Job) → TableOf k j
+unfolding certificateCells certificateCell tooLow Together
+table-of once-tabled j =
+    record { many = refl; cell-is = λ i c. refl; low-is = λ cells m. refl; in-row = λ from end t. t }
+table-of limited-tabled j =
+    record { many = refl; cell-is = λ i c. refl; low-is = λ cells m. refl; in-row = λ from end t. t }
 
--- some after others
-any-more : (f : ℕ → Bool) (a b : ℕ) → anyOf f 0 (a + b) ≡ (anyOf f 0 a || anyOf f a b)
-unfolding anyOf
-any-more f a zero = ap (anyOf f 0) (add-zero a) ∙ sym (or-false (anyOf f 0 a))
-any-more f a (suc b) =
-    let next : a + suc b ≡ suc (a + b) = omega arith in
-    let same : 0 + (a + b) ≡ a + b = omega arith in
-    ap (anyOf f 0) next ∙ ap₂ _||_ (any-more f a b) (ap f same) ∙ or-assoc (anyOf f 0 a) (anyOf f a b) (f (a + b))
+tabled-not-free : {k : Knapsack} → Tabled k → ¬ (k ≡ free)
+tabled-not-free once-tabled e = let z : _≡_ {A = ℕ} 0 1 = cc in absurd (omega arith)
+tabled-not-free limited-tabled e = let z : _≡_ {A = ℕ} 0 1 = cc in absurd (omega arith)
 
--- none of them
-any-none : (f : ℕ → Bool) (k : ℕ) → anyOf f 0 k ≡ false → (c : ℕ) → c < k → f c ≡ false
-unfolding anyOf
-any-none f zero none c h = absurd (omega arith)
-any-none f (suc k) none c h =
-    let (before, here) = or-neither (anyOf f 0 k) (f (0 + k)) none in
-    elim (decLt c k) [
-      | yes earlier ↦ any-none f k before c earlier
-      | no last ↦ let same : c ≡ 0 + k = omega arith in ap f same ∙ here
-    ]
+-- a kind that is taken for one isn't 3
+pub tabled-not-3 : (kind : ℕ) → Tabled (knapsackIn kind) → ¬ (kind ≡ 3)
+tabled-not-3 kind t e = tabled-not-free t (taken-free kind e)
 
-module _ (f : ℕ → Bool) (from : ℕ) where
-  pub any-start : false ≡ anyOf f from (from - from)
-  unfolding anyOf
-  any-start = let none : 0 ≡ from - from = omega arith in ap (anyOf f from) none
+-- ---- runs of cells: a row of a table after the other, or any in a single row
 
-  -- one more
-  any-next : (c : ℕ) → from ≤ c → (anyOf f from (c - from) || f c) ≡ anyOf f from (c + 1 - from)
-  unfolding anyOf
-  any-next c h =
-      let next : suc (c - from) ≡ c + 1 - from = omega arith in
-      let same : c ≡ from + (c - from) = omega arith in
-      ap (λ (k : ℕ). anyOf f from (c - from) || f k) same ∙ ap (anyOf f from) next
+module _ (j : Job) where
+  abbrev wide : ℕ
+  wide = j .budget + 1
 
--- ---- the code's test without a sum
+  row-start : InRow j 0 0
+  row-start = record { row = 0; starts = omega (arith, zero-mul wide); ends = omega arith }
 
-pub below-sum : (claim other v rest : ℕ) → claim < 4_294_967_296 → rest < 4_294_967_296 → (rest + v) % 4_294_967_296 ≡ claim
-    → (ltb claim v || ltb rest other) ≡ ltb claim (other + v)
-below-sum claim other v rest claim-fits rest-fits wraps =
-    elim (decLt claim v) [
-      | yes small ↦ rw (lt-ltb claim v small, lt-ltb claim (other + v) (omega arith))
-      | no large ↦
-          let difference : rest + v ≡ claim = omega (arith, wraps) in
-          rw (le-ltb claim v (omega arith)) (elim (decLt rest other) [
-            | yes below ↦ rw (lt-ltb rest other below, lt-ltb claim (other + v) (omega arith))
-            | no above ↦ rw (le-ltb rest other (omega arith), le-ltb claim (other + v) (omega arith))
-          ])
-    ]
+  row-less : (from end less : ℕ) → less ≤ end → InRow j from end → InRow j from less
+  row-less from end less h r = record { row = r .row; starts = r .starts; ends = omega (arith, r .ends) }
 
--- ---- the two parts of a row
+  row-run : (from run last : ℕ) → run ≡ wide → last ≤ from + run → InRow j from from → InRow j from last
+  row-run from run last run-is h r = record { row = r .row; starts = r .starts; ends = omega arith }
 
-module _ (cells : List ℕ) (row width w v fits : ℕ) where
-  -- the rule is broken somewhere in the row, up to where the label fits, and from there on
-  abbrev inRow : Bool
-  inRow = anyOf (lowIn cells row width w v) 0 width
+  row-next : (from run last : ℕ) → run ≡ wide → last ≡ min (from + run) (cellCount j) → from < cellCount j → InRow j from from → InRow j last last
+  unfolding cellCount
+  row-next from run last run-is last-is inside r =
+      let before : r .row * wide < (labels j + 1) * wide = omega (arith, r .starts) in
+      let few : r .row < labels j + 1 = lt-of-mul-lt-mul-right wide before in
+      let next = mul-le-mul-right wide few in
+      record { row = r .row + 1; starts = omega (arith, r .starts, suc-mul (r .row) wide, next); ends = omega arith }
 
-  abbrev inLight : Bool
-  inLight = anyOf (belowBefore cells row width) 0 fits
+module _ (j : Job) where
+  pub together-start : (k : Knapsack) → Together k j 0 0
+  unfolding Together
+  together-start once = row-start j
+  together-start limited = row-start j
+  together-start free = tt
 
-  abbrev inRest : Bool
-  inRest = anyOf (belowEither cells row width fits v) fits (width - fits)
+  pub together-less : (k : Knapsack) (from end less : ℕ) → less ≤ end → Together k j from end → Together k j from less
+  unfolding Together
+  together-less once from end less h t = row-less j from end less h t
+  together-less limited from end less h t = row-less j from end less h t
+  together-less free from end less h t = tt
 
-  -- rule 14 at budget c, by whether the label fits
-  by-fit : (c : ℕ) (b : Bool) → leb w c ≡ b
-      → lowIn cells row width w v c ≡ (belowBefore cells row width c || (b && belowWithLabel cells row width w v c))
-  unfolding lowIn
-  by-fit c b e = rw e
+  -- as many as are passed at once: in a table, a row
+  module _ (run : ℕ) where
+    pub together-run : (k : Knapsack) → (Tabled k → run ≡ j .budget + 1) → (from last : ℕ) → last ≤ from + run → Together k j from from → Together k j from last
+    unfolding Together
+    together-run once run-is from last h t = row-run j from run last (run-is once-tabled) h t
+    together-run limited run-is from last h t = row-run j from run last (run-is limited-tabled) h t
+    together-run free run-is from last h t = tt
 
-  module _ (fits-is : fits ≡ min w width) where
-    light-part : anyOf (lowIn cells row width w v) 0 fits ≡ inLight
-    light-part =
-        any-same (lowIn cells row width w v) (belowBefore cells row width) 0 fits
-        (λ c h l. by-fit c false (lt-leb w c (omega arith)) ∙ or-false (belowBefore cells row width c))
+    pub together-next : (k : Knapsack) → (Tabled k → run ≡ j .budget + 1) → (from last : ℕ) → last ≡ min (from + run) (certificateCells k j)
+        → from < certificateCells k j → Together k j from from → Together k j last last
+    unfolding Together certificateCells
+    together-next once run-is from last last-is inside t = row-next j from run last (run-is once-tabled) last-is inside t
+    together-next limited run-is from last last-is inside t = row-next j from run last (run-is limited-tabled) last-is inside t
+    together-next free run-is from last last-is inside t = tt
 
-    full-part : anyOf (lowIn cells row width w v) fits (width - fits) ≡ inRest
-    unfolding belowEither
-    full-part =
-        any-same (lowIn cells row width w v) (belowEither cells row width fits v) fits (width - fits)
-        (λ c h l.
-        let weight : w ≡ fits = omega arith in
-        by-fit c true (le-leb w c (omega arith)) ∙ ap (λ (x : ℕ). belowBefore cells row width c || belowWithLabel cells row width x v c) weight)
+module _ {k : Knapsack} (j : Job) (t : TableOf k j) (cells : List ℕ) where
+  abbrev width : ℕ
+  width = j .budget + 1
 
-    whole-row : inRow ≡ (inLight || inRest)
-    whole-row =
-        let all : width ≡ fits + (width - fits) = omega arith in
-        ap (anyOf (lowIn cells row width w v) 0) all ∙ any-more (lowIn cells row width w v) fits (width - fits) ∙ ap₂ _||_ light-part full-part
+  -- ---- at one cell
 
-    -- a break in either part is one in the row
-    pub light-breaks : inLight ≡ true → 0 ≡ if inRow 0 width
-    unfolding if
-    light-breaks e = sym (ap (λ (b : Bool). if b 0 width) (whole-row ∙ ap (λ (b : Bool). b || inRest) e))
+  module _ (i c : ℕ) where
+    abbrev w : ℕ
+    w = at (j .weights) i
 
-    module _ (light-kept : inLight ≡ false) where
-      rest : (r : Bool) → inRest ≡ r → if inRow 0 width ≡ if r 0 width
-      rest r e = ap (λ (b : Bool). if b 0 width) (whole-row ∙ ap₂ _||_ light-kept e)
+    below-is : (x : ℕ) → belowWith k j cells i c x ≡ belowCount cells ((i + 1) * width) width w (at (j .values) i) c x
+    unfolding belowCount belowWith cellAt cellNumber
+    below-is x =
+        elim (decLt c (w * x)) [
+          | yes heavy ↦ rw (lt-leb (w * x) c heavy)
+          | no light ↦
+              let row : certificateCell k j (suc i) c ≡ (i + 1) * width + c = t .cell-is (suc i) c ∙ omega (arith, suc-mul i width) in
+              let place : certificateCell k j i (c - w * x) ≡ (i + 1) * width + c - width - w * x =
+              t .cell-is i (c - w * x) ∙ omega (arith, suc-mul i width) in
+              ap (λ (b : Bool). leb (w * x) c && b)
+              (ap₂ (λ (claim before : ℕ). ltb (at cells claim) (at cells before + at (j .values) i * x)) row place)
+        ]
 
-      pub rest-breaks : inRest ≡ true → 0 ≡ if inRow 0 width
-      unfolding if
-      rest-breaks e = sym (rest true e)
+    low-row : lowInRow k j cells (suc i) c ≡ lowIn cells ((i + 1) * width) width w (at (j .values) i) (mostPicks k j i) c
+    unfolding lowInRow lowIn
+    low-row =
+        some-same (belowWith k j cells i c) (belowCount cells ((i + 1) * width) width w (at (j .values) i) c) (suc (mostPicks k j i))
+        (λ x h. below-is x)
 
-      pub all-kept : inRest ≡ false → width ≡ if inRow 0 width
-      unfolding if
-      all-kept e = sym (rest false e)
+    -- the cell of row i+1 and budget c
+    pub low-cell-is : i < labels j → c < width
+        → tooLow k j cells ((i + 1) * width + c) ≡ lowIn cells ((i + 1) * width) width w (at (j .values) i) (mostPicks k j i) c
+    unfolding cellNumber
+    low-cell-is label inside =
+        let here : CellOf j (suc i) c = cell-of j (suc i) c label (omega arith) in
+        let m = (i + 1) * width + c in
+        let numbered : m ≡ cellNumber j (suc i) c = omega (arith, suc-mul i width) in
+        t .low-is cells m
+        ∙ ap₂ (lowInRow k j cells) (ap (λ (n : ℕ). n / width) numbered ∙ here .row) (ap (λ (n : ℕ). n % width) numbered ∙ here .column)
+        ∙ low-row
 
--- what is passed over keeps the rule
-pub passed-over : (f : ℕ → Bool) (width from : ℕ) → from ≡ if (anyOf f 0 width) 0 width → (c : ℕ) → c < from → f c ≡ false
-unfolding if
-passed-over f width from from-is c h = go (anyOf f 0 width) refl from-is
-  where
-    go : (b : Bool) → anyOf f 0 width ≡ b → from ≡ if b 0 width → f c ≡ false
-    go true e all = absurd (omega arith)
-    go false e none = any-none f width e c (omega arith)
+  -- ---- over the cells of a row from its start on
 
-pub from-within : (b : Bool) (width : ℕ) → if b 0 width ≤ width
-unfolding if
-from-within true width = zero-le
-from-within false width = le-refl width
+  -- row 0 may hold any claims
+  pub row-0-low : (from end : ℕ) → InRow j from end → from < width → false ≡ someOf (λ (m : ℕ). tooLow k j cells (from + m)) (end - from)
+  unfolding lowInRow
+  row-0-low from end r first =
+      let less : r .row * width < 1 * width = omega (arith, r .starts, one-mul width) in
+      let none : r .row < 1 = lt-of-mul-lt-mul-right width less in
+      let zeroth : r .row ≡ 0 = omega arith in
+      let start : from ≡ 0 = omega (arith, r .starts, ap (λ (i : ℕ). i * width) zeroth, zero-mul width) in
+      sym (none-pass (λ (m : ℕ). tooLow k j cells (from + m)) (end - from)
+      (λ m inside.
+      let within : from + m < width = omega (arith, r .ends) in
+      t .low-is cells (from + m) ∙ ap (λ (i : ℕ). lowInRow k j cells i ((from + m) % width)) (div-eq-of-lt within)))
 
--- ---- one budget
+  -- the row of label i, as the code counts it
+  pub record RowRead (from end i : ℕ) : Type 0 where
+    pub label : i < labels j
+    pub not-first : 1 ≤ from / width
+    pub starts : from ≡ (i + 1) * width
+    pub there : RowThere cells from width
+    pub ends : end - from ≤ width
 
-module _ (cells : List ℕ) (row width w v c : ℕ) where
-  -- the tests by the claims that are read
-  before-read : (claim other : ℕ) → claim ≡ at cells (row + c) → other ≡ at cells (row + c - width) → ltb claim other ≡ belowBefore cells row width c
-  unfolding belowBefore
-  before-read claim other claim-is other-is = ap₂ ltb claim-is other-is
+  pub row-read : (from end : ℕ) → length cells ≡ certificateCells k j → InRow j from end → from < end → end ≤ certificateCells k j → width ≤ from
+      → RowRead from end (from / width - 1)
+  unfolding cellCount
+  row-read from end long r filled inside past =
+      let n = labels j in
+      let positive : 0 < width = omega arith in
+      let many : length cells ≡ (n + 1) * width = long ∙ t .many in
+      let whole : from ≡ r .row * width + 0 = omega (arith, r .starts) in
+      let counted : from / width ≡ r .row = ap (λ (m : ℕ). m / width) whole ∙ digits-div (r .row) positive in
+      let before : r .row * width < (n + 1) * width = omega (arith, r .starts, t .many) in
+      let few : r .row < n + 1 = lt-of-mul-lt-mul-right width before in
+      let not-0 : 1 ≤ r .row = some-row (r .row) (omega (arith, r .starts)) in
+      let back : from / width - 1 + 1 ≡ r .row = omega arith in
+      record {
+        label = omega arith;
+        not-first = omega arith;
+        starts = r .starts ∙ ap (λ (i : ℕ). i * width) (sym back);
+        there = record {
+          not-first = past;
+          ends = omega (arith, r .starts, suc-mul (r .row) width, mul-le-mul-right width few);
+        };
+        ends = omega (arith, r .ends);
+      }
+    where
+      some-row : (i : ℕ) → width ≤ i * width → 1 ≤ i
+      some-row zero h = absurd (omega (arith, zero-mul width))
+      some-row (suc i) h = omega arith
 
-  pub with-read : (r : Bool) (claim other : ℕ) → r ≡ ltb claim (other + v) → claim ≡ at cells (row + c) → other ≡ at cells (row + c - width - w)
-      → r ≡ belowWithLabel cells row width w v c
-  unfolding belowWithLabel
-  with-read r claim other r-is claim-is other-is = r-is ∙ ap₂ (λ (x y : ℕ). ltb x (y + v)) claim-is other-is
+  -- what is asked of it keeps its bounds
+  pub row-budgets : {from end i : ℕ} → Valid k j → RowRead from end i → from < end → (w v : ℕ) → w ≡ at (j .weights) i → v ≡ at (j .values) i
+      → Budgets width (end - from) w v
+  unfolding mostBudget mostValue
+  row-budgets valid row filled w v w-is v-is = record {
+    some = omega arith;
+    inside = row .ends;
+    narrow = omega (arith, valid .small);
+    weighs = omega (arith, weight-rule k j valid _ (row .label));
+    small = omega (arith, value-rule k j valid _ (row .label));
+  }
 
-  -- the first settles it, or the label doesn't fit, or the second does
-  pub low-before : at cells (row + c) < at cells (row + c - width) → true ≡ lowIn cells row width w v c
-  unfolding lowIn belowBefore
-  low-before h = rw (lt-ltb (at cells (row + c)) (at cells (row + c - width)) h)
+  -- its cells are told of by the label that was read
+  pub row-low : {from end i : ℕ} → RowRead from end i → (w v most : ℕ) → w ≡ at (j .weights) i → v ≡ at (j .values) i → most ≡ mostPicks k j i
+      → (r : Bool) → r ≡ someOf (lowIn cells from width w v most) (end - from) → r ≡ someOf (λ (m : ℕ). tooLow k j cells (from + m)) (end - from)
+  row-low {from} {end} {i} row w v most w-is v-is most-is r told =
+      let at-row : lowIn cells from width w v most ≡ lowIn cells ((i + 1) * width) width (at (j .weights) i) (at (j .values) i) (mostPicks k j i) =
+      ap₂ (λ (f x : ℕ). lowIn cells f width x v most) (row .starts) w-is
+      ∙ ap₂ (λ (x y : ℕ). lowIn cells ((i + 1) * width) width (at (j .weights) i) x y) v-is most-is in
+      told ∙ ap (λ (f : ℕ → Bool). someOf f (end - from)) at-row
+      ∙ sym (some-same (λ (m : ℕ). tooLow k j cells (from + m)) _ (end - from)
+      (λ m inside. ap (λ (f : ℕ). tooLow k j cells (f + m)) (row .starts) ∙ low-cell-is i m (row .label) (omega (arith, row .ends))))
 
-  module _ (above : at cells (row + c - width) ≤ at cells (row + c)) where
-    pub light-kept : c < w → false ≡ lowIn cells row width w v c
-    unfolding lowIn belowBefore
-    light-kept h = rw (le-ltb (at cells (row + c)) (at cells (row + c - width)) above, lt-leb w c h)
+-- ---- kind 3: a single row
 
-    pub left-to-with : (r : Bool) → w ≤ c → r ≡ belowWithLabel cells row width w v c → r ≡ lowIn cells row width w v c
-    unfolding lowIn belowBefore
-    left-to-with r h e = rw (le-ltb (at cells (row + c)) (at cells (row + c - width)) above, le-leb w c h) e
+pub free-low : {k : Knapsack} → k ≡ free → (j : Job) (cells : List ℕ) (from end : ℕ) (r : Bool)
+    → r ≡ someOf (λ (m : ℕ). lowForOne j cells (from + m)) (end - from) → r ≡ someOf (λ (m : ℕ). tooLow k j cells (from + m)) (end - from)
+unfolding tooLow
+free-low e j cells from end r told = rw e told
 
--- ---- a budget more
+module _ (cells : List ℕ) (from end : ℕ) where
+  -- one label of these weights and values is at fault somewhere
+  abbrev pub atFault : List ℕ → List ℕ → ℕ → Bool
+  atFault weights values i = someOf (λ (m : ℕ). belowOne cells (at weights i) (at values i) (from + m)) (end - from)
 
-module _ (cells : List ℕ) (row width c claim other : ℕ) (claim-is : claim ≡ at cells (row + c)) (other-is : other ≡ at cells (row + c - width)) where
-  pub before-next : (low : Bool) → low ≡ anyOf (belowBefore cells row width) 0 (c - 0)
-      → (low || ltb claim other) ≡ anyOf (belowBefore cells row width) 0 (c + 1 - 0)
-  before-next low so-far =
-      let here = before-read cells row width 0 0 c claim other claim-is other-is in
-      ap₂ _||_ so-far here ∙ any-next (belowBefore cells row width) 0 c zero-le
+  -- the labels below i aren't
+  pub record LabelsKept (weights values : List ℕ) (i : ℕ) : Type 0 where
+    pub kept : (l : ℕ) → l < i → atFault weights values l ≡ false
 
-  pub either-next : (w v lighter : ℕ) (low r : Bool) → w ≤ c → low ≡ anyOf (belowEither cells row width w v) w (c - w)
-      → r ≡ ltb claim (lighter + v) → lighter ≡ at cells (row + c - width - w)
-      → ((low || ltb claim other) || r) ≡ anyOf (belowEither cells row width w v) w (c + 1 - w)
-  unfolding belowEither
-  either-next w v lighter low r h so-far r-is lighter-is =
-      let without = before-read cells row width w v c claim other claim-is other-is in
-      let with-it = with-read cells row width w v c r claim lighter r-is claim-is lighter-is in
-      or-assoc low (ltb claim other) r ∙ ap₂ _||_ so-far (ap₂ _||_ without with-it) ∙ any-next (belowEither cells row width w v) w c h
+  pub labels-start : (weights values : List ℕ) → LabelsKept weights values 0
+  labels-start weights values = record { kept = λ l h. absurd (omega arith) }
+
+  module _ (weights values : List ℕ) (i w v : ℕ) (w-is : w ≡ at weights i) (v-is : v ≡ at values i) (r : Bool)
+      (told : r ≡ someOf (λ (m : ℕ). belowOne cells w v (from + m)) (end - from)) where
+    pub label-told : r ≡ atFault weights values i
+    label-told = told ∙ ap₂ (λ (x y : ℕ). someOf (λ (m : ℕ). belowOne cells x y (from + m)) (end - from)) w-is v-is
+
+  pub labels-next : (weights values : List ℕ) (i : ℕ) → LabelsKept weights values i → atFault weights values i ≡ false → LabelsKept weights values (i + 1)
+  labels-next weights values i k here = record {
+    kept = λ l h. elim (decLt l i) [
+      | yes earlier ↦ k .kept l earlier
+      | no last ↦ let same : l ≡ i = omega arith in ap (atFault weights values) same ∙ here
+    ];
+  }
+
+  module _ (j : Job) (weights values : List ℕ) (weights-are : j .weights ≡ weights) (values-are : j .values ≡ values) where
+    one-is : (i c : ℕ) → belowWith free j cells i c 1 ≡ belowOne cells (at weights i) (at values i) c
+    unfolding belowOne
+    one-is i c = rule-14-free j cells i c ∙ ap₂ (λ (w v : List ℕ). belowOne cells (at w i) (at v i) c) weights-are values-are
+
+    -- some label is at fault
+    pub stretch-low : (i : ℕ) → i < length weights → atFault weights values i ≡ true
+        → true ≡ someOf (λ (m : ℕ). lowForOne j cells (from + m)) (end - from)
+    unfolding lowForOne labels
+    stretch-low i h fault =
+        let p = passing (λ (m : ℕ). belowOne cells (at weights i) (at values i) (from + m)) (end - from) fault in
+        let here : i < labels j = omega (arith, ap length weights-are) in
+        sym (some-passes (λ (m : ℕ). lowForOne j cells (from + m)) (end - from) (p .place) (p .inside)
+        (some-passes (λ i. belowWith free j cells i (from + p .place) 1) (labels j) i here (one-is i (from + p .place) ∙ p .passes)))
+
+    -- none is
+    pub stretch-kept : (n : ℕ) → length weights ≤ n → LabelsKept weights values n → false ≡ someOf (λ (m : ℕ). lowForOne j cells (from + m)) (end - from)
+    unfolding lowForOne labels
+    stretch-kept n all k =
+        sym (none-pass (λ (m : ℕ). lowForOne j cells (from + m)) (end - from)
+        (λ m inside. none-pass (λ i. belowWith free j cells i (from + m) 1) (labels j)
+        (λ i h. one-is i (from + m)
+        ∙ none-passes (λ (m : ℕ). belowOne cells (at weights i) (at values i) (from + m)) (end - from) (k .kept i (omega (arith, ap length weights-are)))
+        m inside)))

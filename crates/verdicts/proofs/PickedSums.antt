@@ -9,11 +9,11 @@ use mathlib.Core.List.{List}
 use lib.ListN.{length, take}
 use lib.Seq.{length-take-le, take-all, take-suc}
 use Rattle.meaning.specs.Lists.{at, total}
-use Rattle.meaning.specs.Bounds.{mostLabels, mostCopies}
+use Rattle.meaning.specs.Bounds.{mostLabels}
 use Rattle.meaning.proofs.Totals.{total-none, total-with}
 use Rattle.verdicts.specs.Asked.{FewPicks}
 
--- the greatest number of 32 bits times the most copies: what one label adds at most
+-- the greatest number of 32 bits times that of 16: what one label adds at most
 abbrev pub most : ℕ
 most = 281_470_681_677_825
 
@@ -37,7 +37,7 @@ module _ (each picks : List ℕ) where
 
   pub sum-next : FewPicks each picks → (i sum x count : ℕ) → i < length picks → SumSoFar each picks i sum
       → x ≡ at each i → x ≤ 4_294_967_295 → count ≡ at picks i → NextSum i sum (x * count)
-  unfolding mostCopies mostLabels
+  unfolding mostLabels
   sum-next ok i sum x count h s x-is x-fits count-is =
       let few : count ≤ 65_535 = omega (arith, ok .small i h) in
       let bounded : x * count ≤ most = mul-le-mul x-fits few in

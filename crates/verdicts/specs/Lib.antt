@@ -1,4 +1,3 @@
 -- The definitions that the contracts of this crate cite beside those of `meaning`.
 pub mod Searching
 pub mod Asked
-pub mod LowRows

@@ -1,6 +1,6 @@
 -- `verdicts::judge_cells` meets its contract, refusal by refusal.
 -- Assumes nothing.
-use mathlib.Core.Path.{_≡_, sym, ap, _∙_}
+use mathlib.Core.Path.{_≡_, refl, sym, ap, _∙_}
 use mathlib.Core.Option.{none}
 use Prim.Native.Nat.{ℕ, _≤_, _-_}
 use native.Mathlib.Omega.{arith}
@@ -8,14 +8,15 @@ use mathlib.Core.List.{List}
 use borrow.Author.Needs.{needs}
 use lib.ListN.{length}
 use Rattle.meaning.specs.Lists.{at, total}
-use Rattle.meaning.specs.Job.{Job, jobOf, labels}
+use Rattle.meaning.specs.Job.{Job, Knapsack, jobOf, labels}
 use Rattle.meaning.specs.Bytes.{numbersIn}
 use Rattle.meaning.specs.Certificates.{cellAt, overPicked, lowCell}
 use Rattle.meaning.proofs.Numbers.{numbers-long}
 use Rattle.numbers.specs.TwoSlices.{listFrom}
-use Rattle.verdicts.specs.Asked.{FewPicks, onceJob}
+use Rattle.verdicts.specs.Asked.{FewPicks, bytesJob, knapsackIn}
 use Rattle.verdicts.specs.Searching.{placeOf}
-use Rattle.verdicts.proofs.Once.{valid-once}
+use Rattle.meaning.proofs.Valid.{Valid}
+use Rattle.verdicts.proofs.Taken.{copied, valid-read}
 use Rattle.verdicts.proofs.Judging.{over-12, heavy-13, low-14, other-15, accepts, few-weights, few-values, last-cell, some-cell}
 use Rattle.verdicts.proofs.judge_cells.Statement.{statement}
 use Rattle.verdicts.proofs.judge_cells.Tie as tie
@@ -23,7 +24,7 @@ use Rattle.verdicts.proofs.judge_cells.Tie as tie
 -- ---- the contexts, each by the one that it follows
 
 abbrev start : tie.After-over-picked → tie.Start
-start c = c .before .before .before .before .before
+start c = c .before .before .before .before .before .before
 
 abbrev past-12 : tie.After-enum-told → tie.After-over-picked
 past-12 c = c .before .before
@@ -42,7 +43,13 @@ past-15 c = c .before .before
 -- the job, its picks and the claims
 module _ (s : tie.Start) where
   abbrev job : Job
-  job = onceJob (s .args .budget) (s .args .weights .now) (s .args .values .now)
+  job = bytesJob (s .args .kind) (s .args .budget) (s .args .weights .now) (s .args .values .now) (s .args .copies .now)
+
+  abbrev knapsack : Knapsack
+  knapsack = knapsackIn (s .args .kind)
+
+  valid : Valid knapsack job
+  valid = valid-read (s .pre .0)
 
   abbrev picks : List ℕ
   picks = numbersIn (s .args .picks .now)
@@ -51,25 +58,26 @@ module _ (s : tie.Start) where
   cells = numbersIn (s .args .cells .now)
 
 -- what `over_picked` found is what 12 asks for
-over-is : (c : tie.After-over-picked) → placeOf (c .over-picked .result) ≡ overPicked (job (start c)) (picks (start c))
-over-is c = c .over-picked .ensures (job (start c)) (sym (start c .pre .1))
+over-is : (c : tie.After-over-picked) → placeOf (c .over-picked .result) ≡ overPicked (knapsack (start c)) (job (start c)) (picks (start c))
+unfolding jobOf listFrom
+over-is c = c .over-picked .ensures (job (start c)) refl (sym (start c .pre .1))
 
 -- no label has too many picks, so that sums over them stay small
 module _ (c : tie.After-enum-told) where
   abbrev start-12 : tie.Start
   start-12 = start (past-12 c)
 
-  none-over : overPicked (job start-12) (picks start-12) ≡ none
+  none-over : overPicked (knapsack start-12) (job start-12) (picks start-12) ≡ none
   unfolding placeOf
   none-over = sym (over-is (past-12 c)) ∙ ap placeOf (c .enum-told .given .1)
 
   weights-few : FewPicks (numbersIn (start-12 .args .weights .now)) (picks start-12)
   unfolding jobOf listFrom
-  weights-few = few-weights (job start-12) (picks start-12) (valid-once _ (start-12 .pre .0 .not-refused)) (start-12 .pre .1) none-over
+  weights-few = few-weights (job start-12) (valid start-12) (picks start-12) (start-12 .pre .1) none-over
 
   values-few : FewPicks (numbersIn (start-12 .args .values .now)) (picks start-12)
   unfolding jobOf listFrom
-  values-few = few-values (job start-12) (picks start-12) (valid-once _ (start-12 .pre .0 .not-refused)) (start-12 .pre .1) none-over
+  values-few = few-values (job start-12) (valid start-12) (picks start-12) (start-12 .pre .1) none-over
 
 -- the picks fit
 module _ (c : tie.Else1) where
@@ -80,7 +88,7 @@ module _ (c : tie.Else1) where
   light = omega (arith, c .before .picked .ensures, c .if1 .left)
 
 -- what `low_cell` found is what 14 asks for
-low-is : (c : tie.After-low-cell) → placeOf (c .low-cell .result) ≡ lowCell (job (start-13 (c .before))) (cells (start-13 (c .before)))
+low-is : (c : tie.After-low-cell) → let s = start-13 (c .before) in placeOf (c .low-cell .result) ≡ lowCell (knapsack s) (job s) (cells s)
 low-is c = c .low-cell .ensures
 
 -- no claim is too low
@@ -88,26 +96,29 @@ module _ (c : tie.After-enum-told2) where
   abbrev start-14 : tie.Start
   start-14 = start-13 (past-14 c)
 
-  none-low : lowCell (job start-14) (cells start-14) ≡ none
+  none-low : lowCell (knapsack start-14) (job start-14) (cells start-14) ≡ none
   unfolding placeOf
   none-low = sym (low-is (c .before .before)) ∙ ap placeOf (c .enum-told2 .given .1)
 
   some-claim : 1 ≤ length (cells start-14)
-  some-claim = some-cell (job start-14) (cells start-14) (start-14 .pre .0 .long)
+  some-claim = some-cell (job start-14) (cells start-14) (knapsack start-14) (start-14 .pre .0 .long)
 
 -- the last of them was read
 module _ (c : tie.After-number-in) where
   abbrev start-15 : tie.Start
   start-15 = start-14 (c .before)
 
-  last-read : c .number-in .result ≡ cellAt (job start-15) (cells start-15) (labels (job start-15)) (start-15 .args .budget)
+  last-read : c .number-in .result ≡ cellAt (knapsack start-15) (job start-15) (cells start-15) (labels (job start-15)) (start-15 .args .budget)
   unfolding jobOf
   last-read =
       c .number-in .ensures ∙ ap (λ (k : ℕ). at (cells start-15) (k - 1)) (sym (numbers-long (start-15 .args .cells .now)))
-      ∙ last-cell (job start-15) (cells start-15) (start-15 .pre .0 .long)
+      ∙ last-cell (job start-15) (cells start-15) (knapsack start-15) (start-15 .pre .0 .long)
 
 over-picked-requires : tie.Need-over-picked-requires
-over-picked-requires c κs = search needs
+unfolding jobOf listFrom
+over-picked-requires c κs is-limited =
+    let s = c .before .before .before .before .before in
+    copied (valid s) is-limited ∙ sym (s .pre .1)
 
 enum-known-over : tie.Need-enum-known-over
 enum-known-over c = search needs
@@ -119,7 +130,7 @@ returns : tie.Need-returns
 unfolding placeOf
 returns c =
     let found = c .before .before in
-    c .refused-at .ensures ∙ over-12 _ _ _ _ (sym (over-is (found .before .before)) ∙ ap placeOf (found .over .given .1))
+    c .refused-at .ensures ∙ over-12 _ _ _ _ _ (sym (over-is (found .before .before)) ∙ ap placeOf (found .over .given .1))
 
 enum-told : tie.Need-enum-told
 enum-told c = search needs
@@ -134,7 +145,7 @@ returns-2 : tie.Need-returns-2
 unfolding jobOf listFrom
 returns-2 c =
     let weighed = c .before .before in
-    c .refused-at2 .ensures ∙ heavy-13 _ _ _ (none-over (weighed .before)) (omega (arith, weighed .picked .ensures, c .before .if1 .taken))
+    c .refused-at2 .ensures ∙ heavy-13 _ _ _ _ (none-over (weighed .before)) (omega (arith, weighed .picked .ensures, c .before .if1 .taken))
 
 low-cell-requires : tie.Need-low-cell-requires
 low-cell-requires c κs = search needs
@@ -151,7 +162,7 @@ returns-3 c =
     let found = c .before .before in
     let searched = found .before .before in
     c .refused-at3 .ensures
-    ∙ low-14 _ _ _ (none-over (past-13 (searched .before))) (light (searched .before)) _ (sym (low-is searched) ∙ ap placeOf (found .low .given .1))
+    ∙ low-14 _ _ _ _ (none-over (past-13 (searched .before))) (light (searched .before)) _ (sym (low-is searched) ∙ ap placeOf (found .low .given .1))
 
 enum-told-2 : tie.Need-enum-told-2
 enum-told-2 c = search needs
@@ -177,7 +188,7 @@ returns-4 c =
     let valued = c .before .before in
     let kept = past-15 valued in
     c .refused-at4 .ensures
-    ∙ other-15 _ _ _ (none-over (past-13 (past-14 kept))) (light (past-14 kept)) (none-low kept) _ (last-read (valued .before))
+    ∙ other-15 _ _ _ _ (none-over (past-13 (past-14 kept))) (light (past-14 kept)) (none-low kept) _ (last-read (valued .before))
     (λ e. c .before .if2 .taken (e ∙ sym (valued .picked2 .ensures)))
 
 returns-5 : tie.Need-returns-5
@@ -185,7 +196,7 @@ unfolding jobOf listFrom
 returns-5 c =
     let valued = c .before in
     let kept = past-15 valued in
-    accepts _ _ _ (none-over (past-13 (past-14 kept))) (light (past-14 kept)) (none-low kept) _ (last-read (valued .before))
+    accepts _ _ _ _ (none-over (past-13 (past-14 kept))) (light (past-14 kept)) (none-low kept) _ (last-read (valued .before))
     (c .if2 .left ∙ valued .picked2 .ensures)
 
 pub judge-cells-spec : {M : Type 1} → statement M
