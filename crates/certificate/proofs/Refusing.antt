@@ -1,54 +1,79 @@
--- What refusals 2 to 5 come to for a job that a certificate may be for.
+-- What refusals 2 to 5 come to, by the kind's number and by its knapsack.
 -- Assumes nothing.
-use mathlib.Core.Path.{_≡_, refl, ap}
+use mathlib.Core.Path.{_≡_, refl, sym, ap, subst, _∙_}
 use mathlib.Core.Option.{Option, none, some}
-use Prim.Native.Nat.{ℕ, zero, suc}
+use Prim.Native.Nat.{ℕ, zero, suc, _≤_, _<_}
+use native.Mathlib.Decide.{decLt}
 use native.Mathlib.Omega.{arith}
-use Rattle.meaning.specs.Job.{Job, Knapsack, once, packing}
+use Rattle.meaning.specs.Job.{Job, Knapsack, once, limited, free, packing}
 use Rattle.meaning.specs.Refusals.{jobRefusal, rulesOf}
-use Rattle.meaning.specs.Certificates.{certifiedAs, certifiedRefusal, certifiedKnapsack}
-use Rattle.requests.proofs.Judging.{earlier-given, none-earlier}
-use Rattle.verdicts.proofs.Once.{once-knapsack}
+use Rattle.meaning.specs.Certificates.{HasCertificates, certifiedKnapsack}
+use Rattle.verdicts.specs.Asked.{knapsackIn}
+use Rattle.verdicts.proofs.Taken.{taken-as}
+use Rattle.certificate.specs.Refusing.{refusalFor, certifiedRefusal}
 
--- ---- by kind
+-- ---- by the kind's number
 
--- kind 1 alone has certificates
-no-knapsack : (n : ℕ) → ¬ (n ≡ 1) → certifiedKnapsack n ≡ none
+-- kinds 1 to 3 have certificates
+pub certified-number : (n : ℕ) → 1 ≤ n → n ≤ 3 → (k : Knapsack) × (certifiedKnapsack n ≡ some k)
 unfolding certifiedKnapsack
-no-knapsack zero h = refl
-no-knapsack (suc zero) h = absurd (h refl)
-no-knapsack (suc (suc n)) h = refl
+certified-number zero h l = absurd (omega arith)
+certified-number (suc zero) h l = (once, refl)
+certified-number (suc (suc zero)) h l = (limited, refl)
+certified-number (suc (suc (suc zero))) h l = (free, refl)
+certified-number (suc (suc (suc (suc n)))) h l = absurd (omega arith)
 
-module _ (j : Job) (later : ℕ) where
+-- and no other
+none-below-1 : (n : ℕ) → n < 1 → certifiedKnapsack n ≡ none
+unfolding certifiedKnapsack
+none-below-1 zero h = refl
+none-below-1 (suc n) h = absurd (omega arith)
+
+none-above-3 : (n : ℕ) → 3 < n → certifiedKnapsack n ≡ none
+unfolding certifiedKnapsack
+none-above-3 (suc (suc (suc (suc n)))) h = refl
+none-above-3 zero h = absurd (omega arith)
+none-above-3 (suc zero) h = absurd (omega arith)
+none-above-3 (suc (suc zero)) h = absurd (omega arith)
+none-above-3 (suc (suc (suc zero))) h = absurd (omega arith)
+
+-- so the number of one that has is 1 to 3
+none≢some : {k : Knapsack} → _≡_ {A = Option Knapsack} none (some k) → ⊥
+none≢some e = let z : _≡_ {A = ℕ} 0 1 = cc in omega arith
+
+pub number-within : (n : ℕ) (k : Knapsack) → certifiedKnapsack n ≡ some k → (1 ≤ n) × (n ≤ 3)
+number-within n k e = (
+  elim (decLt n 1) [ yes h ↦ absurd (none≢some (sym (none-below-1 n h) ∙ e)) | no h ↦ omega arith ],
+  elim (decLt 3 n) [ yes h ↦ absurd (none≢some (sym (none-above-3 n h) ∙ e)) | no h ↦ omega arith ],
+)
+
+-- ---- the refusal
+
+module _ (j : Job) where
+  by-knapsack : (o : Option Knapsack) → certifiedKnapsack (j .kind-number) ≡ o → certifiedRefusal j ≡ refusalFor o j
+  unfolding certifiedRefusal
+  by-knapsack o e = ap (λ (x : Option Knapsack). refusalFor x j) e
+
   -- 2: another kind
-  pub other-kind : ¬ (j .kind-number ≡ 1) → certifiedRefusal j later ≡ 2
-  unfolding certifiedRefusal certifiedAs
-  other-kind h = ap (λ (o : Option Knapsack). certifiedAs o j later) (no-knapsack (j .kind-number) h)
+  pub kind-0 : j .kind-number < 1 → certifiedRefusal j ≡ 2
+  unfolding refusalFor
+  kind-0 h = by-knapsack none (none-below-1 (j .kind-number) h)
 
-  -- 3 to 5: kind 1 by its rules
-  pub by-rules : j .kind-number ≡ 1 → certifiedRefusal j later ≡ jobRefusal (rulesOf (packing once)) j later
-  unfolding certifiedRefusal certifiedAs
-  by-rules e = ap (λ (o : Option Knapsack). certifiedAs o j later) (once-knapsack (j .kind-number) e)
+  pub kind-4 : 3 < j .kind-number → certifiedRefusal j ≡ 2
+  unfolding refusalFor
+  kind-4 h = by-knapsack none (none-above-3 (j .kind-number) h)
 
--- ---- what comes later, whatever knapsack it is
+  -- 3 to 5: a knapsack by its rules
+  pub by-rules : (k : Knapsack) → certifiedKnapsack (j .kind-number) ≡ some k → certifiedRefusal j ≡ jobRefusal (rulesOf (packing k)) j 0
+  unfolding refusalFor
+  by-rules k e = by-knapsack (some k) e
 
-module _ (j : Job) (later : ℕ) where
-  given : (o : Option Knapsack) → ¬ (certifiedAs o j 0 ≡ 0) → certifiedAs o j later ≡ certifiedAs o j 0
-  unfolding certifiedAs
-  given none h = refl
-  given (some k) h = earlier-given (rulesOf (packing k)) j later h
-
-  not-given : (o : Option Knapsack) → certifiedAs o j 0 ≡ 0 → certifiedAs o j later ≡ later
-  unfolding certifiedAs
-  not-given none h = absurd (omega arith)
-  not-given (some k) h = none-earlier (rulesOf (packing k)) j later h
-
-  -- it isn't asked where one of 2 to 5 applies
-  pub refused-before : ¬ (certifiedRefusal j 0 ≡ 0) → certifiedRefusal j later ≡ certifiedRefusal j 0
-  unfolding certifiedRefusal
-  refused-before h = given (certifiedKnapsack (j .kind-number)) h
-
-  -- it is where none does
-  pub later-asked : certifiedRefusal j 0 ≡ 0 → certifiedRefusal j later ≡ later
-  unfolding certifiedRefusal
-  later-asked ok = not-given (certifiedKnapsack (j .kind-number)) ok
+  -- none: the job has certificates, of the knapsack that its kind is taken for
+  pub not-refused : certifiedRefusal j ≡ 0 → HasCertificates (knapsackIn (j .kind-number)) j
+  unfolding certifiedRefusal refusalFor
+  not-refused ok = go (certifiedKnapsack (j .kind-number)) refl ok
+    where
+      go : (o : Option Knapsack) → certifiedKnapsack (j .kind-number) ≡ o → refusalFor o j ≡ 0 → HasCertificates (knapsackIn (j .kind-number)) j
+      go none e h = absurd (omega arith)
+      go (some k) e h =
+          subst (λ (s : Knapsack). HasCertificates s j) (sym (taken-as (j .kind-number) k e)) (record { of-knapsack = e; not-refused = h })

@@ -1,2 +1,3 @@
 -- The definitions that the contracts of this crate cite beside those of `meaning` and `verdicts`.
+pub mod Refusing
 pub mod Copying

@@ -10,15 +10,16 @@ ghost use Prim.Native.Nat.{_<_};
 ghost use mathlib.Core.List.{[], _∷_};
 ghost use Rattle.meaning.specs.declared.Verdict.the-variants.{Refused};
 ghost use Rattle.meaning.specs.Job.{jobOf};
-ghost use Rattle.meaning.specs.Certificates.{Checked, certifiedRefusal, verdictOnCertificate};
+ghost use Rattle.meaning.specs.Certificates.{Checked, HasCertificates, verdictOnCertificate};
 ghost use Rattle.meaning.specs.Writer.{Writes, WritesBytes};
 ghost use Rattle.numbers.specs.TwoSlices.{jobFrom};
-ghost use Rattle.verdicts.specs.Asked.{onceJob};
+ghost use Rattle.verdicts.specs.Asked.{bytesJob, knapsackIn};
+ghost use Rattle.certificate.specs.Refusing.{certifiedRefusal};
 ghost use Rattle.certificate.specs.Copying.{CopiedFor};
 
 // A list may come in two slices, of which one is empty: numbers (weights) and a part of the job bytes (wbytes), see `listFrom`.
 
-// The lowest of 2 to 5 that applies to a job, and 0 for none. Kind 1 alone has certificates.
+// The lowest of 2 to 5 that applies to a job, and 0 for none. Kinds 1 to 3 have certificates.
 fn job_refusal(
     kind: u32,
     budget: u32,
@@ -30,9 +31,12 @@ fn job_refusal(
     cbytes: &[u8],
 ) -> u32
     ensures { λ r. ⌜ r ≡ certifiedRefusal (jobFrom kind (budget ∷ []) (now (weights .entry)) (now (wbytes .entry))
-        (now (values .entry)) (now (vbytes .entry)) (now (copies .entry)) (now (cbytes .entry))) 0 ⌝ }
+        (now (values .entry)) (now (vbytes .entry)) (now (copies .entry)) (now (cbytes .entry))) ⌝ }
 {
-    if kind != 1 {
+    if kind < 1 {
+        return 2;
+    }
+    if 3 < kind {
         return 2;
     }
     let rules = rules::knapsack_rules(kind);
@@ -58,18 +62,27 @@ fn refused_with(number: u32) -> Verdict
 }
 
 // 11, or what comes of the picks and the cells that the certificate holds.
-fn judge(budget: u32, weights: &[u8], values: &[u8], certificate: &[u8]) -> Verdict
-    requires { ⌜ certifiedRefusal (onceJob budget (now weights) (now values)) 0 ≡ 0 ⌝ }
-    ensures { λ r. ⌜ r ≡ verdictOnCertificate (onceJob budget (now (weights .entry)) (now (values .entry))) (now (certificate .entry)) ⌝ }
+fn judge(
+    kind: u32,
+    budget: u32,
+    weights: &[u8],
+    values: &[u8],
+    copies: &[u8],
+    certificate: &[u8],
+) -> Verdict
+    requires { ⌜ HasCertificates (knapsackIn kind) (bytesJob kind budget (now weights) (now values) (now copies)) ⌝ }
+    ensures { λ r. ⌜ r ≡ verdictOnCertificate (knapsackIn kind) (bytesJob kind budget (now (weights .entry)) (now (values .entry))
+        (now (copies .entry))) (now (certificate .entry)) ⌝ }
 {
     let n = weights.len() / 4;
-    let room = rules::knapsack_room(1, n, budget);
-    let first = numbers::read_section(certificate, 0, Needed::Exactly(n as u32));
+    let room = rules::knapsack_room(kind, n, budget);
+    let labels = n as u32;
+    let first = numbers::read_section(certificate, 0, Needed::Exactly(labels));
     let Section::Part(picks, _, picks_end) = first else {
         return refused_with(11);
     };
-    let needed = Needed::Exactly(room.cells as u32);
-    let second = numbers::read_section(certificate, picks_end, needed);
+    let many = room.cells as u32;
+    let second = numbers::read_section(certificate, picks_end, Needed::Exactly(many));
     let Section::Part(cells, _, cells_end) = second else {
         return refused_with(11);
     };
@@ -77,9 +90,11 @@ fn judge(budget: u32, weights: &[u8], values: &[u8], certificate: &[u8]) -> Verd
         return refused_with(11);
     }
     verdicts::judge_cells(
+        kind,
         budget,
         weights,
         values,
+        copies,
         &certificate[picks..picks_end],
         &certificate[cells..cells_end],
     )
@@ -110,7 +125,14 @@ pub fn check(job: &[u8], certificate: &[u8]) -> Verdict
     if refused != 0 {
         return refused_with(refused);
     }
-    judge(parts.budget, weights, values, certificate)
+    judge(
+        parts.kind,
+        parts.budget,
+        weights,
+        values,
+        copies,
+        certificate,
+    )
 }
 
 // ---- the writer

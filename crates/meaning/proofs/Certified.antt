@@ -16,11 +16,11 @@ use Rattle.meaning.specs.declared.Verdict.the-variants.{Accepted}
 use Rattle.meaning.specs.Lists.{at, every, total}
 use Rattle.meaning.specs.Job.{Job, Knapsack, once, limited, free, packing, labels, kindOf, allKinds}
 use Rattle.meaning.specs.Bounds.{mostBudget}
-use Rattle.meaning.specs.Refusals.{jobRefusal, rulesOf}
+use Rattle.meaning.specs.Refusals.{rulesOf}
 use Rattle.meaning.specs.Bytes.{JobRead, bytesOf, bytesOfAll, readJob, readable, sectionBytes, unreadable}
 use Rattle.meaning.specs.Knapsacks.{Best, Fits}
 use Rattle.meaning.specs.Answers.{verdictNumbers}
-use Rattle.meaning.specs.Certificates.{cellAt, certificateCells, certifiedKnapsack, misvalued, mostPicks, overPicked, overweight}
+use Rattle.meaning.specs.Certificates.{HasCertificates, cellAt, certificateCells, certifiedKnapsack, misvalued, mostPicks, overPicked, overweight}
 use Rattle.meaning.specs.Certificates.{verdictOf, verdictOnJob, Checked}
 use Rattle.meaning.specs.Demands.{AcceptedWith, Accepts, BestList, Demand3, Sound, ValidJob, areBytes, listIn}
 use Rattle.meaning.proofs.Totals.{total-part}
@@ -53,11 +53,11 @@ pub one-knapsack : {jobB : List ℕ} {j j′ : Job} (v : ValidJob jobB j) (v′ 
 one-knapsack {jobB} {j} {j′} v v′ =
     let same : j ≡ j′ = cc (v .reads, v′ .reads) in
     Option·some-injective (v .knapsack) (v′ .knapsack)
-    (sym (v .of-knapsack) ∙ ap (λ (x : Job). certifiedKnapsack (x .kind-number)) same ∙ v′ .of-knapsack)
+    (sym (v .has-certificates .of-knapsack) ∙ ap (λ (x : Job). certifiedKnapsack (x .kind-number)) same ∙ v′ .has-certificates .of-knapsack)
 
--- a knapsack that isn't refused with 3 to 5 is valid
-pub certified-valid : (k : Knapsack) (j : Job) → jobRefusal (rulesOf (packing k)) j 0 ≡ 0 → Valid k j
-certified-valid k j ok = is-valid k j 0 (has-passed (rulesOf (packing k)) j 0 ok)
+-- it is valid
+pub certified-valid : {k : Knapsack} {j : Job} → HasCertificates k j → Valid k j
+certified-valid {k} {j} h = is-valid k j 0 (has-passed (rulesOf (packing k)) j 0 (h .not-refused))
 
 -- ---- accepted picks are best, and best picks with exact cells are accepted, once over the allowed counts
 
@@ -105,13 +105,13 @@ picks-32 k j v picks best m h =
 -- ---- written as bytes
 
 -- the certificate of best picks and exact cells is accepted for a valid job
-pub accepted-written : (k : Knapsack) (j : Job) (picks cells : List ℕ) → certifiedKnapsack (j .kind-number) ≡ some k
-    → jobRefusal (rulesOf (packing k)) j 0 ≡ 0 → BestList k j picks → length cells ≡ certificateCells k j → Exact k j cells
+pub accepted-written : (k : Knapsack) (j : Job) (picks cells : List ℕ) → HasCertificates k j
+    → BestList k j picks → length cells ≡ certificateCells k j → Exact k j cells
     → verdictOnJob (readable j) (sectionBytes picks ++ sectionBytes cells) ≡ Accepted (total (j .values) picks)
 unfolding BestList
-accepted-written k j picks cells of-knapsack ok best long exact =
-    let v : Valid k j = certified-valid k j ok in
-    readable-on k j (sectionBytes picks ++ sectionBytes cells) of-knapsack ok
+accepted-written k j picks cells has best long exact =
+    let v : Valid k j = certified-valid has in
+    readable-on k j (sectionBytes picks ++ sectionBytes cells) has
     ∙ verdict-written k j picks cells (best .fits .selection .one-each) long (labels-32 k j v) (certificate-32 k j v)
     (picks-32 k j v picks best) (exact-32 k j v cells long exact)
     ∙ accepts-seen k j picks cells (total (j .values) picks) (best-seen k j v picks cells best exact)
@@ -165,8 +165,8 @@ accepted-best jobB certB v e = go (readJob jobB) refl
         let s : ReadAndSeen k j certB v = read-and-seen k j certB v (m .accepted) in
         record {
           job = j;
-          valid-job = record { reads = f; knapsack = k; of-knapsack = m .of-knapsack; not-refused = m .not-refused };
-          best = seen-best k j (certified-valid k j (m .not-refused)) (listIn certB) (s .cells) v (s .long) (s .judged);
+          valid-job = record { reads = f; knapsack = k; has-certificates = m .has-certificates };
+          best = seen-best k j (certified-valid (m .has-certificates)) (listIn certB) (s .cells) v (s .long) (s .judged);
           value = s .judged .value;
         }
 
@@ -176,7 +176,7 @@ module _ (jobB : List ℕ) (j : Job) (job-ok : ValidJob jobB j) (p : List ℕ) w
   k = job-ok .knapsack
 
   valid-here : Valid k j
-  valid-here = certified-valid k j (job-ok .not-refused)
+  valid-here = certified-valid (job-ok .has-certificates)
 
   on-job : (certB : List ℕ) → verdictOf jobB certB ≡ verdictOnJob (readable j) certB
   unfolding verdictOf
@@ -186,7 +186,7 @@ module _ (jobB : List ℕ) (j : Job) (job-ok : ValidJob jobB j) (p : List ℕ) w
   unfolding BestList
   only-when a =
       let accepted = sym (on-job (a .certB)) ∙ verdict-is jobB (a .certB) (Accepted (a .value)) (a .accepted .verdict) in
-      let judged = sym (readable-on k j (a .certB) (job-ok .of-knapsack) (job-ok .not-refused)) ∙ accepted in
+      let judged = sym (readable-on k j (a .certB) (job-ok .has-certificates)) ∙ accepted in
       let s : ReadAndSeen k j (a .certB) (a .value) = read-and-seen k j (a .certB) (a .value) judged in
       subst (λ (q : List ℕ). Best k j (labels j) (j .budget) q) (a .with-list)
       (seen-best k j valid-here (listIn (a .certB)) (s .cells) (a .value) (s .long) (s .judged))
@@ -205,7 +205,7 @@ module _ (jobB : List ℕ) (j : Job) (job-ok : ValidJob jobB j) (p : List ℕ) w
         accepted =
             accepted-with jobB (sectionBytes p ++ sectionBytes cells) (total (j .values) p)
             (on-job (sectionBytes p ++ sectionBytes cells)
-            ∙ accepted-written k j p cells (job-ok .of-knapsack) (job-ok .not-refused) best (exact-long k j shown) (cells-exact k j shown));
+            ∙ accepted-written k j p cells (job-ok .has-certificates) best (exact-long k j shown) (cells-exact k j shown));
       }
 
 -- the checker's promise meets both

@@ -186,7 +186,7 @@ module _ (j : Job) (before after : Lent) (a : Answer) (out out′ : List ℕ) (n
     answer-numbers-unique (packed .numbers),
     accepted-with jobB (take n out′) (total (j .values) picks)
         (ap₂ verdictOnJob reads output
-        ∙ accepted-written k j picks (answered .content .cells) (wrote .of-knapsack) ok best long-cells
+        ∙ accepted-written k j picks (answered .content .cells) (record { of-knapsack = wrote .of-knapsack; not-refused = ok }) best long-cells
         (exact-table k j (answered .content .cells) (answered .table-right))),
   )
 

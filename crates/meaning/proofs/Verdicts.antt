@@ -20,7 +20,7 @@ use Rattle.meaning.specs.Job.{Job, Knapsack, labels, packing}
 use Rattle.meaning.specs.Refusals.{jobRefusal, rulesOf}
 use Rattle.meaning.specs.Bytes.{atEnd, isNeeded, numberAt, numbersIn, between, readSection}
 use Rattle.meaning.specs.Bytes.{readable, sectionBytes, unreadable, wholeSection, withSection}
-use Rattle.meaning.specs.Certificates.{certificateBroken, certificateCells, certifiedKnapsack, lowCell, misvalued, overPicked}
+use Rattle.meaning.specs.Certificates.{HasCertificates, certificateBroken, certificateCells, certifiedKnapsack, lowCell, misvalued, overPicked}
 use Rattle.meaning.specs.Certificates.{overweight, unlessFound, unlessRefused, verdictFor, verdictOnCells, verdictOnCertificate, verdictOnJob}
 use Rattle.meaning.specs.Demands.{listIn}
 use Rattle.meaning.proofs.Numbers.{section-whole, SectionFound, section-found, section-numbers}
@@ -157,11 +157,10 @@ pub on-unreadable : (place : ℕ) (certB : List ℕ) (v : ℕ) → verdictOnJob 
 unfolding verdictOnJob
 on-unreadable place certB v e = refused≢accepted e
 
--- accepted for a job: it is of a knapsack that has certificates, none of 3 to 5 applies, and its certificate is accepted
+-- accepted for a job: it has certificates, and this one is accepted
 pub record JudgedAs (j : Job) (certB : List ℕ) (v : ℕ) : Type 0 where
   pub knapsack : Knapsack
-  pub of-knapsack : certifiedKnapsack (j .kind-number) ≡ some knapsack
-  pub not-refused : jobRefusal (rulesOf (packing knapsack)) j 0 ≡ 0
+  pub has-certificates : HasCertificates knapsack j
   pub accepted : verdictOnCertificate knapsack j certB ≡ Accepted v
 
 pub on-readable : (j : Job) (certB : List ℕ) (v : ℕ) → verdictOnJob (readable j) certB ≡ Accepted v → JudgedAs j certB v
@@ -172,10 +171,9 @@ on-readable j certB v e = go (certifiedKnapsack (j .kind-number)) refl e
     go none f h = absurd (refused≢accepted h)
     go (some k) f h =
         let (ok, accepted) = past-refusal (jobRefusal (rulesOf (packing k)) j 0) (verdictOnCertificate k j certB) v h in
-        record { knapsack = k; of-knapsack = f; not-refused = ok; accepted = accepted }
+        record { knapsack = k; has-certificates = record { of-knapsack = f; not-refused = ok }; accepted = accepted }
 
--- the verdict on a job that isn't refused is that on its certificate
-pub readable-on : (k : Knapsack) (j : Job) (certB : List ℕ) → certifiedKnapsack (j .kind-number) ≡ some k → jobRefusal (rulesOf (packing k)) j 0 ≡ 0
-    → verdictOnJob (readable j) certB ≡ verdictOnCertificate k j certB
+-- the verdict on a job that has certificates is that on the certificate
+pub readable-on : (k : Knapsack) (j : Job) (certB : List ℕ) → HasCertificates k j → verdictOnJob (readable j) certB ≡ verdictOnCertificate k j certB
 unfolding verdictOnJob verdictFor unlessRefused
-readable-on k j certB e ok = rw (e, ok)
+readable-on k j certB h = rw (h .of-knapsack, h .not-refused)

@@ -264,7 +264,7 @@ host-versions =
 
 valid-J : ValidJob jobJ caseJ
 unfolding opens jobJ
-valid-J = record { reads = refl; knapsack = once; of-knapsack = refl; not-refused = refl }
+valid-J = record { reads = refl; knapsack = once; has-certificates = record { of-knapsack = refl; not-refused = refl } }
 
 best-J : BestList once caseJ (1 ∷ [])
 unfolding opens picked BestPicks BestList
@@ -320,6 +320,7 @@ pub refuses-all : (Check : List ℕ → List ℕ → Verdict → Type 0) (jobB :
 unfolding BestList
 refuses-all Check jobB j ok none d =
     let k = ok .knapsack in
-    let (v, b) = best-of k j (counts-shown k j (certified-valid k j (ok .not-refused))) (labels j) (j .budget) (le-refl (labels j)) (le-refl (j .budget)) in
+    let shown = counts-shown k j (certified-valid (ok .has-certificates)) in
+    let (v, b) = best-of k j shown (labels j) (j .budget) (le-refl (labels j)) (le-refl (j .budget)) in
     let a : Accepts Check jobB (b .picks) = d .exactly-when-best jobB j ok (b .picks) .1 (b .best) in
     none (a .certB) (a .value) (a .accepted .verdict)

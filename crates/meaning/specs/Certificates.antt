@@ -136,6 +136,11 @@ unfoldable pub certifiedKnapsack : ℕ → Option Knapsack
 certifiedKnapsack zero = none
 certifiedKnapsack (suc k) = getElem? (once ∷ limited ∷ free ∷ []) k
 
+-- a job that has certificates: it is of the knapsack k, and none of refusals 2 to 5 applies
+pub record HasCertificates (k : Knapsack) (j : Job) : Type 0 where
+  pub of-knapsack : certifiedKnapsack (j .kind-number) ≡ some k
+  pub not-refused : jobRefusal (rulesOf (packing k)) j 0 ≡ 0
+
 -- by the knapsack: 2 where there is none; 3 to 5, or else the verdict on the certificate
 unfoldable pub verdictFor : Option Knapsack → Job → List ℕ → Verdict
 verdictFor none j b = Refused 2 0

@@ -3,7 +3,6 @@
 -- Assumes nothing.
 use mathlib.Core.Path.{_≡_}
 use mathlib.Core.Logic.{_↔_}
-use mathlib.Core.Option.{some}
 use Prim.Native.Nat.{ℕ}
 use mathlib.Core.Bool.{Bool}
 use mathlib.Core.List.{List, []}
@@ -16,13 +15,12 @@ use Rattle.meaning.specs.declared.Written.the-variants.{Bytes}
 use Rattle.meaning.specs.declared.Verdict.the-variants.{Accepted}
 use Rattle.meaning.specs.declared.Needed.the-variants.{Any}
 use Rattle.meaning.specs.Lists.{total, every}
-use Rattle.meaning.specs.Job.{Job, labels, Knapsack, packing}
+use Rattle.meaning.specs.Job.{Job, labels, Knapsack}
 use Rattle.meaning.specs.Lent.{Lent}
-use Rattle.meaning.specs.Refusals.{jobRefusal, rulesOf}
 use Rattle.meaning.specs.Bytes.{readSection, withSection, readable, readJob}
 use Rattle.meaning.specs.Knapsacks.{Best}
 use Rattle.meaning.specs.Solved.{Solved, SolvedBytes}
-use Rattle.meaning.specs.Certificates.{certifiedKnapsack}
+use Rattle.meaning.specs.Certificates.{HasCertificates}
 use Rattle.meaning.specs.Writer.{Writes, WritesBytes}
 
 -- each number is a byte
@@ -33,12 +31,11 @@ areBytes b = every (λ x. ltb x 256) b
 unfoldable pub listIn : List ℕ → List ℕ
 listIn certB = withSection certB (readSection Any certB 0) (λ place. []) (λ picks next. picks)
 
--- the bytes hold the job j, it is of a kind that has certificates, and none of refusals 1 to 5 applies
+-- the bytes hold the job j, which has certificates: none of refusals 1 to 5 applies
 pub record ValidJob (jobB : List ℕ) (j : Job) : Type 0 where
   pub reads : readJob jobB ≡ readable j
   pub knapsack : Knapsack
-  pub of-knapsack : certifiedKnapsack (j .kind-number) ≡ some knapsack
-  pub not-refused : jobRefusal (rulesOf (packing knapsack)) j 0 ≡ 0
+  pub has-certificates : HasCertificates knapsack j
 
 -- the list is one the rules allow, fits and is best
 unfoldable pub BestList : Knapsack → Job → List ℕ → Type 0

@@ -42,7 +42,7 @@ taken-as (suc (suc (suc (suc n)))) k e = let z : _≡_ {A = ℕ} 0 1 = cc in abs
 -- ---- a job that isn't refused
 
 pub valid-read : {k : Knapsack} {j : Job} {cells : List ℕ} → CellsRead k j cells → Valid k j
-valid-read {k} {j} r = certified-valid k j (r .not-refused)
+valid-read r = certified-valid (r .has-certificates)
 
 -- where copies are used, each label has a number of them
 pub copied : {k : Knapsack} {j : Job} → Valid k j → k ≡ limited → length (j .copies) ≡ labels j

@@ -6,10 +6,9 @@ use mathlib.Core.List.{List, [], _∷_}
 use lib.Dec.{eqb}
 use lib.ListN.{length}
 use Rattle.meaning.specs.Lists.{at, if}
-use Rattle.meaning.specs.Job.{Job, Knapsack, once, limited, free, packing}
+use Rattle.meaning.specs.Job.{Job, Knapsack, once, limited, free}
 use Rattle.meaning.specs.Bounds.{mostLabels}
-use Rattle.meaning.specs.Refusals.{jobRefusal, rulesOf}
-use Rattle.meaning.specs.Certificates.{certificateCells}
+use Rattle.meaning.specs.Certificates.{HasCertificates, certificateCells}
 use Rattle.numbers.specs.TwoSlices.{jobFrom}
 
 -- the job of this kind and budget whose lists stand in these bytes
@@ -20,9 +19,9 @@ bytesJob kind budget weights values copies = jobFrom kind (budget ∷ []) [] wei
 unfoldable pub knapsackIn : ℕ → Knapsack
 knapsackIn kind = if (eqb kind 1) once (if (eqb kind 3) free limited)
 
--- none of refusals 3 to 5 applies to the job, and so many cells were read as it needs
+-- the job has certificates, and so many cells were read as it needs
 pub record CellsRead (k : Knapsack) (j : Job) (cells : List ℕ) : Type 0 where
-  pub not-refused : jobRefusal (rulesOf (packing k)) j 0 ≡ 0
+  pub has-certificates : HasCertificates k j
   pub long : length cells ≡ certificateCells k j
 
 -- cells that are passed at once lie in one row of a table, from its start on; in a single row they do

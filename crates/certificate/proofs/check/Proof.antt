@@ -4,14 +4,16 @@ use mathlib.Core.List.{List, [], _∷_}
 use mathlib.Core.Path.{_≡_, sym, _∙_}
 use Prim.Native.Nat.{ℕ}
 use borrow.Author.Needs.{needs}
-use Rattle.meaning.specs.Job.{Job}
+use Rattle.meaning.specs.Job.{Job, jobOf}
 use Rattle.meaning.specs.Bytes.{readJob, readable}
-use Rattle.meaning.specs.Certificates.{certifiedRefusal}
+use Rattle.meaning.specs.Certificates.{HasCertificates}
 use Rattle.numbers.specs.TwoSlices.{jobFrom}
 use Rattle.requests.specs.declared.Parts.{Parts}
 use Rattle.requests.specs.Reading.{PartsOf}
 use Rattle.requests.proofs.Reading.{lists-cut, unread, read-in}
-use Rattle.certificate.proofs.Checking.{not-read, job-refused, once-ok, once-judged}
+use Rattle.verdicts.specs.Asked.{knapsackIn}
+use Rattle.certificate.proofs.Refusing.{not-refused}
+use Rattle.certificate.proofs.Checking.{not-read, job-refused, job-judged}
 use Rattle.certificate.proofs.check.Statement.{statement}
 use Rattle.certificate.proofs.check.Tie as tie
 
@@ -47,9 +49,9 @@ module _ (c : tie.After-bytes-at3) where
 abbrev lists : tie.After-job-refusal → tie.After-bytes-at3
 lists c = c .before .before .before .before
 
--- it isn't refused
-ok : (c : tie.Else1) → 0 ≡ certifiedRefusal (job (lists (c .before))) 0
-ok c = sym (c .if1 .left) ∙ c .before .job-refusal .ensures
+-- it isn't refused, so it has certificates
+has : (c : tie.Else1) → let j = job (lists (c .before)) in HasCertificates (knapsackIn (j .kind-number)) j
+has c = not-refused (job (lists (c .before))) (sym (c .before .job-refusal .ensures) ∙ c .if1 .left)
 
 read-job-requires : tie.Need-read-job-requires
 read-job-requires c κs = search needs
@@ -98,10 +100,12 @@ returns-2 c =
     job-refused _ _ _ _ (cut (lists refusal)) _ (refusal .job-refusal .ensures) (c .before .if1 .taken) (c .refused-with2 .ensures)
 
 judge-requires : tie.Need-judge-requires
-judge-requires c κs = once-ok _ _ _ _ _ (ok c)
+unfolding jobOf
+judge-requires c κs = has c
 
 returns-3 : tie.Need-returns-3
-returns-3 c = once-judged _ _ _ _ _ (ok (c .before)) _ _ _ (cut (lists (c .before .before))) (c .judge .ensures)
+unfolding jobOf
+returns-3 c = job-judged _ _ _ _ (cut (lists (c .before .before))) _ (has (c .before)) (c .judge .ensures)
 
 pub check-spec : {M : Type 1} → statement M
 check-spec =

@@ -7,13 +7,13 @@ use native.Mathlib.Omega.{arith}
 use borrow.Author.Needs.{needs}
 use lib.ListN.{length}
 use Rattle.meaning.specs.declared.Needed.the-variants.{Exactly}
-use Rattle.meaning.specs.Job.{Job, jobOf, labels}
+use Rattle.meaning.specs.Job.{Job, Knapsack, jobOf, labels}
 use Rattle.meaning.specs.Bytes.{between, numbersIn, readSection}
 use Rattle.meaning.specs.Certificates.{certificateCells, verdictOnCells, verdictOnCertificate}
 use Rattle.meaning.proofs.Numbers.{numbers-long}
 use Rattle.numbers.specs.TwoSlices.{listFrom}
 use Rattle.requests.proofs.Reading.{SectionNumbers, Whole}
-use Rattle.verdicts.specs.Asked.{onceJob}
+use Rattle.verdicts.specs.Asked.{bytesJob, knapsackIn}
 use Rattle.certificate.proofs.Counting.{few-labels, room-asked, cells-needed, few-cells}
 use Rattle.certificate.proofs.Reading.{Held, held, picks-broken, cells-broken, left-over, all-read}
 use Rattle.certificate.proofs.judge.Statement.{statement}
@@ -22,7 +22,7 @@ use Rattle.certificate.proofs.judge.Tie as tie
 -- ---- the contexts, each by the one that it follows
 
 abbrev start : tie.After-knapsack-room → tie.Start
-start c = c .before .before .before .before
+start c = c .before .before .before .before .before
 
 abbrev first-read : tie.After-known-told → tie.After-read-section
 first-read c = c .before .before .before
@@ -41,7 +41,10 @@ past-second c = c .before .before .before
 -- the job, and the certificate's bytes
 module _ (s : tie.Start) where
   abbrev job : Job
-  job = onceJob (s .args .budget) (s .args .weights .now) (s .args .values .now)
+  job = bytesJob (s .args .kind) (s .args .budget) (s .args .weights .now) (s .args .values .now) (s .args .copies .now)
+
+  abbrev knapsack : Knapsack
+  knapsack = knapsackIn (s .args .kind)
 
   abbrev bytes : List ℕ
   bytes = s .args .certificate .now
@@ -56,9 +59,9 @@ module _ (s : tie.Start) where
   labels-are = numbers-long (s .args .weights .now)
 
 -- the room has the cells of a certificate
-cells-are : (c : tie.After-knapsack-room) → certificateCells (job (start c)) ≡ c .knapsack-room .result .cells
+cells-are : (c : tie.After-knapsack-room) → certificateCells (knapsack (start c)) (job (start c)) ≡ c .knapsack-room .result .cells
 unfolding jobOf
-cells-are c = cells-needed (job (start c)) (start c .pre) _ (labels-are (start c)) _ (c .knapsack-room .ensures)
+cells-are c = cells-needed (start c .pre) _ (labels-are (start c)) _ (c .knapsack-room .ensures)
 
 -- what is read first is the picks' section
 module _ (c : tie.After-read-section) where
@@ -87,7 +90,7 @@ module _ (c : tie.After-read-section2) where
   abbrev start-2 : tie.Start
   start-2 = start-picks (past-first c)
 
-  cells-asked : readSection (Exactly (certificateCells (job start-2))) (bytes start-2) (picks (past-first c) .1 .1 .0) ≡ c .read-section2 .result
+  cells-asked : readSection (Exactly (certificateCells (knapsack start-2) (job start-2))) (bytes start-2) (picks (past-first c) .1 .1 .0) ≡ c .read-section2 .result
   cells-asked =
       ap (λ (n : ℕ). readSection (Exactly n) (bytes start-2) (picks (past-first c) .1 .1 .0)) (cells-are (first-read (past-first c) .before))
       ∙ sym (c .read-section2 .ensures)
@@ -103,24 +106,24 @@ module _ (c : tie.After-known-told2) where
   abbrev cells : SectionNumbers
   cells = c .before .second .given .0
 
-  cells-read : Whole (Exactly (certificateCells (job start-cells))) (bytes start-cells) (picks before-cells .1 .1 .0) cells
+  cells-read : Whole (Exactly (certificateCells (knapsack start-cells) (job start-cells))) (bytes start-cells) (picks before-cells .1 .1 .0) cells
   cells-read = cells-asked (second-read c) ∙ c .before .second .given .1
 
-  cells-held : Held (bytes start-cells) (cells .0) (cells .1 .1 .0) (certificateCells (job start-cells))
+  cells-held : Held (bytes start-cells) (cells .0) (cells .1 .1 .0) (certificateCells (knapsack start-cells) (job start-cells))
   cells-held = held _ _ _ _ _ _ cells-read
 
   -- and nothing is left over
   all-judged : length (bytes start-cells) ≤ cells .1 .1 .0
-      → verdictOnCells (job start-cells) (numbers start-cells (picks before-cells)) (numbers start-cells cells)
-      ≡ verdictOnCertificate (job start-cells) (bytes start-cells)
-  all-judged at-end = all-read _ _ _ _ _ (picks-read before-cells) _ _ _ cells-read at-end
+      → verdictOnCells (knapsack start-cells) (job start-cells) (numbers start-cells (picks before-cells)) (numbers start-cells cells)
+      ≡ verdictOnCertificate (knapsack start-cells) (job start-cells) (bytes start-cells)
+  all-judged at-end = all-read _ _ _ _ _ _ (picks-read before-cells) _ _ _ cells-read at-end
 
 knapsack-room-requires : tie.Need-knapsack-room-requires
 unfolding jobOf
-knapsack-room-requires c κs = let s = c .before .before .before in room-asked (job s) (s .pre)
+knapsack-room-requires c κs = room-asked (c .before .before .before .before .pre)
 
-cast-t15 : tie.Need-cast-t15
-cast-t15 c = omega (arith, few-labels (job (start c)) (start c .pre) _ (labels-are (start c)))
+cast-labels : tie.Need-cast-labels
+cast-labels c = omega (arith, few-labels (start c .pre) _ (labels-are (start c)))
 
 read-section-requires : tie.Need-read-section-requires
 read-section-requires c κs = search needs
@@ -137,13 +140,13 @@ refused-with-requires c κs = search needs
 returns : tie.Need-returns
 returns c =
     let told = c .before .enum-told .given in
-    c .refused-with .ensures ∙ picks-broken _ _ (told .0 .0) (picks-asked (c .before .before .before) ∙ told .1)
+    c .refused-with .ensures ∙ picks-broken _ _ _ (told .0 .0) (picks-asked (c .before .before .before) ∙ told .1)
 
-cast-t15-2 : tie.Need-cast-t15-2
+cast-many : tie.Need-cast-many
 unfolding jobOf
-cast-t15-2 c =
+cast-many c =
     let room = first-read (c .before) .before in
-    omega (arith, few-cells (job (start room)) (start room .pre) _ (labels-are (start room)) _ (room .knapsack-room .ensures))
+    omega (arith, few-cells (start room .pre) _ (labels-are (start room)) _ (room .knapsack-room .ensures))
 
 read-section-requires-2 : tie.Need-read-section-requires-2
 read-section-requires-2 c κs = search needs
@@ -161,7 +164,7 @@ returns-2 : tie.Need-returns-2
 returns-2 c =
     let told = c .before .enum-told2 .given in
     let second = c .before .before .before in
-    c .refused-with2 .ensures ∙ cells-broken _ _ _ _ _ (picks-read (past-first second)) (told .0 .0) (cells-asked second ∙ told .1)
+    c .refused-with2 .ensures ∙ cells-broken _ _ _ _ _ _ (picks-read (past-first second)) (told .0 .0) (cells-asked second ∙ told .1)
 
 refused-with-requires-3 : tie.Need-refused-with-requires-3
 refused-with-requires-3 c κs = search needs
@@ -169,7 +172,7 @@ refused-with-requires-3 c κs = search needs
 returns-3 : tie.Need-returns-3
 returns-3 c =
     let whole = c .before .before in
-    c .refused-with3 .ensures ∙ left-over _ _ _ _ _ (picks-read (before-cells whole)) _ _ _ (cells-read whole) (c .before .if1 .taken)
+    c .refused-with3 .ensures ∙ left-over _ _ _ _ _ _ (picks-read (before-cells whole)) _ _ _ (cells-read whole) (c .before .if1 .taken)
 
 sub-judge-cells : tie.Need-sub-judge-cells
 sub-judge-cells c = picks-held (before-cells (c .before)) .part-within .ordered
@@ -193,7 +196,7 @@ judge-cells-requires : tie.Need-judge-cells-requires
 unfolding between
 judge-cells-requires c κs =
     let whole = past-second c in
-    (record { not-refused = start-cells whole .pre; long = cells-held whole .long }, picks-held (before-cells whole) .long)
+    (record { has-certificates = start-cells whole .pre; long = cells-held whole .long }, picks-held (before-cells whole) .long)
 
 returns-4 : tie.Need-returns-4
 unfolding between
@@ -204,13 +207,13 @@ judge-spec =
     tie.close
     (tie.spec
     knapsack-room-requires
-    cast-t15
+    cast-labels
     read-section-requires
     enum-known-first
     enum-told
     refused-with-requires
     returns
-    cast-t15-2
+    cast-many
     read-section-requires-2
     enum-known-second
     enum-told-2

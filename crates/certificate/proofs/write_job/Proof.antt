@@ -4,10 +4,12 @@ use mathlib.Core.List.{[], _∷_}
 use mathlib.Core.Path.{_≡_, sym, _∙_}
 use borrow.Author.Needs.{needs}
 use Rattle.meaning.specs.Job.{Job, jobOf, labels}
-use Rattle.meaning.specs.Certificates.{certificateCells, certifiedRefusal}
+use Rattle.meaning.specs.Certificates.{HasCertificates, certificateCells}
 use Rattle.numbers.specs.TwoSlices.{jobFrom}
+use Rattle.verdicts.specs.Asked.{knapsackIn}
 use Rattle.certificate.specs.Copying.{CopiedFor}
 use Rattle.certificate.proofs.Counting.{few-labels, room-asked, cells-needed, few-cells}
+use Rattle.certificate.proofs.Refusing.{not-refused}
 use Rattle.certificate.proofs.Copying.{turned-away}
 use Rattle.certificate.proofs.write_job.Statement.{statement}
 use Rattle.certificate.proofs.write_job.Tie as tie
@@ -21,13 +23,13 @@ job s =
     let a = s .args in
     jobFrom (a .kind) (a .budget ∷ []) (a .weights .now) (a .wbytes .now) (a .values .now) (a .vbytes .now) (a .copies .now) (a .cbytes .now)
 
--- the job isn't refused
+-- the job isn't refused, so it has certificates
 module _ (c : tie.Else1) where
   abbrev asked : Job
   asked = job (start (c .before))
 
-  ok : certifiedRefusal asked 0 ≡ 0
-  ok = sym (c .before .job-refusal .ensures) ∙ c .if1 .left
+  has : HasCertificates (knapsackIn (asked .kind-number)) asked
+  has = not-refused asked (sym (c .before .job-refusal .ensures) ∙ c .if1 .left)
 
 -- it has so many labels
 module _ (c : tie.After-list-length) where
@@ -39,9 +41,10 @@ module _ (c : tie.After-list-length) where
   counted = sym (c .list-length .ensures)
 
 -- and so many cells in its certificate
-cells-counted : (c : tie.After-knapsack-room) → certificateCells (counted-job (c .before)) ≡ c .knapsack-room .result .cells
+cells-counted : (c : tie.After-knapsack-room) → let j = counted-job (c .before) in
+    certificateCells (knapsackIn (j .kind-number)) j ≡ c .knapsack-room .result .cells
 unfolding jobOf
-cells-counted c = cells-needed (counted-job (c .before)) (ok (c .before .before)) _ (counted (c .before)) _ (c .knapsack-room .ensures)
+cells-counted c = cells-needed (has (c .before .before)) _ (counted (c .before)) _ (c .knapsack-room .ensures)
 
 job-refusal-requires : tie.Need-job-refusal-requires
 job-refusal-requires c κs = search needs
@@ -57,15 +60,16 @@ list-length-requires c κs = search needs
 
 knapsack-room-requires : tie.Need-knapsack-room-requires
 unfolding jobOf
-knapsack-room-requires c κs = room-asked (counted-job c) (ok (c .before))
+knapsack-room-requires c κs = room-asked (has (c .before))
 
 copy-out-requires : tie.Need-copy-out-requires
 unfolding jobOf
 copy-out-requires c κs =
     let room = c .before in
-    let listed = room .before in
-    let j = counted-job listed in
-    (few-labels j (ok (listed .before)) _ (counted listed), few-cells j (ok (listed .before)) _ (counted listed) _ (room .knapsack-room .ensures))
+    let listed = room .before in (
+      few-labels (has (listed .before)) _ (counted listed),
+      few-cells (has (listed .before)) _ (counted listed) _ (room .knapsack-room .ensures),
+    )
 
 same-length : tie.Need-same-length
 same-length c = search needs
@@ -75,7 +79,7 @@ unfolding CopiedFor
 returns-2 c =
     let copied = c .before .before in
     let room = copied .before .before in
-    copied .copy-out .ensures (counted-job (room .before)) (counted (room .before)) (cells-counted room) (ok (room .before .before))
+    copied .copy-out .ensures _ _ (has (room .before .before)) (counted (room .before)) (cells-counted room)
 
 pub write-job-spec : {M : Type 1} → statement M
 write-job-spec =
