@@ -7,10 +7,10 @@ use native.Mathlib.Nat.{suc-mul, zero-mul, mul-le-mul, le-mul-of-pos-right, mul-
 use native.Mathlib.Omega.{arith}
 use mathlib.Core.List.{List}
 use Rattle.meaning.specs.Lists.{at}
-use Rattle.faults.specs.Columns.{Fits, Low, High, LowAt, HighAt, LowEither, at-first, at-second, HighBoth}
+use Rattle.faults.specs.Columns.{CopiesFit, Low, High, LowAt, HighAt, LowEither, at-first, at-second, HighBoth}
 
 -- so many copies as fit
-pub copies-fit : (width w copies : ℕ) → Fits width w copies → copies ≤ 65_535
+pub copies-fit : (width w copies : ℕ) → CopiesFit width w copies → copies ≤ 65_535
 copies-fit width w copies f = omega (arith, le-mul-of-pos-right {m = w} copies (f .weighs), f .fit, f .narrow)
 
 -- what a count weighs, and is worth
@@ -30,7 +30,7 @@ pub record Counted (cells : List ℕ) (prior row width w v count far gain : ℕ)
   pub this : CountOf w v count far gain
   pub high : (k : ℕ) → k < count → HighAt cells prior row (width - k * w) (k * w) (k * v)
 
-module _ (cells : List ℕ) (prior row width w v copies : ℕ) (f : Fits width w copies) where
+module _ (cells : List ℕ) (prior row width w v copies : ℕ) (f : CopiesFit width w copies) where
   pub counted-start : Counted cells prior row width w v 0 0 0
   counted-start = record { this = count-0 w v; high = λ k h. absurd (omega arith) }
 

@@ -13,7 +13,7 @@ use Rattle.meaning.specs.Lists.{at}
 use Rattle.meaning.specs.Certificates.{someOf}
 use Rattle.meaning.proofs.Searches.{some-passes, none-pass}
 use Rattle.faults.specs.LowRows.{belowCount, belowOne, lowIn}
-use Rattle.faults.specs.Columns.{Tells, Fits, Low, High, LowAt, HighAt}
+use Rattle.faults.specs.Columns.{Tells, CopiesFit, Low, High, LowAt, HighAt}
 
 -- ---- the rule
 
@@ -77,7 +77,7 @@ module _ (end w weight : ℕ) (weight-is : weight ≡ min w end) where
       ]
 
   module _ (copies fit : ℕ) (weighs : 1 ≤ w) (some : 1 ≤ end) (fit-is : fit ≡ min copies ((end - 1) / weight)) where
-    pub part-fits : end ≤ 65_536 → Fits end weight fit
+    pub part-fits : end ≤ 65_536 → CopiesFit end weight fit
     part-fits narrow = record {
       weighs = omega arith;
       light = omega arith;

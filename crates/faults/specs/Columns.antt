@@ -19,7 +19,7 @@ pub record TwoRows (cells : List ℕ) (prior row end : ℕ) : Type 0 where
   pub row-ends : row + end ≤ length cells
 
 -- so many copies fit a row of this width
-pub record Fits (width w copies : ℕ) : Type 0 where
+pub record CopiesFit (width w copies : ℕ) : Type 0 where
   pub weighs : 1 ≤ w
   pub light : w ≤ width
   pub narrow : width ≤ 65_536

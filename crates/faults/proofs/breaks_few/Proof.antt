@@ -5,7 +5,7 @@ use mathlib.Core.List.{List}
 use Prim.Native.Nat.{ℕ, _≤_, _<_, _+_, _-_}
 use native.Mathlib.Omega.{arith}
 use Rattle.meaning.specs.Bytes.{numbersIn}
-use Rattle.faults.specs.Columns.{Fits}
+use Rattle.faults.specs.Columns.{CopiesFit}
 use Rattle.faults.proofs.Telling.{tells-low, tells-high, tells-as}
 use Rattle.faults.proofs.Counts.{Counted, copies-fit, counted-start, gain-fits, two-fit, two-low, two-next, counted-all}
 use Rattle.faults.proofs.Counts.{last-fits, last-low, last-high}
@@ -30,7 +30,7 @@ head c = c .before .before
 -- ---- what is known at the loop's head
 
 module _ (c : tie.At-loop Inv-loop μ-loop) where
-  fitting : Fits (start c .args .width) (start c .args .w) (start c .args .copies)
+  fitting : CopiesFit (start c .args .width) (start c .args .w) (start c .args .copies)
   fitting = start c .pre .1 .0
 
   abbrev passed : Counted (numbersIn (start c .args .cells .now)) (start c .args .prior) (start c .args .row) (start c .args .width) (start c .args .w)

@@ -5,7 +5,7 @@ use Prim.Native.Nat.{_-_}
 use native.Mathlib.Omega.{arith}
 use borrow.Author.Needs.{needs}
 use Rattle.meaning.specs.Bytes.{numbersIn}
-use Rattle.faults.specs.Columns.{TwoRows, Fits}
+use Rattle.faults.specs.Columns.{TwoRows, CopiesFit}
 use Rattle.faults.proofs.Rule.{part-fits, part-told}
 use Rattle.faults.proofs.row_breaks.Statement.{statement}
 use Rattle.faults.proofs.row_breaks.Tie as tie
@@ -21,7 +21,7 @@ module _ (c : tie.After-nearer2) where
     row-ends = omega (arith, there .ends, part .inside);
   }
 
-  cut-fits : Fits (start .args .end) (c .before .nearer .result) (c .nearer2 .result)
+  cut-fits : CopiesFit (start .args .end) (c .before .nearer .result) (c .nearer2 .result)
   cut-fits =
       let part = start .pre .1 in
       part-fits _ (start .args .w) _ (c .before .nearer .ensures) (start .args .most) _ (part .weighs) (part .some) (c .nearer2 .ensures)
