@@ -7,14 +7,15 @@ use native.Mathlib.Omega.{arith}
 use Rattle.meaning.specs.Bytes.{numbersIn}
 use Rattle.faults.specs.Columns.{CopiesFit}
 use Rattle.faults.proofs.Telling.{tells-low, tells-high, tells-as}
-use Rattle.faults.proofs.Counts.{Counted, copies-fit, counted-start, gain-fits, two-fit, two-low, two-next, counted-all}
+use Rattle.faults.proofs.Cells.{few-copies}
+use Rattle.faults.proofs.Counts.{CountsPassed, counts-start, gain-fits, two-fit, two-low, two-next, counts-all}
 use Rattle.faults.proofs.Counts.{last-fits, last-low, last-high}
 use Rattle.faults.proofs.breaks_few.Statement.{statement}
 use Rattle.faults.proofs.breaks_few.Tie as tie
 
 abbrev Inv-loop : tie.InvT-loop
 Inv-loop cells prior row width w v copies far₀ gain₀ count₀ far gain count =
-    (count ≤ copies + 1) × Counted (numbersIn cells) prior row width w v count far gain
+    (count ≤ copies + 1) × CountsPassed (numbersIn cells) prior row width w v count far gain
 
 abbrev μ-loop : tie.MeasureT-loop
 μ-loop cells prior row width w v copies far₀ gain₀ count₀ far gain count = copies + 1 - count
@@ -33,8 +34,8 @@ module _ (c : tie.At-loop Inv-loop μ-loop) where
   fitting : CopiesFit (start c .args .width) (start c .args .w) (start c .args .copies)
   fitting = start c .pre .1 .0
 
-  abbrev passed : Counted (numbersIn (start c .args .cells .now)) (start c .args .prior) (start c .args .row) (start c .args .width) (start c .args .w)
-      (start c .args .v) (c .loop .count) (c .loop .far) (c .loop .gain)
+  abbrev passed : let a = start c .args in
+      CountsPassed (numbersIn (a .cells .now)) (a .prior) (a .row) (a .width) (a .w) (a .v) (c .loop .count) (c .loop .far) (c .loop .gain)
   passed = c .loop .inv .1
 
   -- two counts are left
@@ -45,8 +46,19 @@ module _ (c : tie.At-loop Inv-loop μ-loop) where
     worth : c .loop .gain ≤ 4_294_836_225
     worth = gain-fits _ _ _ _ _ _ _ fitting _ _ _ passed (start c .pre .1 .1) (omega arith)
 
+-- one count is left, the last
+module _ (c : tie.Else2 Inv-loop μ-loop) where
+  abbrev end : tie.At-loop Inv-loop μ-loop
+  end = c .before .before
+
+  last : end .loop .count ≡ start end .args .copies
+  last = omega (arith, c .before .loop-test .left, c .if2 .left)
+
+  last-room : end .loop .far < start end .args .width
+  last-room = last-fits _ _ _ _ _ _ _ (fitting end) _ _ _ (passed end) last
+
 loop-holds : tie.Need-loop-holds Inv-loop μ-loop
-loop-holds c = (omega arith, counted-start _ _ _ _ _ _ _ (c .before .pre .1 .0))
+loop-holds c = (omega arith, counts-start _ _ _ _ _ _)
 
 sub-breaks-two : tie.Need-sub-breaks-two Inv-loop μ-loop
 sub-breaks-two c = omega (arith, room (c .before) (c .loop-test .taken))
@@ -85,7 +97,7 @@ add-gain-2 c =
     omega (arith, worth h (c .before .before .loop-test .taken), start h .pre .1 .1)
 
 add-count : tie.Need-add-count Inv-loop μ-loop
-add-count c = omega (arith, copies-fit _ _ _ (fitting (head (c .before))))
+add-count c = let f = fitting (head (c .before)) in omega (arith, few-copies _ _ _ (f .weighs) (f .fit) (f .narrow))
 
 loop-less : tie.Need-loop-less Inv-loop μ-loop
 loop-less c = omega (arith, c .before .before .loop-test .taken)
@@ -99,25 +111,21 @@ loop-again c =
     )
 
 returns-2 : tie.Need-returns-2 Inv-loop μ-loop
-returns-2 c = let h = c .before .before in tells-high (counted-all _ _ _ _ _ _ _ (fitting h) _ _ _ (c .if2 .taken) (passed h))
+returns-2 c = let h = c .before .before in tells-high (counts-all _ _ _ _ _ _ _ _ _ _ (c .if2 .taken) (passed h))
 
 sub-breaks-at : tie.Need-sub-breaks-at Inv-loop μ-loop
-sub-breaks-at c =
-    let h = c .before .before in
-    omega (arith, last-fits _ _ _ _ _ _ _ (fitting h) _ _ _ (passed h) (omega (arith, c .before .loop-test .left, c .if2 .left)))
+sub-breaks-at c = omega (arith, last-room c)
 
 breaks-at-requires : tie.Need-breaks-at-requires Inv-loop μ-loop
 breaks-at-requires c κs =
-    let h = c .before .before in
-    let fits = last-fits _ _ _ _ _ _ _ (fitting h) _ _ _ (passed h) (omega (arith, c .before .loop-test .left, c .if2 .left)) in
-    (omega (arith, start h .pre .0 .prior-ends), omega (arith, start h .pre .0 .row-ends))
+    let s = start (end c) in
+    (omega (arith, last-room c, s .pre .0 .prior-ends), omega (arith, last-room c, s .pre .0 .row-ends))
 
 returns-3 : tie.Need-returns-3 Inv-loop μ-loop
 returns-3 c =
-    let h = c .before .before .before in
-    let last : h .loop .count ≡ start h .args .copies = omega (arith, c .before .before .loop-test .left, c .before .if2 .left) in
-    tells-as _ (last-low _ _ _ _ _ _ _ (fitting h) _ _ _ (passed h) last) (last-high _ _ _ _ _ _ _ (fitting h) _ _ _ (passed h) last)
-    (c .breaks-at .ensures)
+    let h = end (c .before) in
+    tells-as _ (last-low _ _ _ _ _ _ _ (fitting h) _ _ _ (passed h) (last (c .before)))
+    (last-high _ _ _ _ _ _ _ (fitting h) _ _ _ (passed h) (last (c .before))) (c .breaks-at .ensures)
 
 pub breaks-few-spec : {M : Type 1} → statement M
 breaks-few-spec =
