@@ -45,7 +45,8 @@ module _ (cells : List ℕ) (prior row width w v copies : ℕ) where
 
     module _ (weighs : 1 ≤ w) (within : HighWithin cells prior row end w v b) where
       -- the counts that stay in the block are kept, so those that leave it are left
-      column-by : ((e count : ℕ) → e ≤ copies → count ≤ copies → copies < e + count → b + (e + count) * w < width → KeptCount b e count) → KeptColumn b
+      column-by : ((e count : ℕ) → e ≤ copies → count ≤ copies → copies < e + count → b + (e + count) * w < width → KeptCount b e count)
+          → KeptColumn b
       column-by leaving = record {
         all = λ e count e-few few inside. elim (decLt copies (e + count)) [
           | yes far ↦ leaving e count e-few few far inside

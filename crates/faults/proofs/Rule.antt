@@ -1,6 +1,6 @@
 -- What the answer says of a row by the rule, at the budgets below `end`.
 -- Assumes nothing.
-use mathlib.Core.Path.{_≡_, sym, ap, ap₂, subst, _∙_}
+use mathlib.Core.Path.{_≡_, sym, ap, ap₂}
 use Prim.Native.Nat.{ℕ, suc, _+_, _-_, _*_, _/_, _≤_, _<_, min, max}
 use native.Mathlib.Decide.{decLt}
 use native.Mathlib.Nat.{suc-mul, zero-mul, mul-comm, mul-le-mul-right, lt-of-mul-lt-mul-right, div-mul-le-self, lt-div-mul-add}
@@ -162,6 +162,7 @@ module _ (cells : List ℕ) (w v from end start : ℕ) (start-is : start ≡ max
               (omega (arith, h .all c (omega arith), ap (at cells) claim, ap (at cells) other))
         ])
 
-    pub stretch-told : (r : Bool) → Tells r (LowAt cells (start - w) (start - w) (end - start) w v) (HighAt cells (start - w) (start - w) (end - start) w v)
+    pub stretch-told : (r : Bool)
+        → Tells r (LowAt cells (start - w) (start - w) (end - start) w v) (HighAt cells (start - w) (start - w) (end - start) w v)
         → r ≡ someOf low-after (end - from)
     stretch-told r told = tells-is r (someOf low-after (end - from)) stretch-broken stretch-kept told

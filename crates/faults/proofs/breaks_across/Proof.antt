@@ -76,7 +76,8 @@ add-if1 c = omega (arith, c .cell2 .ensures .1, worth (entry c))
 returns : tie.Need-returns Inv-loop μ-loop
 returns c =
     let other = c .before in
-    tells-low (crossed-low _ _ _ _ _ _ _ _ _ _ _ (head other .loop .inv) (other .before .loop-test .taken) _ (other .cell2 .ensures .0) (c .if1 .taken))
+    tells-low (crossed-low _ _ _ _ _ _ _ _ _ _ _ (head other .loop .inv) (other .before .loop-test .taken) _ (other .cell2 .ensures .0)
+    (c .if1 .taken))
 
 add-x : tie.Need-add-x Inv-loop μ-loop
 add-x c = let s = entry (c .before) in omega (arith, s .pre .1 .0, s .pre .1 .1)
