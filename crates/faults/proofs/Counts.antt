@@ -4,10 +4,12 @@ use mathlib.Core.Path.{_≡_, ap, subst}
 use Prim.Native.Nat.{ℕ, _+_, _-_, _*_, _≤_, _<_}
 use native.Mathlib.Nat.{suc-mul, zero-mul, mul-le-mul, mul-le-mul-right}
 use native.Mathlib.Omega.{arith}
+use mathlib.Core.Bool.{Bool}
 use mathlib.Core.List.{List}
 use borrow.Author.Count.{below-more}
 use Rattle.meaning.specs.Lists.{at}
-use Rattle.faults.specs.Columns.{CopiesFit, Low, High, LowAt, HighAt, LowEither, at-first, at-second, HighBoth}
+use Rattle.faults.specs.Columns.{Tells, CopiesFit, Low, High, LowAt, HighAt, LowEither, at-first, at-second, HighBoth}
+use Rattle.faults.proofs.Telling.{tells-as}
 use Rattle.faults.proofs.Cells.{same-times, few-copies}
 
 -- what a count weighs, and is worth
@@ -73,11 +75,12 @@ module _ (cells : List ℕ) (prior row width w v : ℕ) where
         pub last-fits : far < width
         last-fits = omega (arith, c .this .far-is, same-times w last, f .fit)
 
-        pub last-low : LowFar far gain → Low cells prior row width w v copies
-        last-low l = count-low count far gain (c .this) (omega arith) l
-
-        pub last-high : HighFar far gain → High cells prior row width w v copies
+        last-high : HighFar far gain → High cells prior row width w v copies
         last-high h = counts-all (count + 1) (far + w) (gain + v) (omega arith) (counts-next count far gain c h)
+
+        pub last-told : (r : Bool) → Tells r (LowFar far gain) (HighFar far gain)
+            → Tells r (Low cells prior row width w v copies) (High cells prior row width w v copies)
+        last-told r told = tells-as r (count-low count far gain (c .this) (omega arith)) last-high told
 
       -- this count and the next
       module _ (two : count < copies) where
