@@ -34,7 +34,7 @@ module _ (cells : List ℕ) (prior row width w v copies a : ℕ) where
   abbrev InRow : ℕ → Type 0
   InRow e = b + e * w < width
 
-  -- the cells x, x+w, .. before b, all copies below the cells y, y+w, ..
+  -- d cells were passed, those before budget x; budget y is all copies up from x
   pub record Crossed (x y least : ℕ) : Type 0 where
     pub d : ℕ
     pub x-is : x ≡ a + d * w
@@ -57,6 +57,7 @@ module _ (cells : List ℕ) (prior row width w v copies a : ℕ) where
 
   module _ (x y least : ℕ) (c : Crossed x y least) where
     module _ (before : x < b) where
+      -- cells are left, so what is carried fits the code's numbers
       fewer : c .d < copies
       fewer = lt-of-mul-lt-mul-right w (omega (arith, c .x-is))
 
@@ -66,6 +67,7 @@ module _ (cells : List ℕ) (prior row width w v copies a : ℕ) where
           (omega (arith, c .small, c .x-is), omega (arith, c .x-is, c .y-is))
 
       module _ (other : ℕ) (other-is : other ≡ at cells (prior + x)) where
+        -- the least claim is too low for the cell x, wherever it was found
         pub crossed-low : least < other + copies * v → Low cells prior row width w v copies
         crossed-low low =
             let l = c .carries in
@@ -121,6 +123,7 @@ module _ (cells : List ℕ) (prior row width w v copies a : ℕ) where
                 next-is ∙ ap (λ (m : ℕ). min m (least + v)) (claim-is ∙ same-cell cells row next-y) in
                 crossed-next next (least-inside claims InRow v (c .d) least (c .carries) next is (omega (arith, next-y))) (omega arith)
 
+    -- no cell is left
     pub all-crossed : 1 ≤ w → b ≤ x → HighAcross cells prior row width w v copies a
     all-crossed weighs past =
         let reached : copies ≤ c .d = le-of-mul-le-mul-right (omega (arith, c .x-is)) weighs in

@@ -30,6 +30,7 @@ module _ (cells : List ℕ) (prior row width w v copies : ℕ) where
   -- ---- a column
 
   module _ (b end : ℕ) (end-is : end ≡ min (b + span) width) where
+    -- a break within the block, of at most all copies
     pub column-low : LowWithin cells prior row end w v b → Low cells prior row width w v copies
     column-low l =
         let ends : (l .e + l .count) * w < (copies + 1) * w = omega (arith, l .inside, suc-mul copies w) in
@@ -127,6 +128,7 @@ module _ (cells : List ℕ) (prior row width w v copies : ℕ) where
     high = below-more (λ (m : ℕ). KeptBlock (m * span)) (k .n) (k .high) (subst KeptBlock (k .reached) here);
   }
 
+  -- every budget is in some block, and in some column of it
   pub blocks-all : (base : ℕ) → 1 ≤ w → width ≤ base → BlocksKept base → High cells prior row width w v copies
   blocks-all base weighs past k = record {
     all = λ from count few inside.

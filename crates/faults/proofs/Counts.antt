@@ -60,6 +60,7 @@ module _ (cells : List ℕ) (prior row width w v : ℕ) where
       below = omega (arith, l .below, c .gain-is, ap (λ (m : ℕ). at cells (row + (l .from + m))) (c .far-is));
     }
 
+    -- no count is left
     pub counts-all : (count far gain : ℕ) → copies < count → CountsPassed count far gain → High cells prior row width w v copies
     counts-all count far gain past c = record { all = λ from k few inside. c .high k (omega arith) .all from (omega arith) }
 
@@ -87,6 +88,7 @@ module _ (cells : List ℕ) (prior row width w v : ℕ) where
         pub two-fit : far + w < width
         two-fit = omega (arith, c .this .far-is, suc-mul count w, mul-le-mul-right w two, f .fit)
 
+        -- how many budgets are left for each
         first-left : width - far - w + w ≡ width - far
         first-left = omega (arith, two-fit)
 

@@ -15,6 +15,7 @@ use Rattle.faults.proofs.Passes.{below-sum, Told, pass-start, pass-next
 
 -- ---- the code's test without a sum
 
+-- a claim that is no less than the greater value wraps by neither
 pub below-either : (claim near gain other more rest less : ℕ) → gain ≤ more → claim < 4_294_967_296 → rest < 4_294_967_296 → less < 4_294_967_296
     → (rest + gain) % 4_294_967_296 ≡ claim → (less + more) % 4_294_967_296 ≡ claim
     → ((ltb claim more || ltb rest near) || ltb less other) ≡ (ltb claim (near + gain) || ltb claim (other + more))
@@ -73,6 +74,7 @@ module _ (cells : List ℕ) (prior row left far w gain v : ℕ) where
   pub light-low : LowAt cells prior row w far gain → LowEither cells prior row left far w gain v
   light-low l = at-first (record { from = l .from; inside = omega (arith, l .inside); below = l .below })
 
+  -- a break at a later one
   heavy-low : LowAt cells (prior + w) (row + w) left far gain → LowAt cells prior row (left + w) far gain
   heavy-low l =
       let claim : row + w + (l .from + far) ≡ row + (w + l .from + far) = omega arith in

@@ -15,6 +15,7 @@ use Rattle.faults.proofs.Telling.{tells-low, tells-high}
 
 -- ---- the code's test without a sum
 
+-- a claim less a value wraps only where the claim is below the value
 pub below-sum : (claim other v rest : ℕ) → claim < 4_294_967_296 → rest < 4_294_967_296 → (rest + v) % 4_294_967_296 ≡ claim
     → (ltb claim v || ltb rest other) ≡ ltb claim (other + v)
 below-sum claim other v rest claim-fits rest-fits wraps =
@@ -39,6 +40,7 @@ module _ (cells : List ℕ) (prior row far gain : ℕ) where
   pass-start = tells-high (record { all = λ from h. absurd (omega arith) })
 
   module _ (c : ℕ) where
+    -- what stands at the budget whose turn it is
     abbrev claim-at : ℕ
     claim-at = at cells (row + (c + far))
 
@@ -66,5 +68,6 @@ module _ (cells : List ℕ) (prior row far gain : ℕ) where
         below-is ∙ ap₂ (λ (x y : ℕ). ltb x (y + gain)) (claim-is ∙ ap (at cells) place) other-is in
         rw same (one-more low t)
 
+  -- all budgets are passed
   pub pass-end : (low : Bool) (c left : ℕ) → c ≡ left → Told low c → Told low left
   pass-end low c left all t = subst (Told low) all t

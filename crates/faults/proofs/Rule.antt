@@ -93,6 +93,7 @@ module _ (end w weight : ℕ) (weight-is : weight ≡ min w end) where
         }
 
     module _ (cells : List ℕ) (prior row v : ℕ) where
+      -- a break for them is one for the label's own, and so is none
       own-low : Low cells prior row end weight v fit → Low cells prior row end w v copies
       own-low l =
           let product : l .count * weight ≡ l .count * w = cut-same (l .count) weight (omega arith) (omega (arith, l .inside)) in

@@ -19,7 +19,7 @@ module _ (cells : List ℕ) (prior row end w v b : ℕ) where
   abbrev others : ℕ → ℕ
   others e = columnCell cells prior b w e
 
-  -- the cells before budget c were passed
+  -- d cells were passed, those before budget c
   pub record ColumnPassed (c carried : ℕ) : Type 0 where
     pub d : ℕ
     pub reached : c ≡ b + d * w
@@ -36,6 +36,7 @@ module _ (cells : List ℕ) (prior row end w v b : ℕ) where
 
   module _ (c carried : ℕ) (p : ColumnPassed c carried) (other claim top : ℕ)
       (other-is : other ≡ at cells (prior + c)) (claim-is : claim ≡ at cells (row + c)) (top-is : top ≡ max other carried) where
+    -- the cell whose turn it is: the greater is the greatest so far, and the claim is the column's
     topmost : Topmost others v (p .d) top
     topmost =
         let same : other ≡ others (p .d) = other-is ∙ same-cell cells prior (p .reached) in
@@ -69,5 +70,6 @@ module _ (cells : List ℕ) (prior row end w v b : ℕ) where
       ];
     }
 
+  -- the column ends
   pub all-passed : (c carried : ℕ) → end ≤ c → ColumnPassed c carried → HighWithin cells prior row end w v b
   all-passed c carried past p = record { all = λ e count h. p .kept e count (lt-of-mul-lt-mul-right w (omega (arith, p .reached))) }
