@@ -1,115 +1,118 @@
 -- Count by count, two in a pass: those passed are kept.
 -- Assumes nothing.
-use mathlib.Core.Path.{_≡_, ap, subst, _∙_}
+use mathlib.Core.Path.{_≡_, ap, subst}
 use Prim.Native.Nat.{ℕ, _+_, _-_, _*_, _≤_, _<_}
-use native.Mathlib.Decide.{decLt}
-use native.Mathlib.Nat.{suc-mul, zero-mul, mul-le-mul, le-mul-of-pos-right, mul-le-mul-right}
+use native.Mathlib.Nat.{suc-mul, zero-mul, mul-le-mul, mul-le-mul-right}
 use native.Mathlib.Omega.{arith}
+use mathlib.Core.Bool.{Bool}
 use mathlib.Core.List.{List}
+use borrow.Author.Count.{below-more}
 use Rattle.meaning.specs.Lists.{at}
-use Rattle.faults.specs.Columns.{Fits, Low, High, LowAt, HighAt, LowEither, at-first, at-second, HighBoth}
-
--- so many copies as fit
-pub copies-fit : (width w copies : ℕ) → Fits width w copies → copies ≤ 65_535
-copies-fit width w copies f = omega (arith, le-mul-of-pos-right {m = w} copies (f .weighs), f .fit, f .narrow)
+use Rattle.faults.specs.Columns.{Tells, CopiesFit, Low, High, LowAt, HighAt, LowEither, at-first, at-second, HighBoth}
+use Rattle.faults.proofs.Telling.{tells-as}
+use Rattle.faults.proofs.Cells.{same-times, few-copies}
 
 -- what a count weighs, and is worth
 pub record CountOf (w v count far gain : ℕ) : Type 0 where
   pub far-is : far ≡ count * w
   pub gain-is : gain ≡ count * v
 
-pub count-0 : (w v : ℕ) → CountOf w v 0 0 0
-count-0 w v = record { far-is = omega (arith, zero-mul w); gain-is = omega (arith, zero-mul v) }
-
 count-next : (w v count far gain : ℕ) → CountOf w v count far gain → CountOf w v (count + 1) (far + w) (gain + v)
 count-next w v count far gain c =
     record { far-is = omega (arith, c .far-is, suc-mul count w); gain-is = omega (arith, c .gain-is, suc-mul count v) }
 
--- the counts below this one are kept
-pub record Counted (cells : List ℕ) (prior row width w v count far gain : ℕ) : Type 0 where
-  pub this : CountOf w v count far gain
-  pub high : (k : ℕ) → k < count → HighAt cells prior row (width - k * w) (k * w) (k * v)
+module _ (cells : List ℕ) (prior row width w v : ℕ) where
+  -- a break at one distance, over all budgets where it fits, and that there is none
+  abbrev LowFar : ℕ → ℕ → Type 0
+  LowFar far gain = LowAt cells prior row (width - far) far gain
 
-module _ (cells : List ℕ) (prior row width w v copies : ℕ) (f : Fits width w copies) where
-  pub counted-start : Counted cells prior row width w v 0 0 0
-  counted-start = record { this = count-0 w v; high = λ k h. absurd (omega arith) }
+  abbrev HighFar : ℕ → ℕ → Type 0
+  HighFar far gain = HighAt cells prior row (width - far) far gain
 
-  -- a break at one count
-  pub count-low : (count far gain : ℕ) → CountOf w v count far gain → count ≤ copies → LowAt cells prior row (width - far) far gain
-      → Low cells prior row width w v copies
-  count-low count far gain c few l = record {
-    from = l .from;
-    count = count;
-    few = few;
-    inside = omega (arith, l .inside, c .far-is);
-    below = omega (arith, l .below, c .gain-is, ap (λ (m : ℕ). at cells (row + (l .from + m))) (c .far-is));
+  -- the counts below this one are kept
+  pub record CountsPassed (count far gain : ℕ) : Type 0 where
+    pub this : CountOf w v count far gain
+    pub high : (k : ℕ) → k < count → HighFar (k * w) (k * v)
+
+  pub counts-start : CountsPassed 0 0 0
+  counts-start = record {
+    this = record { far-is = omega (arith, zero-mul w); gain-is = omega (arith, zero-mul v) };
+    high = λ k h. absurd (omega arith);
   }
 
   -- one more that is kept
-  counted-next : (count far gain : ℕ) → Counted cells prior row width w v count far gain → HighAt cells prior row (width - far) far gain
-      → Counted cells prior row width w v (count + 1) (far + w) (gain + v)
-  counted-next count far gain c here = record {
-    this = count-next w v count far gain (c .this);
-    high = λ k h. elim (decLt k count) [
-      | yes earlier ↦ c .high k earlier
-      | no last ↦
-          let same : count ≡ k = omega arith in
-          let weight : far ≡ k * w = c .this .far-is ∙ ap (λ (n : ℕ). n * w) same in
-          let worth : gain ≡ k * v = c .this .gain-is ∙ ap (λ (n : ℕ). n * v) same in
-          subst (λ (x : ℕ). HighAt cells prior row (width - x) x (k * v)) weight
-          (subst (λ (x : ℕ). HighAt cells prior row (width - far) far x) worth here)
-    ];
-  }
+  counts-next : (count far gain : ℕ) → CountsPassed count far gain → HighFar far gain → CountsPassed (count + 1) (far + w) (gain + v)
+  counts-next count far gain c here =
+      let own : HighFar (count * w) gain = subst (λ (x : ℕ). HighFar x gain) (c .this .far-is) here in
+      record {
+        this = count-next w v count far gain (c .this);
+        high = below-more (λ (k : ℕ). HighFar (k * w) (k * v)) count (c .high) (subst (HighFar (count * w)) (c .this .gain-is) own);
+      }
 
-  pub counted-all : (count far gain : ℕ) → copies < count → Counted cells prior row width w v count far gain → High cells prior row width w v copies
-  counted-all count far gain past c = record { all = λ from k few inside. c .high k (omega arith) .all from (omega arith) }
+  module _ (copies : ℕ) where
+    -- a break at one count
+    count-low : (count far gain : ℕ) → CountOf w v count far gain → count ≤ copies → LowFar far gain → Low cells prior row width w v copies
+    count-low count far gain c few l = record {
+      from = l .from;
+      count = count;
+      few = few;
+      inside = omega (arith, l .inside, c .far-is);
+      below = omega (arith, l .below, c .gain-is, ap (λ (m : ℕ). at cells (row + (l .from + m))) (c .far-is));
+    }
 
-  module _ (count far gain : ℕ) (c : Counted cells prior row width w v count far gain) where
-    -- what is worth no more than the greatest value for each copy fits 32 bits
-    pub gain-fits : v ≤ 65_535 → count ≤ copies → gain ≤ 4_294_836_225
-    gain-fits v-fits few =
-        let small : count ≤ 65_535 = omega (arith, copies-fit width w copies f) in
-        omega (arith, c .this .gain-is, mul-le-mul small v-fits)
+    -- no count is left
+    pub counts-all : (count far gain : ℕ) → copies < count → CountsPassed count far gain → High cells prior row width w v copies
+    counts-all count far gain past c = record { all = λ from k few inside. c .high k (omega arith) .all from (omega arith) }
 
-    -- the last count alone
-    module _ (last : count ≡ copies) where
-      pub last-fits : far < width
-      last-fits = omega (arith, c .this .far-is, ap (λ (n : ℕ). n * w) last, f .fit)
+    module _ (f : CopiesFit width w copies) (count far gain : ℕ) (c : CountsPassed count far gain) where
+      -- what is worth no more than the greatest value for each copy fits 32 bits
+      pub gain-fits : v ≤ 65_535 → count ≤ copies → gain ≤ 4_294_836_225
+      gain-fits v-fits few =
+          let small : count ≤ 65_535 = omega (arith, few-copies copies w width (f .weighs) (f .fit) (f .narrow)) in
+          omega (arith, c .this .gain-is, mul-le-mul small v-fits)
 
-      pub last-low : LowAt cells prior row (width - far) far gain → Low cells prior row width w v copies
-      last-low l = count-low count far gain (c .this) (omega arith) l
+      -- the last count alone
+      module _ (last : count ≡ copies) where
+        pub last-fits : far < width
+        last-fits = omega (arith, c .this .far-is, same-times w last, f .fit)
 
-      pub last-high : HighAt cells prior row (width - far) far gain → High cells prior row width w v copies
-      last-high h = counted-all (count + 1) (far + w) (gain + v) (omega arith) (counted-next count far gain c h)
+        last-high : HighFar far gain → High cells prior row width w v copies
+        last-high h = counts-all (count + 1) (far + w) (gain + v) (omega arith) (counts-next count far gain c h)
 
-    -- this count and the next
-    module _ (two : count < copies) where
-      pub two-fit : far + w < width
-      two-fit = omega (arith, c .this .far-is, suc-mul count w, mul-le-mul-right w two, f .fit)
+        pub last-told : (r : Bool) → Tells r (LowFar far gain) (HighFar far gain)
+            → Tells r (Low cells prior row width w v copies) (High cells prior row width w v copies)
+        last-told r told = tells-as r (count-low count far gain (c .this) (omega arith)) last-high told
 
-      first-left : width - far - w + w ≡ width - far
-      first-left = omega (arith, two-fit)
+      -- this count and the next
+      module _ (two : count < copies) where
+        pub two-fit : far + w < width
+        two-fit = omega (arith, c .this .far-is, suc-mul count w, mul-le-mul-right w two, f .fit)
 
-      second-left : width - far - w ≡ width - (far + w)
-      second-left = omega arith
+        -- how many budgets are left for each
+        first-left : width - far - w + w ≡ width - far
+        first-left = omega (arith, two-fit)
 
-      pub two-low : LowEither cells prior row (width - far - w) far w gain v → Low cells prior row width w v copies
-      two-low (at-first l) =
-          count-low count far gain (c .this) (omega arith) (subst (λ (n : ℕ). LowAt cells prior row n far gain) first-left l)
-      two-low (at-second l) =
-          count-low (count + 1) (far + w) (gain + v) (count-next w v count far gain (c .this)) (omega arith)
-          (subst (λ (n : ℕ). LowAt cells prior row n (far + w) (gain + v)) second-left l)
+        second-left : width - far - w ≡ width - (far + w)
+        second-left = omega arith
 
-      pub two-next : HighBoth cells prior row (width - far - w) far w gain v
-          → Counted cells prior row width w v (count + 2) (far + (w + w)) (gain + (v + v))
-      two-next h =
-          let one = counted-next count far gain c (subst (λ (n : ℕ). HighAt cells prior row n far gain) first-left (h .first)) in
-          let both =
-          counted-next (count + 1) (far + w) (gain + v) one
-          (subst (λ (n : ℕ). HighAt cells prior row n (far + w) (gain + v)) second-left (h .second)) in
-          let weight : far + w + w ≡ far + (w + w) = omega arith in
-          let worth : gain + v + v ≡ gain + (v + v) = omega arith in
-          let counts : count + 1 + 1 ≡ count + 2 = omega arith in
-          subst (λ (n : ℕ). Counted cells prior row width w v n (far + (w + w)) (gain + (v + v))) counts
-          (subst (λ (x : ℕ). Counted cells prior row width w v (count + 1 + 1) x (gain + (v + v))) weight
-          (subst (λ (x : ℕ). Counted cells prior row width w v (count + 1 + 1) (far + w + w) x) worth both))
+        pub two-low : LowEither cells prior row (width - far - w) far w gain v → Low cells prior row width w v copies
+        two-low (at-first l) =
+            count-low count far gain (c .this) (omega arith) (subst (λ (n : ℕ). LowAt cells prior row n far gain) first-left l)
+        two-low (at-second l) =
+            count-low (count + 1) (far + w) (gain + v) (count-next w v count far gain (c .this)) (omega arith)
+            (subst (λ (n : ℕ). LowAt cells prior row n (far + w) (gain + v)) second-left l)
+
+        pub two-next : HighBoth cells prior row (width - far - w) far w gain v → CountsPassed (count + 2) (far + (w + w)) (gain + (v + v))
+        two-next h =
+            let first : HighFar far gain = subst (λ (n : ℕ). HighAt cells prior row n far gain) first-left (h .first) in
+            let second : HighFar (far + w) (gain + v) =
+            subst (λ (n : ℕ). HighAt cells prior row n (far + w) (gain + v)) second-left (h .second) in
+            let both = counts-next (count + 1) (far + w) (gain + v) (counts-next count far gain c first) second in
+            let counts : count + 1 + 1 ≡ count + 2 = omega arith in
+            record {
+              this = record {
+                far-is = omega (arith, both .this .far-is, same-times w counts);
+                gain-is = omega (arith, both .this .gain-is, same-times v counts);
+              };
+              high = λ k h. both .high k (omega arith);
+            }

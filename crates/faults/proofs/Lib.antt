@@ -1,5 +1,6 @@
 -- The laws behind the proofs of this crate.
 pub mod Telling
+pub mod Cells
 pub mod Passes
 pub mod Pairs
 pub mod Carrying

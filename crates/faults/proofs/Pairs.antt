@@ -1,24 +1,21 @@
 -- Two counts in one pass: the code's test of both, budget by budget, and the budgets where only the first fits.
 -- Assumes nothing.
-use mathlib.Core.Path.{_≡_, refl, sym, ap, ap₂, _∙_}
+use mathlib.Core.Path.{_≡_, refl, sym, ap, ap₂, subst, _∙_}
 use Prim.Native.Nat.{ℕ, _+_, _-_, _%_, _≤_, _<_}
 use native.Mathlib.Decide.{decLt}
 use native.Mathlib.Omega.{arith}
-use mathlib.Core.Bool.{Bool, true, false, _||_}
+use mathlib.Core.Bool.{Bool, true, false, _||_, or-true}
 use mathlib.Core.List.{List}
 use lib.Dec.{ltb}
 use borrow.Author.Tests.{le-ltb, lt-ltb}
 use Rattle.meaning.specs.Lists.{at}
 use Rattle.faults.specs.Columns.{Tells, LowAt, HighAt, BothTold, LowEither, at-first, at-second, HighBoth}
-use Rattle.faults.proofs.Telling.{never, tells-low, tells-high}
-use Rattle.faults.proofs.Passes.{below-sum, pass-start, pass-next, pass-end}
+use Rattle.faults.proofs.Telling.{tells-low, tells-high}
+use Rattle.faults.proofs.Passes.{below-sum, Told, pass-start, pass-next}
 
 -- ---- the code's test without a sum
 
-or-true : (b : Bool) → (b || true) ≡ true
-or-true true = refl
-or-true false = refl
-
+-- a claim that is no less than the greater value wraps by neither
 pub below-either : (claim near gain other more rest less : ℕ) → gain ≤ more → claim < 4_294_967_296 → rest < 4_294_967_296 → less < 4_294_967_296
     → (rest + gain) % 4_294_967_296 ≡ claim → (less + more) % 4_294_967_296 ≡ claim
     → ((ltb claim more || ltb rest near) || ltb less other) ≡ (ltb claim (near + gain) || ltb claim (other + more))
@@ -35,6 +32,7 @@ below-either claim near gain other more rest less order claim-fits rest-fits les
 
 -- ---- budget by budget
 
+-- the two tests of a budget, each put to its own
 four-ors : (a b x y : Bool) → ((a || b) || (x || y)) ≡ ((a || x) || (b || y))
 four-ors true b x y = refl
 four-ors false true x y = sym (or-true x)
@@ -67,13 +65,7 @@ module _ (cells : List ℕ) (prior row far w gain v : ℕ) where
       }
 
   pub pair-end : (low : Bool) (c left : ℕ) → c ≡ left → BothTold low cells prior row c far w gain v → BothTold low cells prior row left far w gain v
-  pair-end low c left all t = record {
-    low-near = t .low-near;
-    low-far = t .low-far;
-    together = t .together;
-    near = pass-end cells (prior + w) (row + w) far gain (t .low-near) c left all (t .near);
-    distant = pass-end cells prior row (far + w) (gain + v) (t .low-far) c left all (t .distant);
-  }
+  pair-end low c left all t = subst (λ (k : ℕ). BothTold low cells prior row k far w gain v) all t
 
 -- ---- all budgets
 
@@ -82,6 +74,7 @@ module _ (cells : List ℕ) (prior row left far w gain v : ℕ) where
   pub light-low : LowAt cells prior row w far gain → LowEither cells prior row left far w gain v
   light-low l = at-first (record { from = l .from; inside = omega (arith, l .inside); below = l .below })
 
+  -- a break at a later one
   heavy-low : LowAt cells (prior + w) (row + w) left far gain → LowAt cells prior row (left + w) far gain
   heavy-low l =
       let claim : row + w + (l .from + far) ≡ row + (w + l .from + far) = omega arith in
@@ -110,8 +103,7 @@ module _ (cells : List ℕ) (prior row left far w gain v : ℕ) where
   two-told light r t = by (t .low-near) (t .low-far) (t .together) (t .near) (t .distant)
     where
       by : (a b : Bool) → r ≡ (a || b)
-          → Tells a (LowAt cells (prior + w) (row + w) left far gain) (HighAt cells (prior + w) (row + w) left far gain)
-          → Tells b (LowAt cells prior row left (far + w) (gain + v)) (HighAt cells prior row left (far + w) (gain + v))
+          → Told cells (prior + w) (row + w) far gain a left → Told cells prior row (far + w) (gain + v) b left
           → Tells r (LowEither cells prior row left far w gain v) (HighBoth cells prior row left far w gain v)
       by true b e near distant = rw e (tells-low (at-first (heavy-low (near .broken refl))))
       by false true e near distant = rw e (tells-low (at-second (distant .broken refl)))

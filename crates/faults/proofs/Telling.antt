@@ -1,12 +1,13 @@
 -- Answers with what stands behind them.
 -- Assumes nothing.
-use mathlib.Core.Path.{_≡_, sym}
+use mathlib.Core.Path.{_≡_, refl, sym}
 use Prim.Native.Nat.{ℕ}
 use native.Mathlib.Omega.{arith}
 use mathlib.Core.Bool.{Bool, true, false}
 use Rattle.faults.specs.Columns.{Tells}
 
-pub never : true ≡ false → ⊥
+-- the two answers differ
+never : true ≡ false → ⊥
 never e = let z : _≡_ {A = ℕ} 0 1 = cc in omega arith
 
 pub tells-low : {Broken Kept : Type 0} → Broken → Tells true Broken Kept
@@ -18,3 +19,8 @@ tells-high x = record { broken = λ e. absurd (never (sym e)); kept = λ e. x }
 -- the same answer to another question
 pub tells-as : (r : Bool) {Broken Kept Broken′ Kept′ : Type 0} → (Broken → Broken′) → (Kept → Kept′) → Tells r Broken Kept → Tells r Broken′ Kept′
 tells-as r f g t = record { broken = λ e. f (t .broken e); kept = λ e. g (t .kept e) }
+
+-- the answer is the one that either leaves
+pub tells-is : (r answer : Bool) {Broken Kept : Type 0} → (Broken → answer ≡ true) → (Kept → answer ≡ false) → Tells r Broken Kept → r ≡ answer
+tells-is true answer f g t = sym (f (t .broken refl))
+tells-is false answer f g t = sym (g (t .kept refl))

@@ -19,7 +19,7 @@ pub record TwoRows (cells : List ℕ) (prior row end : ℕ) : Type 0 where
   pub row-ends : row + end ≤ length cells
 
 -- so many copies fit a row of this width
-pub record Fits (width w copies : ℕ) : Type 0 where
+pub record CopiesFit (width w copies : ℕ) : Type 0 where
   pub weighs : 1 ≤ w
   pub light : w ≤ width
   pub narrow : width ≤ 65_536
@@ -47,6 +47,7 @@ pub record LowAt (cells : List ℕ) (prior row left far gain : ℕ) : Type 0 whe
   pub inside : from < left
   pub below : at cells (row + (from + far)) < at cells (prior + from) + gain
 
+-- at none
 pub record HighAt (cells : List ℕ) (prior row left far gain : ℕ) : Type 0 where
   pub all : (from : ℕ) → from < left → at cells (prior + from) + gain ≤ at cells (row + (from + far))
 
@@ -72,12 +73,14 @@ pub record HighBoth (cells : List ℕ) (prior row left far w gain v : ℕ) : Typ
 
 -- ---- one column up to budget `end`, whatever the count
 
+-- from cell e up, some count is below
 pub record LowWithin (cells : List ℕ) (prior row end w v b : ℕ) : Type 0 where
   pub e : ℕ
   pub count : ℕ
   pub inside : b + (e + count) * w < end
   pub below : at cells (row + (b + (e + count) * w)) < at cells (prior + (b + e * w)) + count * v
 
+-- none is
 pub record HighWithin (cells : List ℕ) (prior row end w v b : ℕ) : Type 0 where
   pub all : (e count : ℕ) → b + (e + count) * w < end → at cells (prior + (b + e * w)) + count * v ≤ at cells (row + (b + (e + count) * w))
 

@@ -12,7 +12,7 @@ ghost use Rattle.meaning.specs.Lists.{at};
 ghost use Rattle.meaning.specs.Bytes.{numbersIn};
 ghost use Rattle.meaning.specs.Certificates.{someOf};
 ghost use Rattle.faults.specs.LowRows.{RowThere, Budgets, lowIn, belowOne};
-ghost use Rattle.faults.specs.Columns.{Tells, TwoRows, Fits, Low, High, LowAt, HighAt, BothTold, LowEither, HighBoth};
+ghost use Rattle.faults.specs.Columns.{Tells, TwoRows, CopiesFit, Low, High, LowAt, HighAt, BothTold, LowEither, HighBoth};
 ghost use Rattle.faults.specs.Columns.{LowWithin, HighWithin, HighAcross, HighColumn, HighBlock};
 
 // Up to how many counts a pass for each is quicker.
@@ -229,7 +229,7 @@ fn breaks_column(
     b: usize,
 ) -> bool
     requires { ⌜ TwoRows (numbersIn (now cells)) prior row width ⌝ }
-    requires { ⌜ Fits width w copies ⌝ }
+    requires { ⌜ CopiesFit width w copies ⌝ }
     requires { ⌜ b < width ⌝ }
     ensures { λ r. ⌜ Tells r (Low (numbersIn (now (cells .entry))) prior row width w v copies) (HighColumn (numbersIn (now (cells .entry))) prior row width w v copies b) ⌝ }
 {
@@ -255,7 +255,7 @@ fn breaks_block(
     base: usize,
 ) -> bool
     requires { ⌜ TwoRows (numbersIn (now cells)) prior row width ⌝ }
-    requires { ⌜ Fits width w copies ⌝ }
+    requires { ⌜ CopiesFit width w copies ⌝ }
     requires { ⌜ base < width ⌝ }
     ensures { λ r. ⌜ Tells r (Low (numbersIn (now (cells .entry))) prior row width w v copies) (HighBlock (numbersIn (now (cells .entry))) prior row width w v copies base) ⌝ }
 {
@@ -281,7 +281,7 @@ fn breaks_many(
     copies: usize,
 ) -> bool
     requires { ⌜ TwoRows (numbersIn (now cells)) prior row width ⌝ }
-    requires { ⌜ Fits width w copies ⌝ }
+    requires { ⌜ CopiesFit width w copies ⌝ }
     ensures { λ r. ⌜ Tells r (Low (numbersIn (now (cells .entry))) prior row width w v copies) (High (numbersIn (now (cells .entry))) prior row width w v copies) ⌝ }
 {
     let span = copies * w + w;
@@ -306,7 +306,7 @@ fn breaks_few(
     copies: usize,
 ) -> bool
     requires { ⌜ TwoRows (numbersIn (now cells)) prior row width ⌝ }
-    requires { ⌜ Fits width w copies ⌝ }
+    requires { ⌜ CopiesFit width w copies ⌝ }
     requires { ⌜ v ≤ 65_535 ⌝ }
     ensures { λ r. ⌜ Tells r (Low (numbersIn (now (cells .entry))) prior row width w v copies) (High (numbersIn (now (cells .entry))) prior row width w v copies) ⌝ }
 {

@@ -5,34 +5,42 @@ use native.Mathlib.Omega.{arith}
 use borrow.Author.Needs.{needs}
 use Rattle.meaning.specs.Bytes.{numbersIn}
 use Rattle.meaning.proofs.Numbers.{numbers-long}
-use Rattle.faults.specs.Columns.{Tells, LowAt, HighAt}
-use Rattle.faults.proofs.Passes.{pass-start, pass-next, pass-end}
+use Rattle.faults.proofs.Passes.{Told, pass-start, pass-next, pass-end}
 use Rattle.faults.proofs.breaks_at.Statement.{statement}
 use Rattle.faults.proofs.breaks_at.Tie as tie
 
 abbrev Inv-loop : tie.InvT-loop
-Inv-loop cells prior row left far gain up low₀ c₀ low c = (c ≤ left) × Tells low (LowAt (numbersIn cells) prior row c far gain) (HighAt (numbersIn cells) prior row c far gain)
+Inv-loop cells prior row left far gain up low₀ c₀ low c = (c ≤ left) × Told (numbersIn cells) prior row far gain low c
 
 abbrev μ-loop : tie.MeasureT-loop
 μ-loop cells prior row left far gain up low₀ c₀ low c = left - c
 
+-- ---- the contexts, each by the one that it follows
+
+abbrev start : tie.At-loop Inv-loop μ-loop → tie.Start Inv-loop μ-loop
+start c = c .before .before
+
+-- once the claim is read
+abbrev head : tie.After-number-in Inv-loop μ-loop → tie.At-loop Inv-loop μ-loop
+head c = c .before .before
+
 add-up : tie.Need-add-up Inv-loop μ-loop
-add-up c = let s = c .before in omega (arith, numbers-long (s .args .cells .now))
+add-up c = omega (arith, numbers-long (c .before .args .cells .now))
 
 loop-holds : tie.Need-loop-holds Inv-loop μ-loop
 loop-holds c = (omega arith, pass-start _ _ _ _ _)
 
 add-number-in : tie.Need-add-number-in Inv-loop μ-loop
-add-number-in c = let s = c .before .before .before in omega (arith, s .pre .0, s .pre .1, numbers-long (s .args .cells .now))
+add-number-in c = omega (arith, numbers-long (start (c .before) .args .cells .now))
 
 number-in-requires : tie.Need-number-in-requires Inv-loop μ-loop
-number-in-requires c κs = let s = c .before .before .before in omega (arith, s .pre .0, s .pre .1, numbers-long (s .args .cells .now))
+number-in-requires c κs = omega (arith, start (c .before) .pre)
 
 add-number-in-2 : tie.Need-add-number-in-2 Inv-loop μ-loop
-add-number-in-2 c = let s = c .before .before .before .before in omega (arith, s .pre .0, s .pre .1, numbers-long (s .args .cells .now))
+add-number-in-2 c = omega (arith, numbers-long (start (head c) .args .cells .now))
 
 number-in-requires-2 : tie.Need-number-in-requires-2 Inv-loop μ-loop
-number-in-requires-2 c κs = let s = c .before .before .before .before in omega (arith, s .pre .0, s .pre .1, numbers-long (s .args .cells .now))
+number-in-requires-2 c κs = omega (arith, start (head c) .pre)
 
 is-below-requires : tie.Need-is-below-requires Inv-loop μ-loop
 is-below-requires c κs = search needs
@@ -44,7 +52,12 @@ loop-less : tie.Need-loop-less Inv-loop μ-loop
 loop-less c = omega arith
 
 loop-again : tie.Need-loop-again Inv-loop μ-loop
-loop-again c = (omega arith, pass-next _ _ _ _ _ _ _ _ _ _ (c .is-below .ensures) (c .before .before .number-in .ensures) (c .before .number-in2 .ensures) (c .before .before .before .before .loop .inv .1))
+loop-again c =
+    let other = c .before in
+    let claim = other .before in (
+      omega arith,
+      pass-next _ _ _ _ _ _ _ _ _ _ (c .is-below .ensures) (claim .number-in .ensures) (other .number-in2 .ensures) (head claim .loop .inv .1),
+    )
 
 returns : tie.Need-returns Inv-loop μ-loop
 returns c = pass-end _ _ _ _ _ _ _ _ (omega arith) (c .before .loop .inv .1)

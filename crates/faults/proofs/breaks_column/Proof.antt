@@ -1,10 +1,14 @@
 -- `faults::breaks_column` meets its contract: within the block, and into the next one where there is one.
 -- Assumes nothing.
 use borrow.Author.Needs.{needs}
-use Rattle.faults.proofs.Telling.{tells-low, tells-high, tells-as}
-use Rattle.faults.proofs.Blocks.{column-low, column-last, column-high}
+use Rattle.faults.proofs.Telling.{tells-low, tells-high}
+use Rattle.faults.proofs.Blocks.{column-low, column-last, column-told}
 use Rattle.faults.proofs.breaks_column.Statement.{statement}
 use Rattle.faults.proofs.breaks_column.Tie as tie
+
+-- the function's entry, from where the column is cut to the block
+abbrev start : tie.After-nearer → tie.Start
+start c = c .before .before
 
 mul-next : tie.Need-mul-next
 mul-next c = search needs
@@ -22,10 +26,16 @@ breaks-within-requires : tie.Need-breaks-within-requires
 breaks-within-requires c κs = search needs
 
 returns : tie.Need-returns
-returns c = tells-low (column-low _ _ _ _ _ _ _ (c .before .before .before .before .pre .1 .0 .weighs) _ _ (c .before .before .nearer .ensures) (c .before .breaks-within .ensures .broken (c .if1 .taken)))
+returns c =
+    let told = c .before in
+    tells-low (column-low _ _ _ _ _ _ _ _ _ (told .before .nearer .ensures) (told .breaks-within .ensures .broken (c .if1 .taken)))
 
 returns-2 : tie.Need-returns-2
-returns-2 c = tells-high (column-last _ _ _ _ _ _ _ (c .before .before .before .before .before .pre .1 .0 .weighs) _ _ (c .before .before .before .nearer .ensures) (c .before .before .breaks-within .ensures .kept (c .before .if1 .left)) (c .if2 .taken))
+returns-2 c =
+    let told = c .before .before in
+    let cut = told .before in
+    tells-high (column-last _ _ _ _ _ _ _ _ _ (cut .nearer .ensures) (start cut .pre .1 .0 .weighs)
+    (told .breaks-within .ensures .kept (c .before .if1 .left)) (c .if2 .taken))
 
 add-breaks-across : tie.Need-add-breaks-across
 add-breaks-across c = search needs
@@ -34,7 +44,12 @@ breaks-across-requires : tie.Need-breaks-across-requires
 breaks-across-requires c κs = search needs
 
 returns-3 : tie.Need-returns-3
-returns-3 c = tells-as _ (λ l. l) (column-high _ _ _ _ _ _ _ (c .before .before .before .before .before .before .pre .1 .0 .weighs) _ _ (c .before .before .before .before .nearer .ensures) (c .before .before .before .breaks-within .ensures .kept (c .before .before .if1 .left))) (c .breaks-across .ensures)
+returns-3 c =
+    let high = c .before .before in
+    let told = high .before in
+    let cut = told .before in
+    column-told _ _ _ _ _ _ _ _ _ (cut .nearer .ensures) (start cut .pre .1 .0 .weighs)
+    (told .breaks-within .ensures .kept (high .if1 .left)) _ (c .breaks-across .ensures)
 
 pub breaks-column-spec : {M : Type 1} → statement M
 breaks-column-spec =

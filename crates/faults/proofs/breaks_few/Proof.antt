@@ -1,123 +1,126 @@
 -- `faults::breaks_few` meets its contract, count by count.
 -- Assumes nothing.
 use mathlib.Core.Path.{_≡_}
-use mathlib.Core.List.{List}
-use Prim.Native.Nat.{ℕ, _≤_, _<_, _+_, _-_}
+use Prim.Native.Nat.{_≤_, _<_, _+_, _-_}
 use native.Mathlib.Omega.{arith}
 use Rattle.meaning.specs.Bytes.{numbersIn}
-use Rattle.faults.specs.Columns.{Fits}
-use Rattle.faults.proofs.Telling.{tells-low, tells-high, tells-as}
-use Rattle.faults.proofs.Counts.{Counted, copies-fit, counted-start, gain-fits, two-fit, two-low, two-next, counted-all}
-use Rattle.faults.proofs.Counts.{last-fits, last-low, last-high}
+use Rattle.faults.specs.Columns.{CopiesFit}
+use Rattle.faults.proofs.Telling.{tells-low, tells-high}
+use Rattle.faults.proofs.Cells.{few-copies}
+use Rattle.faults.proofs.Counts.{CountsPassed, counts-start, gain-fits, two-fit, two-low, two-next, counts-all}
+use Rattle.faults.proofs.Counts.{last-fits, last-told}
 use Rattle.faults.proofs.breaks_few.Statement.{statement}
 use Rattle.faults.proofs.breaks_few.Tie as tie
 
 abbrev Inv-loop : tie.InvT-loop
 Inv-loop cells prior row width w v copies far₀ gain₀ count₀ far gain count =
-    (count ≤ copies + 1) × Counted (numbersIn cells) prior row width w v count far gain
+    (count ≤ copies + 1) × CountsPassed (numbersIn cells) prior row width w v count far gain
 
 abbrev μ-loop : tie.MeasureT-loop
 μ-loop cells prior row width w v copies far₀ gain₀ count₀ far gain count = copies + 1 - count
 
--- ---- the contexts, each by the one that it follows
-
+-- the function's entry, from the loop's head
 abbrev start : tie.At-loop Inv-loop μ-loop → tie.Start Inv-loop μ-loop
 start c = c .before .before
 
-abbrev head : tie.After-breaks-two Inv-loop μ-loop → tie.At-loop Inv-loop μ-loop
-head c = c .before .before
+-- ---- what is known
 
--- ---- what is known at the loop's head
-
+-- at the loop's head
 module _ (c : tie.At-loop Inv-loop μ-loop) where
-  fitting : Fits (start c .args .width) (start c .args .w) (start c .args .copies)
+  fitting : CopiesFit (start c .args .width) (start c .args .w) (start c .args .copies)
   fitting = start c .pre .1 .0
 
-  abbrev passed : Counted (numbersIn (start c .args .cells .now)) (start c .args .prior) (start c .args .row) (start c .args .width) (start c .args .w)
-      (start c .args .v) (c .loop .count) (c .loop .far) (c .loop .gain)
+  abbrev passed : let a = start c .args in
+      CountsPassed (numbersIn (a .cells .now)) (a .prior) (a .row) (a .width) (a .w) (a .v) (c .loop .count) (c .loop .far) (c .loop .gain)
   passed = c .loop .inv .1
 
-  -- two counts are left
-  module _ (more : c .loop .count < start c .args .copies) where
-    room : c .loop .far + start c .args .w < start c .args .width
-    room = two-fit _ _ _ _ _ _ _ fitting _ _ _ passed more
+-- in a turn: two counts are left
+module _ (t : tie.In-loop Inv-loop μ-loop) where
+  abbrev head : tie.At-loop Inv-loop μ-loop
+  head = t .before
 
-    worth : c .loop .gain ≤ 4_294_836_225
-    worth = gain-fits _ _ _ _ _ _ _ fitting _ _ _ passed (start c .pre .1 .1) (omega arith)
+  room : head .loop .far + start head .args .w < start head .args .width
+  room = two-fit _ _ _ _ _ _ _ (fitting head) _ _ _ (passed head) (t .loop-test .taken)
+
+  worth : head .loop .gain ≤ 4_294_836_225
+  worth = gain-fits _ _ _ _ _ _ _ (fitting head) _ _ _ (passed head) (start head .pre .1 .1) (omega (arith, t .loop-test .taken))
+
+-- after the last turn: one is left
+module _ (c : tie.Else2 Inv-loop μ-loop) where
+  abbrev end : tie.At-loop Inv-loop μ-loop
+  end = c .before .before
+
+  last : end .loop .count ≡ start end .args .copies
+  last = omega (arith, c .before .loop-test .left, c .if2 .left)
+
+  last-room : end .loop .far < start end .args .width
+  last-room = last-fits _ _ _ _ _ _ _ (fitting end) _ _ _ (passed end) last
 
 loop-holds : tie.Need-loop-holds Inv-loop μ-loop
-loop-holds c = (omega arith, counted-start _ _ _ _ _ _ _ (c .before .pre .1 .0))
+loop-holds c = (omega arith, counts-start _ _ _ _ _ _)
 
 sub-breaks-two : tie.Need-sub-breaks-two Inv-loop μ-loop
-sub-breaks-two c = omega (arith, room (c .before) (c .loop-test .taken))
+sub-breaks-two c = omega (arith, room c)
 
 sub-breaks-two-2 : tie.Need-sub-breaks-two-2 Inv-loop μ-loop
-sub-breaks-two-2 c = omega (arith, room (c .before) (c .loop-test .taken))
+sub-breaks-two-2 c = omega (arith, room c)
 
 breaks-two-requires : tie.Need-breaks-two-requires Inv-loop μ-loop
 breaks-two-requires c κs =
-    let s = start (c .before) in
-    let fits = room (c .before) (c .loop-test .taken) in (
-      omega (arith, s .pre .0 .prior-ends),
-      (omega (arith, s .pre .0 .row-ends), omega (arith, worth (c .before) (c .loop-test .taken), s .pre .1 .1)),
+    let s = start (head c) in (
+      omega (arith, room c, s .pre .0 .prior-ends),
+      (omega (arith, room c, s .pre .0 .row-ends), omega (arith, worth c, s .pre .1 .1)),
     )
 
 returns : tie.Need-returns Inv-loop μ-loop
 returns c =
-    let h = head (c .before) in
-    tells-low (two-low _ _ _ _ _ _ _ (fitting h) _ _ _ (passed h) (c .before .before .loop-test .taken)
+    let t = c .before .before in
+    tells-low (two-low _ _ _ _ _ _ _ (fitting (head t)) _ _ _ (passed (head t)) (t .loop-test .taken)
     (c .before .breaks-two .ensures .broken (c .if1 .taken)))
 
 add-far : tie.Need-add-far Inv-loop μ-loop
-add-far c = omega (arith, fitting (head (c .before)) .light, fitting (head (c .before)) .narrow)
+add-far c = let f = fitting (head (c .before .before)) in omega (arith, f .light, f .narrow)
 
 add-far-2 : tie.Need-add-far-2 Inv-loop μ-loop
 add-far-2 c =
-    let h = head (c .before) in
-    omega (arith, room h (c .before .before .loop-test .taken), fitting h .light, fitting h .narrow)
+    let t = c .before .before in
+    omega (arith, room t, fitting (head t) .light, fitting (head t) .narrow)
 
 add-gain : tie.Need-add-gain Inv-loop μ-loop
-add-gain c = omega (arith, start (head (c .before)) .pre .1 .1)
+add-gain c = omega (arith, start (head (c .before .before)) .pre .1 .1)
 
 add-gain-2 : tie.Need-add-gain-2 Inv-loop μ-loop
-add-gain-2 c =
-    let h = head (c .before) in
-    omega (arith, worth h (c .before .before .loop-test .taken), start h .pre .1 .1)
+add-gain-2 c = let t = c .before .before in omega (arith, worth t, start (head t) .pre .1 .1)
 
 add-count : tie.Need-add-count Inv-loop μ-loop
-add-count c = omega (arith, copies-fit _ _ _ (fitting (head (c .before))))
+add-count c = let f = fitting (head (c .before .before)) in omega (arith, few-copies _ _ _ (f .weighs) (f .fit) (f .narrow))
 
 loop-less : tie.Need-loop-less Inv-loop μ-loop
 loop-less c = omega (arith, c .before .before .loop-test .taken)
 
 loop-again : tie.Need-loop-again Inv-loop μ-loop
 loop-again c =
-    let h = head (c .before) in
-    let more = c .before .before .loop-test .taken in (
+    let t = c .before .before in (
       omega arith,
-      two-next _ _ _ _ _ _ _ (fitting h) _ _ _ (passed h) more (c .before .breaks-two .ensures .kept (c .if1 .left)),
+      two-next _ _ _ _ _ _ _ (fitting (head t)) _ _ _ (passed (head t)) (t .loop-test .taken)
+          (c .before .breaks-two .ensures .kept (c .if1 .left)),
     )
 
 returns-2 : tie.Need-returns-2 Inv-loop μ-loop
-returns-2 c = let h = c .before .before in tells-high (counted-all _ _ _ _ _ _ _ (fitting h) _ _ _ (c .if2 .taken) (passed h))
+returns-2 c = tells-high (counts-all _ _ _ _ _ _ _ _ _ _ (c .if2 .taken) (passed (c .before .before)))
 
 sub-breaks-at : tie.Need-sub-breaks-at Inv-loop μ-loop
-sub-breaks-at c =
-    let h = c .before .before in
-    omega (arith, last-fits _ _ _ _ _ _ _ (fitting h) _ _ _ (passed h) (omega (arith, c .before .loop-test .left, c .if2 .left)))
+sub-breaks-at c = omega (arith, last-room c)
 
 breaks-at-requires : tie.Need-breaks-at-requires Inv-loop μ-loop
 breaks-at-requires c κs =
-    let h = c .before .before in
-    let fits = last-fits _ _ _ _ _ _ _ (fitting h) _ _ _ (passed h) (omega (arith, c .before .loop-test .left, c .if2 .left)) in
-    (omega (arith, start h .pre .0 .prior-ends), omega (arith, start h .pre .0 .row-ends))
+    let s = start (end c) in
+    (omega (arith, last-room c, s .pre .0 .prior-ends), omega (arith, last-room c, s .pre .0 .row-ends))
 
 returns-3 : tie.Need-returns-3 Inv-loop μ-loop
 returns-3 c =
-    let h = c .before .before .before in
-    let last : h .loop .count ≡ start h .args .copies = omega (arith, c .before .before .loop-test .left, c .before .if2 .left) in
-    tells-as _ (last-low _ _ _ _ _ _ _ (fitting h) _ _ _ (passed h) last) (last-high _ _ _ _ _ _ _ (fitting h) _ _ _ (passed h) last)
-    (c .breaks-at .ensures)
+    let h = end (c .before) in
+    last-told _ _ _ _ _ _ _ (fitting h) _ _ _ (passed h) (last (c .before)) _ (c .breaks-at .ensures)
 
 pub breaks-few-spec : {M : Type 1} → statement M
 breaks-few-spec =

@@ -17,12 +17,14 @@ Inv-loop cells prior row left far w gain v up beside more low₀ c₀ low c =
 abbrev μ-loop : tie.MeasureT-loop
 μ-loop cells prior row left far w gain v up beside more low₀ c₀ low c = left - c
 
--- the function's entry, from the loop's head, and a turn's, once the claim is read
+-- ---- the contexts, each by the one that it follows
+
 abbrev start : tie.At-loop Inv-loop μ-loop → tie.Start Inv-loop μ-loop
 start c = c .before .before
 
-abbrev turn : tie.After-number-in Inv-loop μ-loop → tie.In-loop Inv-loop μ-loop
-turn c = c .before
+-- once the claim is read
+abbrev head : tie.After-number-in Inv-loop μ-loop → tie.At-loop Inv-loop μ-loop
+head c = c .before .before
 
 add-up : tie.Need-add-up Inv-loop μ-loop
 add-up c = omega (arith, numbers-long (c .before .args .cells .now))
@@ -46,16 +48,16 @@ number-in-requires : tie.Need-number-in-requires Inv-loop μ-loop
 number-in-requires c κs = omega (arith, start (c .before) .pre)
 
 add-number-in-2 : tie.Need-add-number-in-2 Inv-loop μ-loop
-add-number-in-2 c = omega (arith, numbers-long (start (turn c .before) .args .cells .now))
+add-number-in-2 c = omega (arith, numbers-long (start (head c) .args .cells .now))
 
 number-in-requires-2 : tie.Need-number-in-requires-2 Inv-loop μ-loop
-number-in-requires-2 c κs = omega (arith, start (turn c .before) .pre)
+number-in-requires-2 c κs = omega (arith, start (head c) .pre)
 
 add-number-in-3 : tie.Need-add-number-in-3 Inv-loop μ-loop
-add-number-in-3 c = omega (arith, numbers-long (start (turn (c .before) .before) .args .cells .now))
+add-number-in-3 c = omega (arith, numbers-long (start (head (c .before)) .args .cells .now))
 
 number-in-requires-3 : tie.Need-number-in-requires-3 Inv-loop μ-loop
-number-in-requires-3 c κs = omega (arith, start (turn (c .before) .before) .pre)
+number-in-requires-3 c κs = omega (arith, start (head (c .before)) .pre)
 
 is-below-either-requires : tie.Need-is-below-either-requires Inv-loop μ-loop
 is-below-either-requires c κs = omega arith
@@ -73,7 +75,7 @@ loop-again c =
     let claim = near .before in (
       omega arith,
       pair-next _ _ _ _ _ _ _ _ _ _ _ _ _ (c .is-below-either .ensures) (claim .number-in .ensures) (near .number-in2 .ensures)
-          (other .number-in3 .ensures) (turn claim .before .loop .inv .1),
+          (other .number-in3 .ensures) (head claim .loop .inv .1),
     )
 
 returns : tie.Need-returns Inv-loop μ-loop

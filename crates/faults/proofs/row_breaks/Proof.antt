@@ -1,11 +1,14 @@
 -- `faults::row_breaks` meets its contract: what is found for the weight and the copies that fit holds for the label's own.
 -- Assumes nothing.
-use mathlib.Core.Path.{refl}
+use mathlib.Core.Path.{_≡_}
 use Prim.Native.Nat.{_-_}
 use native.Mathlib.Omega.{arith}
+use mathlib.Core.Bool.{Bool}
 use borrow.Author.Needs.{needs}
 use Rattle.meaning.specs.Bytes.{numbersIn}
-use Rattle.faults.specs.Columns.{TwoRows, Fits}
+use Rattle.meaning.specs.Certificates.{someOf}
+use Rattle.faults.specs.LowRows.{lowIn}
+use Rattle.faults.specs.Columns.{Tells, TwoRows, CopiesFit, Low, High}
 use Rattle.faults.proofs.Rule.{part-fits, part-told}
 use Rattle.faults.proofs.row_breaks.Statement.{statement}
 use Rattle.faults.proofs.row_breaks.Tie as tie
@@ -16,16 +19,26 @@ module _ (c : tie.After-nearer2) where
   start = c .before .before .before
 
   both-there : TwoRows (numbersIn (start .args .cells .now)) (start .args .row - start .args .width) (start .args .row) (start .args .end)
-  both-there = let there = start .pre .0 in let part = start .pre .1 in record {
-    prior-ends = omega (arith, there .not-first, there .ends, part .inside);
-    row-ends = omega (arith, there .ends, part .inside);
-  }
+  both-there =
+      let there = start .pre .0 in
+      let part = start .pre .1 in
+      record { prior-ends = omega (arith, there .not-first, there .ends, part .inside); row-ends = omega (arith, there .ends, part .inside) }
 
-  cut-fits : Fits (start .args .end) (c .before .nearer .result) (c .nearer2 .result)
+  cut-fits : CopiesFit (start .args .end) (c .before .nearer .result) (c .nearer2 .result)
   cut-fits =
       let part = start .pre .1 in
       part-fits _ (start .args .w) _ (c .before .nearer .ensures) (start .args .most) _ (part .weighs) (part .some) (c .nearer2 .ensures)
       (omega (arith, part .inside, part .narrow))
+
+  -- what is found for them is the rule's answer
+  told : let a = start .args in (r : Bool)
+      → let w = c .before .nearer .result in let copies = c .nearer2 .result in let claims = numbersIn (a .cells .now) in
+      Tells r (Low claims (a .row - a .width) (a .row) (a .end) w (a .v) copies) (High claims (a .row - a .width) (a .row) (a .end) w (a .v) copies)
+      → r ≡ someOf (lowIn claims (a .row) (a .width) (a .w) (a .v) (a .most)) (a .end)
+  told =
+      let part = start .pre .1 in
+      part-told _ (start .args .w) _ (c .before .nearer .ensures) _ _ (part .weighs) (part .some) (c .nearer2 .ensures)
+      _ _ (start .args .width) _ (start .pre .0 .not-first)
 
 sub-prior : tie.Need-sub-prior
 sub-prior c = search needs
@@ -46,21 +59,13 @@ breaks-few-requires : tie.Need-breaks-few-requires
 breaks-few-requires c κs = (both-there (c .before), (cut-fits (c .before), start (c .before) .pre .1 .small))
 
 returns : tie.Need-returns
-returns c =
-    let cut = c .before .before in
-    let s = start cut in
-    part-told _ (s .args .w) _ (cut .before .nearer .ensures) _ _ (s .pre .1 .weighs) (s .pre .1 .some) (cut .nearer2 .ensures)
-    _ _ _ _ (s .args .width) (s .pre .0 .not-first) refl _ (c .breaks-few .ensures)
+returns c = told (c .before .before) _ (c .breaks-few .ensures)
 
 breaks-many-requires : tie.Need-breaks-many-requires
 breaks-many-requires c κs = (both-there (c .before), cut-fits (c .before))
 
 returns-2 : tie.Need-returns-2
-returns-2 c =
-    let cut = c .before .before in
-    let s = start cut in
-    part-told _ (s .args .w) _ (cut .before .nearer .ensures) _ _ (s .pre .1 .weighs) (s .pre .1 .some) (cut .nearer2 .ensures)
-    _ _ _ _ (s .args .width) (s .pre .0 .not-first) refl _ (c .breaks-many .ensures)
+returns-2 c = told (c .before .before) _ (c .breaks-many .ensures)
 
 pub row-breaks-spec : {M : Type 1} → statement M
 row-breaks-spec =
