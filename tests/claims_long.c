@@ -29,19 +29,19 @@ static size_t length;
 enum { KEPT, COUNTED, BY_ONE, BORDERED, WRAPPED, FITTING, ONE_LABEL, LATER, BOTH, KEPT_2, LOW_2, KEPT_3, LOW_3, THINGS };
 
 static struct thing things[THINGS] = {
-    [KEPT] = {"kind 2, tables that keep the rule", 2500, 0},
-    [COUNTED] = {"kind 2, a count at fault by itself", 80000, 0},
-    [BY_ONE] = {"kind 2, with so few counts that they may be asked one by one", 15000, 0},
-    [BORDERED] = {"kind 2, across the border of a block", 25000, 0},
+    [KEPT] = {"kind 2, tables that keep the rule", 1600, 0},
+    [COUNTED] = {"kind 2, a count at fault by itself", 50000, 0},
+    [BY_ONE] = {"kind 2, with so few counts that they may be asked one by one", 10000, 0},
+    [BORDERED] = {"kind 2, across the border of a block", 18000, 0},
     [WRAPPED] = {"kind 2, a sum that is beyond 32 bits", 180, 0},
     [FITTING] = {"kind 2, sums that just aren't", 60, 0},
     [ONE_LABEL] = {"kind 3, a label at fault by itself", 700, 0},
     [LATER] = {"kind 3, a later label at fault in an earlier cell", 150, 0},
     [BOTH] = {"kind 3, labels at fault in one cell", 350, 0},
-    [KEPT_2] = {"kind 2, drawn, and no cell is low", 200, 0},
-    [LOW_2] = {"kind 2, drawn and refused with 14", 90, 0},
-    [KEPT_3] = {"kind 3, drawn, and no cell is low", 130, 0},
-    [LOW_3] = {"kind 3, drawn and refused with 14", 130, 0},
+    [KEPT_2] = {"kind 2, drawn, and no cell is low", 180, 0},
+    [LOW_2] = {"kind 2, drawn and refused with 14", 80, 0},
+    [KEPT_3] = {"kind 3, drawn, and no cell is low", 120, 0},
+    [LOW_3] = {"kind 3, drawn and refused with 14", 100, 0},
 };
 
 /* ---- a certificate of the job, the picks and the cells */
@@ -125,7 +125,7 @@ static void every_start(uint32_t every) {
 
 /* Two blocks, one budget fewer or more, the second or third cut short, or all in one. */
 static void blocks_of(uint32_t weight, uint32_t copies, uint32_t value) {
-    uint32_t block = (copies + 1) * weight, every = 1 + block / 16, k;
+    uint32_t block = (copies + 1) * weight, every = 1 + block / 8, k;
     const uint32_t widths[] = {2 * block, 2 * block - 1, 2 * block + 1, block + block / 2, 2 * block + weight + 1, block};
     for (k = 0; k < sizeof widths / sizeof widths[0]; k++) {
         one_label(weight, value, copies, widths[k] - 1);
@@ -251,7 +251,7 @@ static void long_rows(void) {
 
 /* ---- drawn tables of both kinds */
 
-enum { EACH = 400, START = 4000000 }; /* tables of each kind, and the number of the first one */
+enum { EACH = 300, START = 4000000 }; /* tables of each kind, and the number of the first one */
 
 /* Few labels, most of them light; as many copies as fit, about, or fewer. */
 static void draw_long(struct draw *draw, uint32_t kind) {
