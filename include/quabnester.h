@@ -20,12 +20,12 @@
  * the kind doesn't use has count 0. Labels are numbered from 0; n is the count of weights, C is the budget.
  * quabnester_job_bytes says how many bytes that are.
  *
- * CERTIFICATE BYTES, for kind 1. Two sections in the same form: the picks, then the cells.
+ * CERTIFICATE BYTES, for kinds 1 to 3. Two sections in the same form: the picks, then the cells.
  *     a count                              n
- *     n numbers                            the picks: 1 for a label that is kept, 0 for one that isn't
- *     a count                              as many as quabnester_cells_needed says
+ *     n numbers                            the picks: how often each label is kept; in kind 1 that is 0 or 1
+ *     a count                              as many as quabnester_cells_needed says: (n+1)(C+1), or C+1 in kind 3
  *     so many numbers                      the cells: cell i(C+1)+c claims a value that the first i labels can't beat
- *                                          with budget c
+ *                                          with budget c; in kind 3 cell c claims one that no labels can beat with it
  * quabnester_certificate_bytes says how many bytes that are.
  */
 #ifndef QUABNESTER_H
@@ -43,10 +43,10 @@ extern "C" {
  * the third where no promise has changed. */
 
 #define QUABNESTER_VERSION_MAJOR 1
-#define QUABNESTER_VERSION_MINOR 0
+#define QUABNESTER_VERSION_MINOR 1
 #define QUABNESTER_VERSION_PATCH 0
 
-/* As one number, which grows with each version, and as text: "1.0.0" and the like. */
+/* As one number, which grows with each version, and as text: "1.1.0" and the like. */
 #define QUABNESTER_VERSION_NUMBER                                                                                          \
     (QUABNESTER_VERSION_MAJOR * 1000000 + QUABNESTER_VERSION_MINOR * 1000 + QUABNESTER_VERSION_PATCH)
 #define QUABNESTER_VERSION_STRING                                                                                          \
@@ -65,8 +65,8 @@ extern "C" {
 #define QUABNESTER_KIND_WAYS 6   /* ways to sum to C */
 #define QUABNESTER_KIND_SHARES 7 /* C shared by claims */
 
-#define QUABNESTER_LAST_KIND QUABNESTER_KIND_SHARES           /* the kinds to solve are 1 to this one */
-#define QUABNESTER_LAST_CERTIFICATE_KIND QUABNESTER_KIND_ONCE /* those with certificates are 1 to this one */
+#define QUABNESTER_LAST_KIND QUABNESTER_KIND_SHARES          /* the kinds to solve are 1 to this one */
+#define QUABNESTER_LAST_CERTIFICATE_KIND QUABNESTER_KIND_ANY /* those with certificates are 1 to this one */
 
 /* ---- BOUNDS. n and C may be 0, save that the claims of kind 7 have to sum to more. A weight, a size or a claim may be as
  * great as 32 bits allow, and a claim may be 0. Two bounds that are equal today are still two rules. */
@@ -83,6 +83,7 @@ extern "C" {
 #define QUABNESTER_MOST_VALUE 65535
 #define QUABNESTER_LEAST_COPIES 0
 #define QUABNESTER_MOST_COPIES 65535
+#define QUABNESTER_MOST_PICK_ANY 65535 /* a pick in a certificate of kind 3 */
 
 /* ---- MARKS in a table that was left. */
 
@@ -114,18 +115,21 @@ extern "C" {
 /* kind 7: the claims sum to 0 */
 #define QUABNESTER_REFUSED_NO_CLAIMS 9
 
-/* Those of the certificate, in this order, with K(i,c) for cell i(C+1)+c: */
+/* Those of the certificate, in this order, with K(i,c) for cell i(C+1)+c of kinds 1 and 2: */
 
 /* the certificate's bytes are cut short or left over, or a count isn't the needed one */
 #define QUABNESTER_REFUSED_SECTIONS 11
-/* a pick is neither 0 nor 1. Place: the first such label */
+/* a pick is neither 0 nor 1 (kind 1), above the label's copies (kind 2) or above QUABNESTER_MOST_PICK_ANY (kind 3). Place:
+ * the first such label */
 #define QUABNESTER_REFUSED_PICK 12
 /* the picks weigh more than C */
 #define QUABNESTER_REFUSED_WEIGHT 13
-/* for some i from 1 to n and c from 0 to C, K(i,c) is below K(i-1,c); or label i-1 weighs w, at most c, and K(i,c) is below
- * K(i-1,c-w) plus its value. Place: the number of the first such cell */
+/* Kinds 1, 2: for some i from 1 to n, c from 0 to C and k from 0 to 1, or in kind 2 to the copies of label i-1, that label
+ * weighs w, kw is at most c, and K(i,c) is below K(i-1,c-kw) plus k times its value. Kind 3: for some c from 0 to C and
+ * some label, which weighs w, at most c, cell c is below cell c-w plus its value. Place: the number of the first such
+ * cell */
 #define QUABNESTER_REFUSED_CELL 14
-/* K(n,C) isn't the picks' value */
+/* the last cell, which is K(n,C) or in kind 3 cell C, isn't the picks' value */
 #define QUABNESTER_REFUSED_VALUE 15
 
 /* ---- ROOM: how much a job needs, by its kind, n and C, so that no host writes a formula. Each gives 0 where there is no
@@ -233,7 +237,7 @@ static inline uint64_t quabnester_job_bytes(uint64_t weights, uint64_t values, u
 uint32_t quabnester_solve(const uint8_t *job, size_t job_len, uint32_t *cells, size_t cells_len, uint64_t *words,
                           size_t words_len, uint32_t *picks, size_t picks_len, uint64_t *first, uint64_t *second);
 
-/* Writes a certificate of a kind 1 job from picks and cells. Returns 0 or a refusal number, 1 to 6.
+/* Writes a certificate of a job of kind 1, 2 or 3 from picks and cells. Returns 0 or a refusal number, 1 to 6.
  *
  * Refuses with 6 where picks_len is below quabnester_picks_needed, cells_len is below quabnester_cells_needed or out_len is
  * below quabnester_certificate_bytes. Otherwise so many of the first picks and of the first cells are copied to out in the
@@ -243,12 +247,12 @@ uint32_t quabnester_solve(const uint8_t *job, size_t job_len, uint32_t *cells, s
 uint32_t quabnester_write(const uint8_t *job, size_t job_len, const uint32_t *picks, size_t picks_len,
                           const uint32_t *cells, size_t cells_len, uint8_t *out, size_t out_len, uint64_t *written);
 
-/* Judges a certificate of a kind 1 job, whoever made it. Returns 0 for accepted or a refusal number: 1 to 5 for the job,
- * then, in this order, 11 to 15 for the certificate.
+/* Judges a certificate of a job of kind 1, 2 or 3, whoever made it. Returns 0 for accepted or a refusal number: 1 to 5 for
+ * the job, then, in this order, 11 to 15 for the certificate.
  *
- * Cells may be any 32-bit numbers, sums are not cut, and row 0 needn't be 0. Accepted means that the picks are allowed
- * and fit, and that no selection within the budget is worth more. For a valid job and any picks there is a certificate
- * with them that is accepted exactly where they are allowed, fit and are best. Nothing is written. */
+ * Cells may be any 32-bit numbers, sums are not cut, and neither row 0 nor cell 0 need be 0. Accepted means that the picks
+ * are allowed and fit, and that no selection within the budget is worth more. For a valid job and any picks there is a
+ * certificate with them that is accepted exactly where they are allowed, fit and are best. Nothing is written. */
 uint32_t quabnester_check(const uint8_t *job, size_t job_len, const uint8_t *certificate, size_t certificate_len);
 
 /* What quabnester_check leaves out: the value where it accepts, the place where it refuses with 12 or 14, and else 0. */

@@ -1,20 +1,20 @@
-/* What document 01 says in numbers, each in one place: a request that moves a bound changes it here alone. Written from the document and
- * not from include/quabnester.h; header.c holds that to these. Buffers and loops of the tests take their sizes from here. */
+/* What document 01 and request K1 say in numbers, each in one place: a request that moves a bound changes it here alone. Written from these
+ * and not from include/quabnester.h; header.c holds that to these. Buffers and loops of the tests take their sizes from here. */
 #ifndef BOUNDS_H
 #define BOUNDS_H
 
 #include <stdint.h>
 
 enum {
-    KIND_ONCE = 1,                /* each label at most once */
-    KIND_COPIES,                  /* label i at most copies[i] times */
-    KIND_ANY,                     /* any number of each */
-    KIND_SUMS,                    /* can some labels weigh exactly C? */
-    KIND_FEWEST,                  /* fewest blocks that sum to exactly C */
-    KIND_WAYS,                    /* ways to make exactly C */
-    KIND_SHARES,                  /* share C by claims */
-    LAST_KIND = KIND_SHARES,      /* the solver's kinds are 1 to this one */
-    LAST_CHECKED_KIND = KIND_ONCE /* those of the checker and the writer */
+    KIND_ONCE = 1,               /* each label at most once */
+    KIND_COPIES,                 /* label i at most copies[i] times */
+    KIND_ANY,                    /* any number of each */
+    KIND_SUMS,                   /* can some labels weigh exactly C? */
+    KIND_FEWEST,                 /* fewest blocks that sum to exactly C */
+    KIND_WAYS,                   /* ways to make exactly C */
+    KIND_SHARES,                 /* share C by claims */
+    LAST_KIND = KIND_SHARES,     /* the solver's kinds are 1 to this one */
+    LAST_CHECKED_KIND = KIND_ANY /* those of the checker and the writer (K1) */
 };
 
 /* ---- bounds on the numbers; weights, sizes and claims have no greatest one */
@@ -30,7 +30,8 @@ enum {
     LEAST_VALUE_ANY = 1, /* in kind 3 */
     MOST_VALUE = 65535,
     LEAST_COPIES = 0,
-    MOST_COPIES = 65535
+    MOST_COPIES = 65535,
+    MOST_PICK_ANY = 65535 /* in a certificate of kind 3 (K1): another rule, though the number is that of the copies */
 };
 #define MOST_SHARED UINT32_MAX /* C in kind 7 */
 

@@ -151,9 +151,18 @@ void write_out(struct written *written, const struct bytes *job, const uint32_t 
 
 /* ---- the checker */
 
+/* The second program says the same by asking for each count, where they aren't too many. */
+static void agree_by_counts(const struct bytes *job, const uint8_t *certificate, size_t length, struct plain_verdict plain) {
+    struct plain_verdict counted;
+    if (!plain_check_counts(job->at, job->length, certificate, length, &counted)) return;
+    same("the second program's verdict, count by count", plain.number, counted.number);
+    same("its value or place", plain.detail, counted.detail);
+}
+
 uint32_t judged(const struct bytes *job, const uint8_t *certificate, size_t length) {
     struct plain_verdict plain = plain_check(job->at, job->length, certificate, length);
     uint32_t number = quabnester_check(job->at, job->length, certificate, length);
+    agree_by_counts(job, certificate, length, plain);
     same("the verdict", plain.number, number);
     same("the value or place", plain.detail, quabnester_check_detail(job->at, job->length, certificate, length));
     return number;

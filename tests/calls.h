@@ -54,7 +54,7 @@ void write_out(struct written *written, const struct bytes *job, const uint32_t 
 
 /* ---- the checker */
 
-/* Both entries say what the second program says. Answers the number. */
+/* Both entries say what the second program says, and where it can it says so in two ways. Answers the number. */
 uint32_t judged(const struct bytes *job, const uint8_t *certificate, size_t length);
 
 /* So they do, and that is this verdict; and they do so at odd addresses too, and leave the bytes as they are. */

@@ -1,12 +1,12 @@
-/* Damaged bytes: of a dozen jobs and their certificates every byte is changed, to several other values, every shorter length is tried, and
- * a byte more. */
+/* Damaged bytes: of a dozen jobs of each kind that has certificates, and of these, every byte is changed, to several other values, every
+ * shorter length is tried, and a byte more. */
 #include "calls.h"
 #include "draw.h"
 #include "parts.h"
 #include "tell.h"
 #include <stdio.h>
 
-enum { PAIRS = 14, WAYS = 5, MOST_N = 4, MOST_C = 12 }; /* small, so that every byte can be changed */
+enum { EACH = 14, START = 2000000, WAYS = 5, MOST_N = 4, MOST_C = 12 }; /* small, so that every byte can be changed */
 
 static struct job job;
 static struct bytes bytes, certificate;
@@ -67,11 +67,12 @@ static void damage(struct bytes *whole, void (*attempt)(void)) {
     whole->length = length;
 }
 
-/* A job from its number, with a certificate of what the solver left. */
-static void draw_pair(uint64_t number) {
-    struct draw draw = {2000000 + number};
+/* A job of a kind from its number, with a certificate of what the solver left. */
+static void draw_pair(uint32_t kind, uint64_t number) {
+    struct draw draw = {START + EACH * (kind - 1) + number};
     struct solved solved;
-    draw_job(&draw, KIND_ONCE, MOST_N, MOST_C, &job);
+    about("damage", draw.state);
+    draw_job(&draw, kind, MOST_N, MOST_C, &job);
     put_job(&bytes, &job);
     room = room_of(&job);
     solve(&solved, &bytes, &room, number);
@@ -79,21 +80,35 @@ static void draw_pair(uint64_t number) {
     give_back_solved(&solved);
 }
 
-void part_damage(void) {
-    uint64_t number;
+static void start_counts(void) {
     int k;
-    for (number = 0; number < PAIRS; number++) {
-        about("damage", number);
-        draw_pair(number);
-        same("the verdict before", 0, judged(&bytes, certificate.at, certificate.length));
-        damage(&certificate, try_check);
-        damage(&bytes, try_all);
-    }
-    printf("damage: %lu pairs of bytes; verdicts 0 to 5:", tried);
+    tried = 0;
+    for (k = 0; k <= LAST_REFUSAL; k++) verdicts[k] = 0;
+    for (k = 0; k <= LAST_SOLVER_REFUSAL; k++) solved_with[k] = 0;
+}
+
+static void print_counts(uint32_t kind) {
+    int k;
+    printf("damage, kind %d: %lu pairs of bytes; verdicts 0 to 5:", (int)kind, tried);
     for (k = 0; k <= 5; k++) printf(" %lu", verdicts[k]);
     printf("; 11 to 15:");
     for (k = 11; k <= 15; k++) printf(" %lu", verdicts[k]);
     printf("; solved and refused with 1 to 6:");
     for (k = 0; k <= 6; k++) printf(" %lu", solved_with[k]);
     printf("\n");
+}
+
+void part_damage(void) {
+    uint32_t kind;
+    uint64_t number;
+    for (kind = 1; kind <= LAST_CHECKED_KIND; kind++) {
+        start_counts();
+        for (number = 0; number < EACH; number++) {
+            draw_pair(kind, number);
+            same("the verdict before", 0, judged(&bytes, certificate.at, certificate.length));
+            damage(&certificate, try_check);
+            damage(&bytes, try_all);
+        }
+        print_counts(kind);
+    }
 }

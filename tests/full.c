@@ -1,5 +1,5 @@
-/* Full bounds: the most labels and the greatest budget, from solving to checking; every row compared; and then one cell or one pick
- * changed. Its two slices take FULL_TABLE(MOST_LABELS, MOST_BUDGET) times 4 bytes each. */
+/* Full bounds: the most labels and the greatest budget, from solving to checking, for each kind that has certificates; then one cell or one
+ * pick changed. Kinds 1 and 2 share two slices, which take FULL_TABLE(MOST_LABELS, MOST_BUDGET) times 4 bytes each. */
 #include "calls.h"
 #include "draw.h"
 #include "parts.h"
@@ -17,26 +17,44 @@ static struct solved solved;
 static struct written written;
 static unsigned long tried;
 
-static void draw_full(void) {
+/* ---- the jobs */
+
+enum { MANY_IN = 16 };
+
+/* Most labels have one copy, since counts take time. One in so many is light and has hundreds, the last one too. */
+static void draw_copies(struct draw *draw, uint32_t label, uint32_t *weight, uint32_t *copies) {
+    *copies = 1;
+    if ((label + 1) % MANY_IN != 0) return;
+    *weight = drawn(draw, 1, 9);
+    *copies = drawn(draw, 100, 999);
+}
+
+static void draw_full(uint32_t kind) {
     struct draw draw = {1024}; /* any number */
-    uint32_t i;
-    job.kind = KIND_ONCE;
-    job.budget = C;
-    job.weights.count = job.values.count = N;
+    uint32_t weights[N], values[N], copies[N], i;
     for (i = 0; i < N; i++) {
-        job.weights.at[i] = drawn(&draw, 1, 2000);
-        job.values.at[i] = drawn(&draw, 0, MOST_VALUE);
+        weights[i] = drawn(&draw, 1, 2000);
+        values[i] = drawn(&draw, plain_kind(kind)->least_value, MOST_VALUE);
+        if (kind == KIND_COPIES) draw_copies(&draw, i, &weights[i], &copies[i]);
     }
+    if (kind == KIND_ANY) weights[0] = values[0] = 1; /* then each cell is worth more than the one before it */
+    set_job(&job, kind, C, N, weights, values, copies);
     put_job(&bytes, &job);
     read_back(&bytes, &read);
     room = plain_certificate_room(&read);
+}
+
+/* ---- solving */
+
+static uint32_t *pick_of(uint32_t label) {
+    return (uint32_t *)solved.picks.slice + label;
 }
 
 /* What the list weighs or is worth. */
 static uint64_t picked(const struct list *each) {
     uint64_t sum = 0;
     uint32_t i;
-    for (i = 0; i < N; i++) sum += ((uint32_t *)solved.picks.slice)[i] * (uint64_t)each->at[i];
+    for (i = 0; i < N; i++) sum += *pick_of(i) * (uint64_t)each->at[i];
     return sum;
 }
 
@@ -45,41 +63,46 @@ static const uint32_t *row_of(uint32_t i) {
     return (uint32_t *)solved.cells.slice + (size_t)i * ROW(C);
 }
 
-/* Each row is what the second program makes of the one before it. */
-static void rows_are_best(void) {
-    static uint32_t rows[2][ROW(C)];
+/* Row 0, and each row, or one in `every`, is what the second program makes of the one before it. */
+static void rows_are_best(uint32_t every) {
+    static uint32_t row[ROW(C)];
     uint32_t i;
-    holds("row 0", memcmp(row_of(0), rows[0], sizeof rows[0]) == 0);
-    for (i = 0; i < N; i++) {
+    for (i = 0; i <= C; i++) row[i] = 0;
+    holds("row 0", memcmp(row_of(0), row, sizeof row) == 0);
+    for (i = every - 1; i < N; i += every) {
         about("full, row", i + 1);
-        plain_next_row(&read, i, rows[i % 2], rows[1 - i % 2]);
-        holds("the row", memcmp(row_of(i + 1), rows[1 - i % 2], sizeof rows[0]) == 0);
+        plain_next_row(&read, i, row_of(i), row);
+        holds("the row", memcmp(row_of(i + 1), row, sizeof row) == 0);
     }
 }
 
-/* From the last label to the first, one is kept only where the best is more with it than without. */
+/* From the last label to the first, each count is the smallest with which the best is made. */
 static void picks_are_least(void) {
     uint32_t i, left = C;
     for (i = N; i-- > 0;) {
-        uint32_t pick = row_of(i + 1)[left] != row_of(i)[left];
+        uint32_t pick = 0, weight = job.weights.at[i], value = job.values.at[i];
+        while (pick * weight <= left && row_of(i)[left - pick * weight] + pick * value != row_of(i + 1)[left]) pick++;
         about("full, label", i);
-        same("the pick", pick, ((uint32_t *)solved.picks.slice)[i]);
-        left -= pick * job.weights.at[i];
+        if (same("the pick", pick, *pick_of(i))) left -= pick * weight;
     }
 }
 
-static void solve_full(void) {
-    about("full, solve", 0);
-    solve(&solved, &bytes, &room, 9);
+static void is_solved(void) {
     same("the refusal", 0, solved.refused);
     same("the value", picked(&job.values), solved.first);
     same("the weight", picked(&job.weights), solved.second);
     holds("that the picks fit", solved.second <= C);
-    same("the last cell", solved.first, row_of(N)[C]);
+    same("the last cell", solved.first, ((uint32_t *)solved.cells.slice)[room.cells - 1]);
     kept_the_rest(&solved, &room);
-    rows_are_best();
-    picks_are_least();
 }
+
+/* On slices that hold what the kind before it left. */
+static void solve_again(void) {
+    solved.refused = quabnester_solve(bytes.at, bytes.length, solved.cells.slice, room.cells, NULL, 0, solved.picks.slice, room.picks,
+                                      &solved.first, &solved.second);
+}
+
+/* ---- writing */
 
 /* The writer on so many bytes of a slice. */
 static uint32_t written_on(uint64_t length) {
@@ -89,8 +112,7 @@ static uint32_t written_on(uint64_t length) {
 
 static void write_full(void) {
     uint64_t length = plain_certificate_bytes(&read);
-    about("full, write", 0);
-    lend(&written.out, length, 1, 9);
+    about("full, write", job.kind);
     same("the refusal of one byte too few", 6, written_on(length - 1));
     same("the bytes written then", 0, written.bytes);
     same("the refusal", 0, written_on(length));
@@ -98,61 +120,128 @@ static void write_full(void) {
     holds("what stands beside it", kept_outside(&written.out));
 }
 
+/* ---- checking */
+
 static void verdict_now(uint32_t number, uint64_t detail) {
     about("full, check", tried++);
-    same("the verdict", number, quabnester_check(bytes.at, bytes.length, written.out.slice, written.out.bytes));
-    same("the value or place", detail, quabnester_check_detail(bytes.at, bytes.length, written.out.slice, written.out.bytes));
+    same("the verdict", number, quabnester_check(bytes.at, bytes.length, written.out.slice, written.bytes));
+    same("the value or place", detail, quabnester_check_detail(bytes.at, bytes.length, written.out.slice, written.bytes));
 }
 
-/* Cell (i,c) lowered by one: 14 at that place, where the rule is then broken. */
-static void lower(uint32_t i, uint32_t c) {
+/* A cell lowered by one: 14 at that place, where the rule is then broken. */
+static void lower(uint64_t place) {
     uint8_t *cells = (uint8_t *)written.out.slice + CERTIFICATE(N, 0);
-    uint64_t place = (uint64_t)i * ROW(C) + c;
     uint32_t claim = plain_number(cells + 4 * place);
     put_at(cells + 4 * place, claim - 1);
     about("full, lowered", place);
-    holds("that the rule is broken", plain_low(&read, cells, i, c));
+    holds("that the rule is broken", plain_low(&read, cells, place));
     verdict_now(14, place);
     put_at(cells + 4 * place, claim);
 }
 
-/* Another pick for a label: the list is too heavy, or worth another value than the table claims. */
-static void turn(uint32_t label) {
-    uint32_t *pick = (uint32_t *)solved.picks.slice + label;
-    uint8_t *at = (uint8_t *)written.out.slice + 4 + 4 * label;
-    *pick = 1 - *pick;
-    put_at(at, *pick);
-    verdict_now(picked(&job.weights) > C ? 13 : picked(&job.values) != solved.first ? 15 : 0, 0);
-    *pick = 1 - *pick;
-    put_at(at, *pick);
+/* The number of K(i,c). */
+static uint64_t place_of(uint32_t i, uint32_t c) {
+    return (uint64_t)i * ROW(C) + c;
 }
 
-/* The first label that is kept and worth something, or that is left and too heavy to be added; n where there is none. */
+/* Another pick for a label: it isn't allowed, or the list is too heavy, or worth another value than the table claims. */
+static void turn(uint32_t label, uint32_t pick) {
+    uint32_t kept = *pick_of(label);
+    uint8_t *at = (uint8_t *)written.out.slice + 4 + 4 * label;
+    *pick_of(label) = pick;
+    put_at(at, pick);
+    if (pick > most_picked(&job, label)) verdict_now(12, label);
+    else verdict_now(picked(&job.weights) > C ? 13 : picked(&job.values) != solved.first ? 15 : 0, 0);
+    *pick_of(label) = kept;
+    put_at(at, kept);
+}
+
+/* The first label that is kept and worth something, or that could be kept more often and is too heavy for it; n where there is none. */
 static uint32_t first_kept(void) {
     uint32_t i = 0;
-    while (i < N && (((uint32_t *)solved.picks.slice)[i] == 0 || job.values.at[i] == 0)) i++;
+    while (i < N && (*pick_of(i) == 0 || job.values.at[i] == 0)) i++;
     return i;
 }
 
 static uint32_t first_left(void) {
     uint32_t i = 0;
-    while (i < N && (((uint32_t *)solved.picks.slice)[i] == 1 || job.weights.at[i] + solved.second <= C)) i++;
+    while (i < N && (*pick_of(i) == most_picked(&job, i) || job.weights.at[i] + solved.second <= C)) i++;
     return i;
 }
 
-void part_full(void) {
-    draw_full();
-    if (!same("the cells needed", FULL_TABLE((uint64_t)N, C), room.cells)) return;
-    solve_full();
+/* Picks that are refused before the cells are asked: one too many for a label, and a list that is too heavy. */
+static void other_picks(void) {
+    if (holds("that a label is kept", first_kept() < N)) turn(first_kept(), most_picked(&job, first_kept()) + 1);
+    if (holds("that a label is left", first_left() < N)) turn(first_left(), *pick_of(first_left()) + 1);
+}
+
+/* ---- the kinds */
+
+static void print_kind(void) {
+    printf("full, kind %d: %llu cells, value %llu, %lu certificates\n", (int)job.kind, (unsigned long long)room.cells,
+           (unsigned long long)solved.first, tried);
+    tried = 0;
+}
+
+static void once(void) {
+    draw_full(KIND_ONCE);
+    about("full, solve", KIND_ONCE);
+    same("the cells needed", FULL_TABLE((uint64_t)N, C), room.cells);
+    solve(&solved, &bytes, &room, 9);
+    is_solved();
+    rows_are_best(1);
+    picks_are_least();
+    lend(&written.out, plain_certificate_bytes(&read), 1, 9);
     write_full();
     verdict_now(0, solved.first);
-    lower(1, job.weights.at[0]);
-    lower(N, C / 2);
-    lower(N, C);
-    if (holds("that a label is kept", first_kept() < N)) turn(first_kept());
-    if (holds("that a label is left", first_left() < N)) turn(first_left());
+    lower(place_of(1, job.weights.at[0]));
+    lower(place_of(N, C / 2));
+    lower(place_of(N, C));
+    if (holds("that a label is kept", first_kept() < N)) turn(first_kept(), 0);
+    other_picks();
+    print_kind();
+}
+
+/* Its table is as large as that of kind 1, and each look at it takes longer: so fewer of them. */
+static void copies(void) {
+    draw_full(KIND_COPIES);
+    about("full, solve", KIND_COPIES);
+    solve_again();
+    is_solved();
+    rows_are_best(61);
+    picks_are_least();
+    write_full();
     verdict_now(0, solved.first);
-    printf("full: %llu cells, value %llu, %lu certificates\n", (unsigned long long)room.cells, (unsigned long long)solved.first, tried);
+    lower(place_of(MANY_IN, C / 2));
+    lower(place_of(N, C));
+    other_picks();
+    print_kind();
+}
+
+/* One row, for all labels; the second program looks at all of it. */
+static void any_number(void) {
+    draw_full(KIND_ANY);
+    about("full, solve", KIND_ANY);
+    solve(&solved, &bytes, &room, 9);
+    is_solved();
+    lend(&written.out, plain_certificate_bytes(&read), 1, 9);
+    write_full();
+    same("the verdict", 0, judged(&bytes, written.out.slice, written.bytes));
+    lower(1);
+    lower(C);
+    other_picks();
+    print_kind();
+}
+
+static void give_all_back(void) {
     give_back(&written.out);
     give_back_solved(&solved);
+}
+
+void part_full(void) {
+    once();
+    copies();
+    give_all_back();
+    any_number();
+    give_all_back();
 }

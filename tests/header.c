@@ -39,6 +39,7 @@ static const struct constant constants[] = {
     {"the greatest value", MOST_VALUE, QUABNESTER_MOST_VALUE},
     {"the fewest copies", LEAST_COPIES, QUABNESTER_LEAST_COPIES},
     {"the most copies", MOST_COPIES, QUABNESTER_MOST_COPIES},
+    {"the greatest pick of kind 3", MOST_PICK_ANY, QUABNESTER_MOST_PICK_ANY},
     {"no way", NO_WAY, QUABNESTER_NO_WAY},
     {"too many ways", FULL, QUABNESTER_TOO_MANY_WAYS},
 };
@@ -204,32 +205,33 @@ static void certificates_of(uint32_t kind) {
         written_on(CASE_A_CERTIFICATE, QUABNESTER_REFUSED_KIND);
         return;
     }
-    same("the certificate's bytes", CASE_A_CERTIFICATE, length);
+    same("the certificate's bytes", CERTIFICATE(CASE_A_LABELS, claims_of(&job)), length);
     written_on(length, QUABNESTER_NOT_REFUSED);
     written_on(length - 1, QUABNESTER_REFUSED_ROOM);
 }
 
 /* Case A's certificate with a pick and the last cell set to these, and so many bytes left out. */
-static void judged_with(uint32_t pick, uint32_t last_cell, size_t less, uint32_t number) {
+static void judged_with(uint32_t kind, uint32_t pick, uint32_t last_cell, size_t less, uint32_t number) {
     uint64_t first, second;
     about("header", tried++);
-    case_a(&job, QUABNESTER_KIND_ONCE);
+    case_a(&job, kind);
     put_job(&bytes, &job);
     quabnester_solve(bytes.at, bytes.length, cells, CASE_A_CELLS, NULL, 0, picks, CASE_A_LABELS, &first, &second);
     picks[CASE_A_LABELS - 1] = pick;
-    cells[CASE_A_CELLS - 1] = last_cell;
+    cells[quabnester_cells_needed(kind, CASE_A_LABELS, CASE_A_BUDGET) - 1] = last_cell;
     put_certificate(&certificate, &job, picks, cells);
     certificate.length -= less;
     if (same("the verdict", number, judged(&bytes, certificate.at, certificate.length))) met[number]++;
 }
 
-static void verdicts(void) {
-    judged_with(0, CASE_A_VALUE, 0, QUABNESTER_NOT_REFUSED);
-    judged_with(0, CASE_A_VALUE, 1, QUABNESTER_REFUSED_SECTIONS);
-    judged_with(2, CASE_A_VALUE, 0, QUABNESTER_REFUSED_PICK);
-    judged_with(1, CASE_A_VALUE, 0, QUABNESTER_REFUSED_WEIGHT);
-    judged_with(0, CASE_A_VALUE - 1, 0, QUABNESTER_REFUSED_CELL);
-    judged_with(0, CASE_A_VALUE + 1, 0, QUABNESTER_REFUSED_VALUE);
+/* A pick may be `most`, and then they are too heavy. */
+static void verdicts(uint32_t kind, uint32_t most) {
+    judged_with(kind, 0, CASE_A_VALUE, 0, QUABNESTER_NOT_REFUSED);
+    judged_with(kind, 0, CASE_A_VALUE, 1, QUABNESTER_REFUSED_SECTIONS);
+    judged_with(kind, most + 1, CASE_A_VALUE, 0, QUABNESTER_REFUSED_PICK);
+    judged_with(kind, most, CASE_A_VALUE, 0, QUABNESTER_REFUSED_WEIGHT);
+    judged_with(kind, 0, CASE_A_VALUE - 1, 0, QUABNESTER_REFUSED_CELL);
+    judged_with(kind, 0, CASE_A_VALUE + 1, 0, QUABNESTER_REFUSED_VALUE);
 }
 
 /* ---- the other refusals, and the marks */
@@ -299,7 +301,9 @@ void part_header(void) {
     }
     numbers_of_labels();
     numbers_of_sizes();
-    verdicts();
+    verdicts(QUABNESTER_KIND_ONCE, 1);
+    verdicts(QUABNESTER_KIND_COPIES, 1);
+    verdicts(QUABNESTER_KIND_ANY, QUABNESTER_MOST_PICK_ANY);
     marks();
     others();
     each_was_met();

@@ -39,6 +39,19 @@ void put_certificate(struct bytes *bytes, const struct job *job, const uint32_t 
     put_section(bytes, cells, claims_of(job));
 }
 
+/* A count and its numbers; answers the bytes. */
+static size_t lay_section(uint8_t *at, const uint32_t *numbers, uint32_t count) {
+    size_t i;
+    put_at(at, count);
+    for (i = 0; i < count; i++) put_at(at + 4 + 4 * i, numbers[i]);
+    return 4 + 4 * (size_t)count;
+}
+
+size_t lay_certificate(uint8_t *at, const struct job *job, const uint32_t *picks, const uint32_t *cells) {
+    size_t first = lay_section(at, picks, job->weights.count);
+    return first + lay_section(at + first, cells, claims_of(job));
+}
+
 void set_list(struct list *list, uint32_t count, const uint32_t *numbers) {
     list->count = count;
     if (count > 0) memcpy(list->at, numbers, count * sizeof list->at[0]);
@@ -72,4 +85,12 @@ struct plain_room room_of(const struct job *job) {
 uint32_t claims_of(const struct job *job) {
     struct plain_job known = outline(job);
     return (uint32_t)plain_certificate_room(&known).cells;
+}
+
+uint32_t most_picked(const struct job *job, uint32_t i) {
+    switch (job->kind) {
+    case KIND_COPIES: return job->copies.at[i];
+    case KIND_ANY: return MOST_PICK_ANY;
+    default: return 1;
+    }
 }

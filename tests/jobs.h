@@ -36,8 +36,10 @@ void put_section(struct bytes *bytes, const uint32_t *numbers, uint32_t count);
 
 void put_job(struct bytes *bytes, const struct job *job);
 
-/* A certificate of so many of the picks and cells as the job's has. */
+/* A certificate of so many of the picks and cells as the job's has; and one that is too long for these, into memory that has room for it.
+ * Answers its bytes. */
 void put_certificate(struct bytes *bytes, const struct job *job, const uint32_t *picks, const uint32_t *cells);
+size_t lay_certificate(uint8_t *at, const struct job *job, const uint32_t *picks, const uint32_t *cells);
 
 /* A list is given as its count and its numbers. Of a job's lists of n those are taken that its kind uses; others may be null. */
 void set_list(struct list *list, uint32_t count, const uint32_t *numbers);
@@ -54,8 +56,9 @@ enum {
 };
 void case_a(struct job *job, uint32_t kind);
 
-/* What the job needs, and how many cells its certificate has. */
+/* What the job needs, how many cells its certificate has, and how often that may pick label i. */
 struct plain_room room_of(const struct job *job);
 uint32_t claims_of(const struct job *job);
+uint32_t most_picked(const struct job *job, uint32_t i);
 
 #endif

@@ -6,8 +6,8 @@
 #include <stdio.h>
 #include <string.h>
 
-static void (*const parts[])(void) = {part_header, part_solve, part_ties, part_slips,  part_write,  part_check, part_empty,
-                                      part_drawn,  part_large, part_ring, part_claims, part_damage, part_full};
+static void (*const parts[])(void) = {part_header, part_solve, part_ties, part_slips,  part_write,       part_check,  part_empty,
+                                      part_drawn,  part_large, part_ring, part_claims, part_claims_long, part_damage, part_full};
 
 int main(int count, char **words) {
     size_t k;

@@ -15,6 +15,7 @@ void part_drawn(void);                       /* drawn.c: small jobs of every kin
 void part_large(void);                       /* large.c: large jobs of every kind */
 void part_ring(void);                        /* ring.c: solve, try every selection, write, check, check another list */
 void part_claims(void);                      /* claims.c: drawn tables of claims */
+void part_claims_long(void);                 /* claims_long.c: many copies, and long rows */
 void part_damage(void);                      /* damage.c: every byte changed, every length */
 void part_full(void);                        /* full.c: the most labels and the greatest budget */
 

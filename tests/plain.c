@@ -1,6 +1,6 @@
-/* Document 01's second program: job bytes, refusals and the room that is needed. All files plain*.c were written from document 01 and
- * include/quabnester.h, without sight of the planner's sources: that is what makes them a second opinion, and whoever changes them should
- * keep it so. They allocate nothing and keep nothing between calls. */
+/* Document 01's second program: job bytes, refusals and the room that is needed. All files plain*.c were written from document 01, request
+ * K1 and include/quabnester.h, without sight of the planner's sources: that is what makes them a second opinion, and whoever changes them
+ * should keep it so. They allocate nothing and keep nothing between calls. */
 #include "plain.h"
 
 /* ---- job bytes */
@@ -83,7 +83,7 @@ struct plain_room plain_room(const struct plain_job *job) {
 
 struct plain_room plain_certificate_room(const struct plain_job *job) {
     uint64_t n = job->weights.count, C = job->budget;
-    struct plain_room room = {FULL_TABLE(n, C), 0, n};
+    struct plain_room room = {job->kind == KIND_ANY ? ROW(C) : FULL_TABLE(n, C), 0, n};
     return room;
 }
 

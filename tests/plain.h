@@ -52,7 +52,7 @@ struct plain_room {
 /* What a job needs if it isn't refused with 2 to 5: by its kind, n and C. */
 struct plain_room plain_room(const struct plain_job *job);
 
-/* The picks and cells of its certificate, and the bytes. */
+/* The picks and cells of its certificate, and the bytes; of a kind that has none, as if it were kind 1. */
 struct plain_room plain_certificate_room(const struct plain_job *job);
 uint64_t plain_certificate_bytes(const struct plain_job *job);
 
@@ -121,9 +121,13 @@ struct plain_verdict {
     uint64_t detail;
 };
 
-/* K(i,c) is too low by rule 14; i is from 1 to n. */
-int plain_low(const struct plain_job *job, const uint8_t *cells, uint32_t i, uint32_t c);
+/* Whether cell m is too low by rule 14, which is asked count by count and label by label. */
+int plain_low(const struct plain_job *job, const uint8_t *cells, uint64_t m);
 
+/* The verdict. In kinds 1 and 2 a row's greatest sums are moved along, so that many copies take no longer than few. */
 struct plain_verdict plain_check(const uint8_t *job, size_t job_len, const uint8_t *certificate, size_t length);
+
+/* The same with each cell asked by `plain_low`. Answers 0 where there are too many counts, and then the verdict says nothing. */
+int plain_check_counts(const uint8_t *job, size_t job_len, const uint8_t *certificate, size_t length, struct plain_verdict *verdict);
 
 #endif

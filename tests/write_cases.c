@@ -1,4 +1,5 @@
-/* The writer: its refusals in order, each slice one too short, and what it writes, of slices that are long enough or longer. */
+/* The writer, for each kind: its refusals in order, each slice one too short, and what it writes, of slices that are long enough or
+ * longer. */
 #include "calls.h"
 #include "draw.h"
 #include "parts.h"
@@ -6,10 +7,10 @@
 #include <stdio.h>
 #include <string.h>
 
-enum { N = CASE_A_LABELS, CELLS = CASE_A_CELLS, BYTES = CASE_A_CERTIFICATE };
+enum { N = CASE_A_LABELS, MOST_CELLS = CASE_A_CELLS };
 
 /* any numbers: the writer doesn't judge */
-static uint32_t picks[N + 2], cells[CELLS + 2];
+static uint32_t picks[N + 2], cells[MOST_CELLS + 2];
 static struct job job;
 static struct bytes bytes, expected;
 static unsigned long tried, refused;
@@ -18,9 +19,19 @@ static void any_numbers(void) {
     struct draw draw = {3};
     uint32_t i;
     for (i = 0; i < N + 2; i++) picks[i] = drawn(&draw, 0, UINT32_MAX);
-    for (i = 0; i < CELLS + 2; i++) cells[i] = drawn(&draw, 0, UINT32_MAX);
-    case_a(&job, KIND_ONCE);
+    for (i = 0; i < MOST_CELLS + 2; i++) cells[i] = drawn(&draw, 0, UINT32_MAX);
+}
+
+/* Case A as a job of a kind, and how many cells and bytes its certificate has; kind 3 has a row in place of the table. */
+static uint32_t needed_cells;
+static size_t needed_bytes;
+
+static void fresh(uint32_t kind) {
+    case_a(&job, kind);
+    put_job(&bytes, &job);
     put_certificate(&expected, &job, picks, cells);
+    needed_cells = kind == KIND_ANY ? ROW(CASE_A_BUDGET) : MOST_CELLS;
+    needed_bytes = CERTIFICATE(N, needed_cells);
 }
 
 static void is_turned_down(size_t picks_len, size_t cells_len, size_t out_len, uint32_t number) {
@@ -41,9 +52,10 @@ static void is_written(size_t picks_len, size_t cells_len, size_t out_len) {
     write_out(&written, &bytes, picks, picks_len, cells, cells_len, out_len);
     same("the second program", 0, plain_write_refusal(bytes.at, bytes.length, picks_len, cells_len, out_len));
     same("the refusal", 0, written.refused);
-    same("the bytes written", BYTES, written.bytes);
-    holds("the certificate", memcmp(written.out.slice, expected.at, BYTES) == 0);
-    holds("what the slice held past it", kept_from(&written.out, BYTES));
+    same("the bytes written", needed_bytes, written.bytes);
+    same("the second program's bytes", needed_bytes, expected.length);
+    holds("the certificate", memcmp(written.out.slice, expected.at, needed_bytes) == 0);
+    holds("what the slice held past it", kept_from(&written.out, needed_bytes));
     give_back(&written.out);
 }
 
@@ -59,9 +71,9 @@ static unsigned has(unsigned mask, int bit) {
 }
 
 /* Case A with the faults of a mask. */
-static void try_faults(unsigned mask) {
+static void try_faults(uint32_t kind, unsigned mask) {
     int lowest = 0;
-    case_a(&job, KIND_ONCE);
+    fresh(kind);
     if (has(mask, BAD_KIND)) job.kind = has(mask, BAD_LENGTHS) ? 0 : LAST_CHECKED_KIND + 1;
     if (has(mask, BAD_LENGTHS)) set_list(&job.copies, 1, picks);
     if (has(mask, BAD_BUDGET)) job.budget = MOST_BUDGET + 1;
@@ -69,25 +81,32 @@ static void try_faults(unsigned mask) {
     put_job(&bytes, &job);
     if (has(mask, BAD_BYTES)) bytes.length--;
     if (mask == 0) {
-        is_written(N, CELLS, BYTES);
+        is_written(N, needed_cells, needed_bytes);
         return;
     }
     while (!has(mask, lowest)) lowest++;
-    is_turned_down(N - has(mask, FEW_PICKS), CELLS - has(mask, FEW_CELLS), BYTES - has(mask, FEW_BYTES), refusals[lowest]);
+    is_turned_down(N - has(mask, FEW_PICKS), needed_cells - has(mask, FEW_CELLS), needed_bytes - has(mask, FEW_BYTES), refusals[lowest]);
+}
+
+/* Slices that are longer; the cells as long as the table, where a row is read, and longer than that. */
+static void try_longer(uint32_t kind) {
+    uint32_t more;
+    fresh(kind);
+    for (more = 0; more < 8; more++) is_written(N + (more & 1), needed_cells + (more >> 1 & 1), needed_bytes + 5 * (more >> 2));
+    for (more = 0; more <= 2; more++) is_written(N, MOST_CELLS + more, CASE_A_CERTIFICATE);
 }
 
 void part_write(void) {
     unsigned mask;
-    uint32_t kind, more;
+    uint32_t kind;
     any_numbers();
-    for (mask = 0; mask < 1u << BITS; mask++) try_faults(mask);
-    for (kind = LAST_CHECKED_KIND + 1; kind <= LAST_KIND + 1; kind++) {
-        case_a(&job, kind);
-        put_job(&bytes, &job);
-        is_turned_down(N, CELLS, BYTES, 2);
+    for (kind = 1; kind <= LAST_CHECKED_KIND; kind++) {
+        for (mask = 0; mask < 1u << BITS; mask++) try_faults(kind, mask);
+        try_longer(kind);
     }
-    case_a(&job, KIND_ONCE);
-    put_job(&bytes, &job);
-    for (more = 0; more < 8; more++) is_written(N + (more & 1), CELLS + (more >> 1 & 1), BYTES + 5 * (more >> 2));
+    for (kind = LAST_CHECKED_KIND + 1; kind <= LAST_KIND + 1; kind++) {
+        fresh(kind);
+        is_turned_down(N, MOST_CELLS, CASE_A_CERTIFICATE, 2);
+    }
     printf("write: %lu calls, %lu refused\n", tried, refused);
 }
