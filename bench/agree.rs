@@ -1,6 +1,9 @@
-//! Before anything is timed: the Rust gives the library's answers, on small jobs of which many are refused.
-use crate::bounds::{are_sizes, copies_used, full_table, most_of, row, values_used, LAST_KIND, LAST_REFUSAL, LEAST_COPIES};
-use crate::checker;
+//! Before anything is timed: the Rust gives the library's answers and verdicts, on small jobs and certificates of which many are refused.
+use crate::bounds::{
+    are_sizes, copies_used, full_table, most_of, row, values_used, FIRST_CERTIFICATE_REFUSAL, LAST_CHECKED_KIND, LAST_KIND, LAST_REFUSAL,
+    LEAST_COPIES,
+};
+use crate::checker::{check, Plain, Strong, Verdict};
 use crate::jobs::{bytes_of, said, Draw};
 use crate::ours;
 use crate::plain;
@@ -22,7 +25,8 @@ fn small_job(draw: &mut Draw) -> Vec<u8> {
         0 => (1..=draw.number(most, most + 1)).collect(),
         _ => {
             let n = draw.number(0, MOST_N) as usize;
-            draw.list(n, 1, 30)
+            let heaviest = [3, 30][draw.number(0, 1) as usize];
+            draw.list(n, 1, heaviest)
         }
     };
     if are_sizes(kind) {
@@ -31,7 +35,8 @@ fn small_job(draw: &mut Draw) -> Vec<u8> {
     }
     let n = weights.len();
     let mut values = draw.list(values_used(kind, n), 1, 9);
-    let copies = draw.list(copies_used(kind, n), LEAST_COPIES, 4);
+    let most_copies = [4, MOST_C + 9][draw.number(0, 1) as usize];
+    let copies = draw.list(copies_used(kind, n), LEAST_COPIES, most_copies);
     match draw.number(0, 9) {
         0 => values.push(1),
         1 => weights.iter_mut().for_each(|w| *w -= 1),
@@ -56,21 +61,40 @@ fn dirty(draw: &mut Draw) -> [Table; 3] {
     [(); 3].map(|()| Table { cells: vec![7; cells], words: vec![7; words], picks: vec![7; most + 1] })
 }
 
-/// The library's certificate of a job; in one of three a byte is changed, and in one of three a pick.
-fn small_certificate(draw: &mut Draw, table: &Table, bytes: &[u8]) -> Vec<u8> {
+/// The library's certificate of a job, with a fault in about three of four.
+fn small_certificate(draw: &mut Draw, table: &Table, bytes: &[u8], n: usize) -> Vec<u8> {
     let mut certificate = ours::write(bytes, &table.picks, &table.cells).unwrap_or_default();
     if certificate.is_empty() {
         return certificate;
     }
-    match draw.number(0, 2) {
-        0 => {
-            let at = draw.number(0, certificate.len() as u32 - 1) as usize;
-            certificate[at] = draw.number(0, 10) as u8;
-        }
-        1 => certificate[4] = 1,
+    let length = certificate.len();
+    let cells = 8 + 4 * n;
+    match draw.number(0, 7) {
+        0 => change(draw, &mut certificate),
+        1 => change(draw, &mut certificate[4..cells - 4]),
+        2 => certificate[4] = 1,
+        3 => change(draw, &mut certificate[length - 4..length - 3]),
+        4 => certificate.resize(draw.number(0, length as u32 + 4) as usize, 0),
+        5 => raise(&mut certificate[cells..]),
         _ => {}
     }
     certificate
+}
+
+/// Another number in one of these bytes, if there are any.
+fn change(draw: &mut Draw, bytes: &mut [u8]) {
+    if !bytes.is_empty() {
+        let at = draw.number(0, bytes.len() as u32 - 1) as usize;
+        bytes[at] = draw.number(0, 10) as u8;
+    }
+}
+
+/// Claims near the greatest number, where a sum leaves 32 bits.
+fn raise(cells: &mut [u8]) {
+    for cell in cells.chunks_exact_mut(4) {
+        cell[0] |= 0xf0;
+        cell[1..].fill(0xff);
+    }
 }
 
 fn same(what: &str, bytes: &[u8], equal: bool) {
@@ -80,12 +104,24 @@ fn same(what: &str, bytes: &[u8], equal: bool) {
     }
 }
 
+/// The library's verdict, which is that of the Rust too.
+fn same_verdict(bytes: &[u8], certificate: &[u8], job: &mut Job, strong: &mut Strong) -> Verdict {
+    let ours = (ours::check(bytes, certificate), ours::check_detail(bytes, certificate));
+    let by_rust = [check(bytes, certificate, job, &mut Plain), check(bytes, certificate, job, strong)];
+    if by_rust != [ours; 2] {
+        eprintln!("verdicts: ours {ours:?}, plain and strong Rust {by_rust:?}, on the job {bytes:?} with the certificate {certificate:?}");
+        std::process::exit(1);
+    }
+    ours
+}
+
 /// Ends the program at the first difference; prints how often each refusal came up.
 pub fn compare() {
     let mut draw = Draw::new(0xa95e_e0a9_5ee0_a95e);
     let mut scratch = plain::Scratch::default();
-    let mut job = Job::default();
+    let (mut job, mut strong) = (Job::default(), Strong::default());
     let mut seen = [0; LAST_REFUSAL + 1];
+    let mut judged = [[0; LAST_REFUSAL + 1]; LAST_CHECKED_KIND as usize + 1];
     for _ in 0..JOBS {
         let bytes = small_job(&mut draw);
         let [mut one, mut other, mut third] = dirty(&mut draw);
@@ -94,13 +130,22 @@ pub fn compare() {
         if strong::KINDS.contains(&scratch.job.kind) {
             same("strong Rust", &bytes, strong::solve(&bytes, third.lend(), &mut scratch) == answer && one == third);
         }
-        let certificate = small_certificate(&mut draw, &one, &bytes);
-        let verdict = (ours::check(&bytes, &certificate), ours::check_detail(&bytes, &certificate));
-        same("the plain checker", &bytes, checker::check(&bytes, &certificate, &mut job, checker::plain) == verdict);
-        same("the strong checker", &bytes, checker::check(&bytes, &certificate, &mut job, checker::strong) == verdict);
+        let certificate = small_certificate(&mut draw, &one, &bytes, scratch.job.weights.len());
+        let (verdict, _) = same_verdict(&bytes, &certificate, &mut job, &mut strong);
         seen[answer.refusal as usize] += 1;
-        seen[verdict.0 as usize] += usize::from(verdict.0 > 10);
+        if let Some(of_kind) = judged.get_mut(job.kind as usize) {
+            of_kind[verdict as usize] += 1;
+        }
     }
-    let refusals: Vec<String> = (1..=LAST_REFUSAL).filter(|&r| seen[r] > 0).map(|r| format!("{r} ({} times)", said(seen[r]))).collect();
-    println!("{} small jobs and their certificates: no difference. Refusals that came up: {}.", said(JOBS), refusals.join(", "));
+    println!("{} small jobs and their certificates: no difference. Refusals that came up: {}.", said(JOBS), times(&seen, 1));
+    for (kind, of_kind) in judged.iter().enumerate().skip(1) {
+        assert!(of_kind[0] > 0 && !of_kind[FIRST_CERTIFICATE_REFUSAL..].contains(&0), "a verdict on kind {kind} never came up");
+        println!("Certificates of kind {kind}: accepted {} times; refused with {}.", said(of_kind[0]), times(of_kind, FIRST_CERTIFICATE_REFUSAL));
+    }
+}
+
+/// The refusals from the first one on that came up, with how often.
+fn times(seen: &[usize], first: usize) -> String {
+    let refusals: Vec<String> = (first..seen.len()).filter(|&r| seen[r] > 0).map(|r| format!("{r} ({} times)", said(seen[r]))).collect();
+    refusals.join(", ")
 }

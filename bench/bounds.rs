@@ -10,7 +10,7 @@ pub const SHARES: u32 = 7;
 /// The kinds to solve are 1 to this one.
 pub const LAST_KIND: u32 = SHARES;
 /// Those with certificates are 1 to this one.
-pub const LAST_CHECKED_KIND: u32 = ONCE;
+pub const LAST_CHECKED_KIND: u32 = ANY;
 
 /// n in kinds 1 to 4, in 5 and 6, and in 7: three rules, though two of the numbers are equal.
 pub const MOST_LABELS: usize = 1_024;
@@ -24,11 +24,16 @@ pub const LEAST_VALUE_ANY: u32 = 1;
 pub const MOST_VALUE: u32 = 65_535;
 pub const LEAST_COPIES: u32 = 0;
 pub const MOST_COPIES: u32 = 65_535;
+/// The most of a label that a certificate may pick in kinds 1 and 3; in kind 2 it is the label's copies number.
+pub const MOST_PICKED_ONCE: u32 = 1;
+pub const MOST_PICKED_ANY: u32 = 65_535;
 
 /// A cell of kind 5 for which there is no way, and a word of kind 6 for so many ways or more.
 pub const NO_WAY: u32 = u32::MAX;
 pub const FULL: u64 = u64::MAX;
 
+/// The certificate's own refusals are from this one to the last.
+pub const FIRST_CERTIFICATE_REFUSAL: usize = 11;
 pub const LAST_REFUSAL: usize = 15;
 
 /// Whether a kind's weights are labels, and no sizes or claims.

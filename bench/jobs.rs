@@ -81,6 +81,12 @@ pub fn labels(kind: u32, n: usize, budget: u32, heaviest: u32) -> Job {
     Job::new(&name, kind, budget, &weights, &values, &copies)
 }
 
+/// Kind 2: one label, of the greatest value.
+pub fn one_label(budget: u32, weight: u32, copies: u32) -> Job {
+    let [c, w, most] = [budget, weight, copies].map(|x| said(x as usize));
+    Job::new(&format!("label, C {c}, weight {w}, {most} copies"), COPIES, budget, &[weight], &[MOST_VALUE], &[copies])
+}
+
 /// Kinds 5 and 6: three sets of sizes.
 pub fn sizes(kind: u32, n: usize, budget: u32, greatest: u32) -> [Job; 3] {
     let steps = |step: u32| -> Vec<u32> { (1..=n as u32).map(|k| step * k).collect() };

@@ -1,6 +1,7 @@
 //! Times the proved library beside Rust, and prints Markdown tables. bench/README.md says what is measured and how to read it.
 mod agree;
 mod bounds;
+mod certificates;
 mod checker;
 mod jobs;
 mod ours;
@@ -9,10 +10,12 @@ mod request;
 mod strong;
 mod timing;
 
-use bounds::{ANY, COPIES, FEWEST, LAST_KIND, MOST_SIZES, ONCE, SUMS, WAYS};
-use jobs::Job;
+use bounds::{ANY, COPIES, FEWEST, LAST_CHECKED_KIND, LAST_KIND, MOST_BUDGET, MOST_COPIES, MOST_SIZES, ONCE, SUMS, WAYS};
+use certificates::Case;
+use checker::{Plain, Strong};
+use jobs::{said, Job};
 use request::answered;
-use timing::{race, Side, Table, Times};
+use timing::{race, Side, Table, Times, LEAST_ROUNDS};
 
 /// No kind is to take more than this of plain Rust's time.
 const GOAL: f64 = 1.05;
@@ -49,7 +52,7 @@ fn ratios(part: Option<&str>) {
         }
     }
     if asked("check") {
-        ratios.extend(labels_jobs(ONCE).iter().map(|job| line(&job.name.replace("kind 1", "checker"), &checked(job, 3))));
+        ratios.extend(cases().map(|case| line(&format!("checker, {}", case.name), &checked(&case, 3))));
     }
     let above = ratios.iter().filter(|&&ratio| ratio > GOAL).count();
     println!("\n{above} of {} ratios to plain Rust are above {GOAL}.", ratios.len());
@@ -81,29 +84,33 @@ fn solved(job: &Job, count: usize) -> Times {
     race(&job.name, [Table::for_job(job), Table::for_job(job)], sides)
 }
 
-/// The certificate of a job's own answer.
-fn certificate(job: &Job) -> Vec<u8> {
-    let mut table = Table::for_job(job);
-    ours::solve(&job.bytes, table.lend());
-    ours::write(&job.bytes, &table.picks, &table.cells).expect("a certificate")
+/// The certificates that are judged, each made when it is asked for, since some are large.
+fn cases() -> impl Iterator<Item = Case> {
+    let sizes = (1..=LAST_CHECKED_KIND).flat_map(labels_jobs).map(|job| Case::of_answer(&job));
+    let of_kind_3 = labels_jobs(ANY).into_iter().take(1).map(|job| Case::of_answer(&job).with_last_cell_low());
+    let all_copies = || Case::of_answer(&jobs::one_label(MOST_BUDGET, 1, MOST_COPIES));
+    let one_label = [jobs::one_label(MOST_BUDGET, 1_024, 63), jobs::one_label(60_000, 7, 1_000)];
+    let of_one_label = one_label.into_iter().flat_map(|job| [Case::of_answer(&job), Case::with_drawn_claims(&job)]);
+    sizes.chain(of_kind_3).chain(of_one_label).chain([all_copies(), all_copies().with_last_cell_low()])
 }
 
-/// A job's certificate judged by the first `count` of them.
-fn checked(job: &Job, count: usize) -> Times {
-    let certificate = certificate(job);
-    let (mut plain_job, mut strong_job) = (request::Job::default(), request::Job::default());
+/// A certificate judged by the first `count` of them.
+fn checked(case: &Case, count: usize) -> Times {
+    let Case { name, bytes, certificate } = case;
+    let (mut plain_job, mut strong_job, mut strong) = (request::Job::default(), request::Job::default(), Strong::default());
     let mut sides: Vec<Side> = vec![
-        Box::new(|_| answered(ours::check(&job.bytes, &certificate), 0, 0)),
-        Box::new(|_| answered(checker::check(&job.bytes, &certificate, &mut plain_job, checker::plain).0, 0, 0)),
-        Box::new(|_| answered(checker::check(&job.bytes, &certificate, &mut strong_job, checker::strong).0, 0, 0)),
+        Box::new(|_| answered(ours::check(bytes, certificate), 0, 0)),
+        Box::new(|_| answered(checker::check(bytes, certificate, &mut plain_job, &mut Plain).0, 0, 0)),
+        Box::new(|_| answered(checker::check(bytes, certificate, &mut strong_job, &mut strong).0, 0, 0)),
     ];
     sides.truncate(count);
-    race(&job.name, [Table::none(), Table::none()], sides)
+    race(name, [Table::none(), Table::none()], sides)
 }
 
 /// Nanoseconds in a unit that leaves three digits.
 fn time(nanoseconds: f64) -> String {
     let (number, unit) = match nanoseconds {
+        t if t >= 1e9 => (t / 1e9, "s"),
         t if t >= 1e6 => (t / 1e6, "ms"),
         t if t >= 1e3 => (t / 1e3, "us"),
         t => return format!("{t:.0} ns"),
@@ -117,9 +124,10 @@ fn line(name: &str, times: &Times) -> f64 {
     let ours = times.best[0];
     let ratio = ours / times.best[1];
     let mark = if ratio > GOAL { "**" } else { "" };
-    let note = if times.answer.refusal > 0 { format!(" (refused {})", times.answer.refusal) } else { String::new() };
+    let refused = if times.answer.refusal > 0 { format!(" (refused {})", times.answer.refusal) } else { String::new() };
+    let few = if times.calls[1] < LEAST_ROUNDS { format!(" (plain Rust: best of {})", times.calls[1]) } else { String::new() };
     let strong = times.best.get(2).map_or("|".to_string(), |&strong| format!("{} | {:.2}", time(strong), ours / strong));
-    println!("| {name}{note} | {} | {} | {mark}{ratio:.2}{mark} | {strong} |", time(ours), time(times.best[1]));
+    println!("| {name}{refused}{few} | {} | {} | {mark}{ratio:.2}{mark} | {strong} |", time(ours), time(times.best[1]));
     ratio
 }
 
@@ -128,7 +136,7 @@ fn growth() {
     println!("\n| Job | half n, half C | n doubled | C doubled | both |\n|---|---|---|---|---|");
     let sizes = [(1, 1), (2, 1), (1, 2), (2, 2)];
     let alone = |job: &Job| time(solved(job, 1).best[0]);
-    let judged = |job: &Job| time(checked(job, 1).best[0]);
+    let judged = |job: &Job| time(checked(&Case::of_answer(job), 1).best[0]);
     let row = |name: &str, times: [String; 4]| println!("| {name} | {} |", times.join(" | "));
     for kind in [ONCE, COPIES, ANY, SUMS] {
         row(&format!("kind {kind}, to 1,000 labels and C 60,000"), sizes.map(|(n, c)| alone(&jobs::labels(kind, 500 * n, 30_000 * c, 3_000))));
@@ -140,10 +148,26 @@ fn growth() {
         };
         row(&format!("kind {kind}, to {MOST_SIZES} sizes and C 60,000"), sizes.map(|(n, c)| random(n, c)));
     }
-    row("checker, to 1,000 labels and C 60,000", sizes.map(|(n, c)| judged(&jobs::labels(ONCE, 500 * n, 30_000 * c, 3_000))));
+    for kind in 1..=LAST_CHECKED_KIND {
+        let name = format!("checker, kind {kind}, to 1,000 labels and C 60,000");
+        row(&name, sizes.map(|(n, c)| judged(&jobs::labels(kind, 500 * n, 30_000 * c, 3_000))));
+    }
     let shared = |n| {
         let [random, ..] = jobs::claims(n);
         alone(&random)
     };
     println!("\nKind 7, random claims: {} for 500, {} for 1,000; it doesn't grow with C.", shared(500), shared(1_000));
+    growth_with_counts();
+}
+
+/// What a cell costs the library's checker of kind 2 as more counts of a label fit.
+fn growth_with_counts() {
+    const COUNTS: [u32; 9] = [1, 4, 8, 16, 17, 32, 64, 1_000, MOST_COPIES];
+    println!("\n| Checker, kind 2, ns a cell by fitting counts | {} |", COUNTS.map(|count| said(count as usize)).join(" | "));
+    println!("|---{}|", "|---".repeat(COUNTS.len()));
+    for weight in [1, 64] {
+        let judged = |count| checked(&Case::of_answer(&jobs::one_label(MOST_BUDGET, weight, count)), 1).best[0] / bounds::row(MOST_BUDGET) as f64;
+        let of_cell = |count| if count * weight > MOST_BUDGET { String::new() } else { format!("{:.2}", judged(count)) };
+        println!("| 1 label, C {}, weight {weight} | {} |", said(MOST_BUDGET as usize), COUNTS.map(of_cell).join(" | "));
+    }
 }

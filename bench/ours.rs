@@ -50,7 +50,7 @@ pub fn solve(job: &[u8], lent: Lent) -> Answer {
     answered(refusal, first, second)
 }
 
-/// The certificate of what a kind 1 answer left; none where it is refused.
+/// The certificate of what an answer left; none where it is refused.
 pub fn write(job: &[u8], picks: &[u32], cells: &[u32]) -> Option<Vec<u8>> {
     let mut out = vec![0; certificate_bytes(picks.len(), cells.len())];
     let mut written = 0;

@@ -100,6 +100,15 @@ impl Job {
         }
     }
 
+    /// The most of a label that a certificate may pick.
+    pub fn most_picked(&self, label: usize) -> u32 {
+        match self.kind {
+            bounds::ONCE => bounds::MOST_PICKED_ONCE,
+            bounds::COPIES => self.copies[label],
+            _ => bounds::MOST_PICKED_ANY,
+        }
+    }
+
     /// How many cells, words and picks are needed, for a kind that there is.
     pub fn room(&self) -> [usize; 3] {
         bounds::room(self.kind, self.weights.len(), self.budget)

@@ -4,8 +4,10 @@ use crate::request::{Answer, Lent};
 use std::hint::black_box;
 use std::time::{Duration, Instant};
 
-const LEAST_ROUNDS: usize = 25;
+/// Of so many rounds the best counts, or of more where they fit into the least time; a side that has taken the most time in all isn't called again.
+pub const LEAST_ROUNDS: usize = 25;
 const LEAST_TIME: Duration = Duration::from_secs(1);
+const MOST_TIME: Duration = Duration::from_secs(4);
 const LONG: Duration = Duration::from_millis(1);
 
 /// The slices that a side is lent.
@@ -40,10 +42,11 @@ impl Table {
 /// A side: the whole call that is timed.
 pub type Side<'a> = Box<dyn FnMut(&mut Table) -> Answer + 'a>;
 
-/// What a race gives: the answer of all sides, and each side's best time in nanoseconds.
+/// What a race gives: the answer of all sides, each side's best time in nanoseconds, and how many calls it is the best of.
 pub struct Times {
     pub answer: Answer,
     pub best: Vec<f64>,
+    pub calls: Vec<usize>,
 }
 
 /// The thread's processor time, in which a neighbour's turn on the core has no part.
@@ -85,16 +88,20 @@ pub fn race(name: &str, mut tables: [Table; 2], mut sides: Vec<Side>) -> Times {
     let clock = clock();
     let count = sides.len();
     let mut best = vec![Duration::MAX; count];
+    let mut taken = vec![Duration::ZERO; count];
+    let mut calls = vec![0; count];
     let mut expected = None;
     let mut round = 0;
     let begun = Instant::now();
     while round < LEAST_ROUNDS || begun.elapsed() < LEAST_TIME {
-        for turn in 0..count {
-            let side = (turn + round) % count;
+        let in_turn: Vec<usize> = (0..count).map(|turn| (turn + round) % count).filter(|&side| taken[side] < MOST_TIME).collect();
+        for (turn, side) in in_turn.into_iter().enumerate() {
             let table = &mut tables[(turn.min(1) + round / count) % 2];
             table.clear();
             let (answer, time) = timed(|| sides[side](black_box(table)));
             best[side] = best[side].min(time.saturating_sub(clock));
+            taken[side] += time;
+            calls[side] += 1;
             if *expected.get_or_insert(answer) != answer || (turn > 0 && tables[0] != tables[1]) {
                 eprintln!("{name}: side {side} differs in round {round}");
                 std::process::exit(1);
@@ -102,5 +109,5 @@ pub fn race(name: &str, mut tables: [Table; 2], mut sides: Vec<Side>) -> Times {
         }
         round += 1;
     }
-    Times { answer: expected.unwrap(), best: best.iter().map(|time| time.as_nanos() as f64).collect() }
+    Times { answer: expected.unwrap(), best: best.iter().map(|time| time.as_nanos() as f64).collect(), calls }
 }
