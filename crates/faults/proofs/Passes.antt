@@ -1,15 +1,16 @@
 -- One count over a whole row, budget by budget, and the code's test without a sum.
 -- Assumes nothing.
-use mathlib.Core.Path.{_≡_, refl, ap, ap₂, subst, _∙_}
-use Prim.Native.Nat.{ℕ, _+_, _%_, _≤_, _<_}
+use mathlib.Core.Path.{_≡_, refl, sym, ap, ap₂, subst, _∙_}
+use Prim.Native.Nat.{ℕ, zero-le, _+_, _%_, _≤_, _<_}
+use native.Mathlib.Nat.{add-zero}
 use native.Mathlib.Decide.{decLt}
 use native.Mathlib.Omega.{arith}
-use mathlib.Core.Bool.{Bool, true, false, _||_}
+use mathlib.Core.Bool.{Bool, true, false, _||_, or-true, or-false}
 use mathlib.Core.List.{List}
 use lib.Dec.{ltb}
 use borrow.Author.Count.{below-more}
 use borrow.Author.Tests.{le-ltb, lt-ltb}
-use Rattle.meaning.specs.Lists.{at}
+use Rattle.meaning.specs.Lists.{at, if}
 use Rattle.faults.specs.Columns.{Tells, LowAt, HighAt}
 use Rattle.faults.proofs.Telling.{tells-low, tells-high}
 
@@ -28,6 +29,29 @@ below-sum claim other v rest claim-fits rest-fits wraps =
             | no above ↦ rw (le-ltb rest other (omega arith), le-ltb claim (other + v) (omega arith))
           ])
     ]
+
+-- ---- how many are too low, as the code counts them
+
+-- whether some are, once one more was asked about
+counted-low : (low : ℕ) (below : Bool) → (ltb 0 low || below) ≡ ltb 0 (low + if below 1 0)
+unfolding if
+counted-low low true = or-true (ltb 0 low) ∙ sym (lt-ltb 0 (low + 1) (omega arith))
+counted-low low false = or-false (ltb 0 low) ∙ ap (ltb 0) (sym (add-zero low))
+
+-- of the first c at most c are, and what is told of some holds
+pub record CountedLow (Tell : Bool → ℕ → Type 0) (low c : ℕ) : Type 0 where
+  pub most : low ≤ c
+  pub told : Tell (ltb 0 low) c
+
+pub count-start : {Tell : Bool → ℕ → Type 0} → Tell false 0 → CountedLow Tell 0 0
+count-start t = record { most = zero-le; told = t }
+
+pub count-next : {Tell : Bool → ℕ → Type 0} (low c one : ℕ) (below : Bool) → (one ≡ if below 1 0) × (one ≤ 1)
+    → CountedLow Tell low c → Tell (ltb 0 low || below) (c + 1) → CountedLow Tell (low + one) (c + 1)
+count-next {Tell} low c one below one-is l t = record {
+  most = omega (arith, l .most, one-is .1);
+  told = rw (one-is .0) (subst (λ (b : Bool). Tell b (c + 1)) (counted-low low below) t);
+}
 
 -- ---- budget by budget
 

@@ -8,7 +8,7 @@ ghost use Prim.Native.Nat.{ℕ, _+_, _-_, _*_, _<_, _≤_, min, max};
 ghost use mathlib.Core.Bool.{_||_};
 ghost use lib.Dec.{ltb};
 ghost use lib.ListN.{length};
-ghost use Rattle.meaning.specs.Lists.{at};
+ghost use Rattle.meaning.specs.Lists.{at, if};
 ghost use Rattle.meaning.specs.Bytes.{numbersIn};
 ghost use Rattle.meaning.specs.Certificates.{someOf};
 ghost use Rattle.faults.specs.LowRows.{RowThere, Budgets, lowIn, belowOne};
@@ -63,26 +63,32 @@ fn is_below(claim: u32, other: u32, v: u32) -> bool
     (claim < v) | (rest < other)
 }
 
+// 1 for a claim that is too low. Claims too low are counted in lanes of 32 bits, as wide as the claims: a lane of its own width for a bool
+// would have to be made narrower for each vector.
+fn one_if(low: bool) -> u32
+    ensures { λ r. ⌜ (r ≡ if low 1 0) × (r ≤ 1) ⌝ }
+{
+    if low { 1 } else { 0 }
+}
+
 // One count: whether some claim is below the one `far` down in the row before, and `gain`. There is no way out of the loop, so that it
 // runs in vectors.
 fn breaks_at(cells: &[u8], prior: usize, row: usize, left: usize, far: usize, gain: u32) -> bool
+    requires { ⌜ left ≤ 65_536 ⌝ }
     requires { ⌜ prior + left ≤ length (numbersIn (now cells)) ⌝ }
     requires { ⌜ row + (left + far) ≤ length (numbersIn (now cells)) ⌝ }
     ensures { λ r. ⌜ Tells r (LowAt (numbersIn (now (cells .entry))) prior row left far gain) (HighAt (numbersIn (now (cells .entry))) prior row left far gain) ⌝ }
 {
     let up = row + far;
-    let mut low = false;
+    let mut low: u32 = 0;
     let mut c = 0;
     while c < left {
-        low = low
-            | is_below(
-                numbers::number_in(cells, up + c),
-                numbers::number_in(cells, prior + c),
-                gain,
-            );
+        let claim = numbers::number_in(cells, up + c);
+        let other = numbers::number_in(cells, prior + c);
+        low += one_if(is_below(claim, other, gain));
         c += 1;
     }
-    low
+    0 < low
 }
 
 // Two counts in one test, of which the second is worth more. Only its value can be above the claim and not show in a difference.
@@ -106,6 +112,7 @@ fn breaks_pair(
     gain: u32,
     v: u32,
 ) -> bool
+    requires { ⌜ left + w ≤ 65_536 ⌝ }
     requires { ⌜ prior + (left + w) ≤ length (numbersIn (now cells)) ⌝ }
     requires { ⌜ row + (left + (far + w)) ≤ length (numbersIn (now cells)) ⌝ }
     requires { ⌜ gain + v ≤ 4_294_967_295 ⌝ }
@@ -114,20 +121,16 @@ fn breaks_pair(
     let up = row + (far + w);
     let beside = prior + w;
     let more = gain + v;
-    let mut low = false;
+    let mut low: u32 = 0;
     let mut c = 0;
     while c < left {
-        low = low
-            | is_below_either(
-                numbers::number_in(cells, up + c),
-                numbers::number_in(cells, beside + c),
-                gain,
-                numbers::number_in(cells, prior + c),
-                more,
-            );
+        let claim = numbers::number_in(cells, up + c);
+        let near = numbers::number_in(cells, beside + c);
+        let other = numbers::number_in(cells, prior + c);
+        low += one_if(is_below_either(claim, near, gain, other, more));
         c += 1;
     }
-    low
+    0 < low
 }
 
 // The same over all budgets: at the first w of them only the one count fits.
@@ -141,6 +144,7 @@ fn breaks_two(
     gain: u32,
     v: u32,
 ) -> bool
+    requires { ⌜ left + w ≤ 65_536 ⌝ }
     requires { ⌜ prior + (left + w) ≤ length (numbersIn (now cells)) ⌝ }
     requires { ⌜ row + (left + (far + w)) ≤ length (numbersIn (now cells)) ⌝ }
     requires { ⌜ gain + v ≤ 4_294_967_295 ⌝ }
@@ -352,7 +356,7 @@ pub fn row_breaks(
 
 // Whether a single row of claims breaks rule 14 for one of the label, at some budget from `from` on and below `end`.
 pub fn stretch_breaks(cells: &[u8], from: usize, end: usize, w: u32, v: u32) -> bool
-    requires { ⌜ end ≤ length (numbersIn (now cells)) ⌝ }
+    requires { ⌜ (end ≤ 65_536) × (end ≤ length (numbersIn (now cells))) ⌝ }
     ensures { λ r. ⌜ r ≡ someOf (λ (i : ℕ). belowOne (numbersIn (now (cells .entry))) w v (from + i)) (end - from) ⌝ }
 {
     let weight = w as usize;

@@ -93,7 +93,7 @@ fn nearer(a: usize, b: usize) -> usize
 // Whether some label is at fault in a single row, at a cell from `from` on and below `end`.
 fn stretch_is_low(weights: &[u8], values: &[u8], cells: &[u8], from: usize, end: usize) -> bool
     requires { ⌜ length (numbersIn (now values)) ≡ length (numbersIn (now weights)) ⌝ }
-    requires { ⌜ end ≤ length (numbersIn (now cells)) ⌝ }
+    requires { ⌜ (end ≤ 65_536) × (end ≤ length (numbersIn (now cells))) ⌝ }
     ensures { λ r. ⌜ ((j : Job) → j .weights ≡ numbersIn (now (weights .entry)) → j .values ≡ numbersIn (now (values .entry))
         → r ≡ someOf (λ (m : ℕ). lowForOne j (numbersIn (now (cells .entry))) (from + m)) (end - from)) ⌝ }
 {

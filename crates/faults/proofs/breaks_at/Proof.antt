@@ -5,12 +5,12 @@ use native.Mathlib.Omega.{arith}
 use borrow.Author.Needs.{needs}
 use Rattle.meaning.specs.Bytes.{numbersIn}
 use Rattle.meaning.proofs.Numbers.{numbers-long}
-use Rattle.faults.proofs.Passes.{Told, pass-start, pass-next, pass-end}
+use Rattle.faults.proofs.Passes.{CountedLow, Told, count-next, count-start, pass-start, pass-next, pass-end}
 use Rattle.faults.proofs.breaks_at.Statement.{statement}
 use Rattle.faults.proofs.breaks_at.Tie as tie
 
 abbrev Inv-loop : tie.InvT-loop
-Inv-loop cells prior row left far gain up low₀ c₀ low c = (c ≤ left) × Told (numbersIn cells) prior row far gain low c
+Inv-loop cells prior row left far gain up low₀ c₀ low c = (c ≤ left) × CountedLow (Told (numbersIn cells) prior row far gain) low c
 
 abbrev μ-loop : tie.MeasureT-loop
 μ-loop cells prior row left far gain up low₀ c₀ low c = left - c
@@ -28,7 +28,7 @@ add-up : tie.Need-add-up Inv-loop μ-loop
 add-up c = omega (arith, numbers-long (c .before .args .cells .now))
 
 loop-holds : tie.Need-loop-holds Inv-loop μ-loop
-loop-holds c = (omega arith, pass-start _ _ _ _ _)
+loop-holds c = (omega arith, count-start (pass-start _ _ _ _ _))
 
 add-number-in : tie.Need-add-number-in Inv-loop μ-loop
 add-number-in c = omega (arith, numbers-long (start (c .before) .args .cells .now))
@@ -45,6 +45,12 @@ number-in-requires-2 c κs = omega (arith, start (head c) .pre)
 is-below-requires : tie.Need-is-below-requires Inv-loop μ-loop
 is-below-requires c κs = search needs
 
+one-if-requires : tie.Need-one-if-requires Inv-loop μ-loop
+one-if-requires c κs = search needs
+
+add-low : tie.Need-add-low Inv-loop μ-loop
+add-low c = let h = head (c .before .before .before) in omega (arith, h .loop .inv .1 .most, c .one-if .ensures .1, start h .pre)
+
 add-c : tie.Need-add-c Inv-loop μ-loop
 add-c c = omega arith
 
@@ -53,14 +59,17 @@ loop-less c = omega arith
 
 loop-again : tie.Need-loop-again Inv-loop μ-loop
 loop-again c =
-    let other = c .before in
-    let claim = other .before in (
+    let below = c .before in
+    let other = below .before in
+    let claim = other .before in
+    let so-far = head claim .loop .inv .1 in (
       omega arith,
-      pass-next _ _ _ _ _ _ _ _ _ _ (c .is-below .ensures) (claim .number-in .ensures) (other .number-in2 .ensures) (head claim .loop .inv .1),
+      count-next _ _ _ _ (c .one-if .ensures) so-far
+          (pass-next _ _ _ _ _ _ _ _ _ _ (below .is-below .ensures) (claim .number-in .ensures) (other .number-in2 .ensures) (so-far .told)),
     )
 
 returns : tie.Need-returns Inv-loop μ-loop
-returns c = pass-end _ _ _ _ _ _ _ _ (omega arith) (c .before .loop .inv .1)
+returns c = pass-end _ _ _ _ _ _ _ _ (omega arith) (c .before .loop .inv .1 .told)
 
 pub breaks-at-spec : {M : Type 1} → statement M
 breaks-at-spec =
@@ -75,6 +84,8 @@ breaks-at-spec =
     add-number-in-2
     number-in-requires-2
     is-below-requires
+    one-if-requires
+    add-low
     add-c
     loop-less
     loop-again

@@ -68,8 +68,11 @@ sub-breaks-two-2 c = omega (arith, room c)
 breaks-two-requires : tie.Need-breaks-two-requires Inv-loop μ-loop
 breaks-two-requires c κs =
     let s = start (head c) in (
-      omega (arith, room c, s .pre .0 .prior-ends),
-      (omega (arith, room c, s .pre .0 .row-ends), omega (arith, worth c, s .pre .1 .1)),
+      omega (arith, room c, fitting (head c) .narrow),
+      (
+        omega (arith, room c, s .pre .0 .prior-ends),
+        (omega (arith, room c, s .pre .0 .row-ends), omega (arith, worth c, s .pre .1 .1)),
+      ),
     )
 
 returns : tie.Need-returns Inv-loop μ-loop
@@ -114,8 +117,10 @@ sub-breaks-at c = omega (arith, last-room c)
 
 breaks-at-requires : tie.Need-breaks-at-requires Inv-loop μ-loop
 breaks-at-requires c κs =
-    let s = start (end c) in
-    (omega (arith, last-room c, s .pre .0 .prior-ends), omega (arith, last-room c, s .pre .0 .row-ends))
+    let s = start (end c) in (
+      omega (arith, fitting (end c) .narrow),
+      (omega (arith, last-room c, s .pre .0 .prior-ends), omega (arith, last-room c, s .pre .0 .row-ends)),
+    )
 
 returns-3 : tie.Need-returns-3 Inv-loop μ-loop
 returns-3 c =

@@ -6,13 +6,14 @@ use borrow.Author.Needs.{needs}
 use Rattle.meaning.specs.Bytes.{numbersIn}
 use Rattle.meaning.proofs.Numbers.{numbers-long}
 use Rattle.faults.specs.Columns.{BothTold}
+use Rattle.faults.proofs.Passes.{CountedLow, count-next, count-start}
 use Rattle.faults.proofs.Pairs.{pair-start, pair-next, pair-end}
 use Rattle.faults.proofs.breaks_pair.Statement.{statement}
 use Rattle.faults.proofs.breaks_pair.Tie as tie
 
 abbrev Inv-loop : tie.InvT-loop
 Inv-loop cells prior row left far w gain v up beside more low₀ c₀ low c =
-    (c ≤ left) × BothTold low (numbersIn cells) prior row c far w gain v
+    (c ≤ left) × CountedLow (λ b d. BothTold b (numbersIn cells) prior row d far w gain v) low c
 
 abbrev μ-loop : tie.MeasureT-loop
 μ-loop cells prior row left far w gain v up beside more low₀ c₀ low c = left - c
@@ -39,7 +40,7 @@ add-more : tie.Need-add-more Inv-loop μ-loop
 add-more c = search needs
 
 loop-holds : tie.Need-loop-holds Inv-loop μ-loop
-loop-holds c = (omega arith, pair-start _ _ _ _ _ _ _)
+loop-holds c = (omega arith, count-start (pair-start _ _ _ _ _ _ _))
 
 add-number-in : tie.Need-add-number-in Inv-loop μ-loop
 add-number-in c = omega (arith, numbers-long (start (c .before) .args .cells .now))
@@ -62,6 +63,12 @@ number-in-requires-3 c κs = omega (arith, start (head (c .before)) .pre)
 is-below-either-requires : tie.Need-is-below-either-requires Inv-loop μ-loop
 is-below-either-requires c κs = omega arith
 
+one-if-requires : tie.Need-one-if-requires Inv-loop μ-loop
+one-if-requires c κs = search needs
+
+add-low : tie.Need-add-low Inv-loop μ-loop
+add-low c = let h = head (c .before .before .before .before) in omega (arith, h .loop .inv .1 .most, c .one-if .ensures .1, start h .pre)
+
 add-c : tie.Need-add-c Inv-loop μ-loop
 add-c c = omega arith
 
@@ -70,16 +77,19 @@ loop-less c = omega arith
 
 loop-again : tie.Need-loop-again Inv-loop μ-loop
 loop-again c =
-    let other = c .before in
+    let below = c .before in
+    let other = below .before in
     let near = other .before in
-    let claim = near .before in (
+    let claim = near .before in
+    let so-far = head claim .loop .inv .1 in (
       omega arith,
-      pair-next _ _ _ _ _ _ _ _ _ _ _ _ _ (c .is-below-either .ensures) (claim .number-in .ensures) (near .number-in2 .ensures)
-          (other .number-in3 .ensures) (head claim .loop .inv .1),
+      count-next _ _ _ _ (c .one-if .ensures) so-far
+          (pair-next _ _ _ _ _ _ _ _ _ _ _ _ _ (below .is-below-either .ensures) (claim .number-in .ensures) (near .number-in2 .ensures)
+          (other .number-in3 .ensures) (so-far .told)),
     )
 
 returns : tie.Need-returns Inv-loop μ-loop
-returns c = pair-end _ _ _ _ _ _ _ _ _ _ (omega arith) (c .before .loop .inv .1)
+returns c = pair-end _ _ _ _ _ _ _ _ _ _ (omega arith) (c .before .loop .inv .1 .told)
 
 pub breaks-pair-spec : {M : Type 1} → statement M
 breaks-pair-spec =
@@ -99,6 +109,8 @@ breaks-pair-spec =
     add-number-in-3
     number-in-requires-3
     is-below-either-requires
+    one-if-requires
+    add-low
     add-c
     loop-less
     loop-again

@@ -1,6 +1,6 @@
 -- `verdicts::is_low` meets its contract: label by label in a single row; in a table by the label of the row.
 -- Assumes nothing.
-use mathlib.Core.Path.{_≡_, refl, _∙_}
+use mathlib.Core.Path.{refl, sym, ap}
 use mathlib.Core.List.{List}
 use Prim.Native.Nat.{ℕ, _+_, _-_, _/_, _<_}
 use native.Mathlib.Omega.{arith}
@@ -8,6 +8,8 @@ use borrow.Author.Needs.{needs}
 use lib.ListN.{length}
 use Rattle.meaning.specs.Bytes.{numbersIn}
 use Rattle.meaning.specs.Job.{Job, Knapsack, jobOf, labels}
+use Rattle.meaning.specs.Bounds.{mostBudget}
+use Rattle.meaning.specs.Certificates.{certificateCells}
 use Rattle.numbers.specs.TwoSlices.{listFrom}
 use Rattle.meaning.proofs.Valid.{Valid}
 use Rattle.verdicts.specs.Asked.{bytesJob, knapsackIn, InRow}
@@ -62,10 +64,11 @@ module _ (c : tie.Else2) where
   label-there = the-row .label
 
 stretch-is-low-requires : tie.Need-stretch-is-low-requires
-unfolding jobOf listFrom labels
+unfolding jobOf listFrom labels certificateCells mostBudget
 stretch-is-low-requires c κs =
     let s = start (c .before) in
-    (valid s .valued, omega (arith, s .pre .1 .inside, s .pre .0 .long))
+    let single = sym (ap (λ (k : Knapsack). certificateCells k (job s)) (taken-free _ (c .if1 .taken))) in
+    (valid s .valued, (omega (arith, s .pre .1 .inside, single, valid s .small), omega (arith, s .pre .1 .inside, s .pre .0 .long)))
 
 returns : tie.Need-returns
 unfolding jobOf listFrom
