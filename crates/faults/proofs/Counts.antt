@@ -1,7 +1,7 @@
 -- Count by count, two in a pass: those passed are kept.
 -- Assumes nothing.
-use mathlib.Core.Path.{_≡_, ap, subst}
-use Prim.Native.Nat.{ℕ, _+_, _-_, _*_, _≤_, _<_}
+use mathlib.Core.Path.{_≡_, refl, ap, subst}
+use Prim.Native.Nat.{ℕ, zero, suc, _+_, _-_, _*_, _≤_, _<_}
 use native.Mathlib.Nat.{suc-mul, zero-mul, mul-le-mul, mul-le-mul-right}
 use native.Mathlib.Omega.{arith}
 use mathlib.Core.Bool.{Bool}
@@ -11,6 +11,11 @@ use Rattle.meaning.specs.Lists.{at}
 use Rattle.faults.specs.Columns.{Tells, CopiesFit, Low, High, LowAt, HighAt, LowEither, at-first, at-second, HighBoth}
 use Rattle.faults.proofs.Telling.{tells-as}
 use Rattle.faults.proofs.Cells.{same-times, few-copies}
+
+-- a number that isn't 0
+pub some-copies : (copies : ℕ) → ¬ (copies ≡ 0) → 0 < copies
+some-copies zero h = absurd (h refl)
+some-copies (suc n) h = omega arith
 
 -- what a count weighs, and is worth
 pub record CountOf (w v count far gain : ℕ) : Type 0 where
@@ -79,40 +84,44 @@ module _ (cells : List ℕ) (prior row width w v : ℕ) where
         last-high : HighFar far gain → High cells prior row width w v copies
         last-high h = counts-all (count + 1) (far + w) (gain + v) (omega arith) (counts-next count far gain c h)
 
-        pub last-told : (r : Bool) → Tells r (LowFar far gain) (HighFar far gain)
+        pub last-told : (left : ℕ) → left ≡ width - far → (r : Bool) → Tells r (LowAt cells prior row left far gain) (HighAt cells prior row left far gain)
             → Tells r (Low cells prior row width w v copies) (High cells prior row width w v copies)
-        last-told r told = tells-as r (count-low count far gain (c .this) (omega arith)) last-high told
+        last-told left left-is r told =
+            let far-told = subst (λ (n : ℕ). Tells r (LowAt cells prior row n far gain) (HighAt cells prior row n far gain)) left-is told in
+            tells-as r (count-low count far gain (c .this) (omega arith)) last-high far-told
 
       -- this count and the next
       module _ (two : count < copies) where
         pub two-fit : far + w < width
         two-fit = omega (arith, c .this .far-is, suc-mul count w, mul-le-mul-right w two, f .fit)
 
-        -- how many budgets are left for each
-        first-left : width - far - w + w ≡ width - far
-        first-left = omega (arith, two-fit)
+        -- by how many budgets are left for both
+        module _ (left : ℕ) (left-is : left ≡ width - far - w) where
+          first-left : left + w ≡ width - far
+          first-left = omega (arith, two-fit)
 
-        second-left : width - far - w ≡ width - (far + w)
-        second-left = omega arith
+          second-left : left ≡ width - (far + w)
+          second-left = omega arith
 
-        pub two-low : LowEither cells prior row (width - far - w) far w gain v → Low cells prior row width w v copies
-        two-low (at-first l) =
-            count-low count far gain (c .this) (omega arith) (subst (λ (n : ℕ). LowAt cells prior row n far gain) first-left l)
-        two-low (at-second l) =
-            count-low (count + 1) (far + w) (gain + v) (count-next w v count far gain (c .this)) (omega arith)
-            (subst (λ (n : ℕ). LowAt cells prior row n (far + w) (gain + v)) second-left l)
+          pub two-low : LowEither cells prior row left far w gain v → Low cells prior row width w v copies
+          two-low (at-first l) =
+              count-low count far gain (c .this) (omega arith) (subst (λ (n : ℕ). LowAt cells prior row n far gain) first-left l)
+          two-low (at-second l) =
+              count-low (count + 1) (far + w) (gain + v) (count-next w v count far gain (c .this)) (omega arith)
+              (subst (λ (n : ℕ). LowAt cells prior row n (far + w) (gain + v)) second-left l)
 
-        pub two-next : HighBoth cells prior row (width - far - w) far w gain v → CountsPassed (count + 2) (far + (w + w)) (gain + (v + v))
-        two-next h =
-            let first : HighFar far gain = subst (λ (n : ℕ). HighAt cells prior row n far gain) first-left (h .first) in
-            let second : HighFar (far + w) (gain + v) =
-            subst (λ (n : ℕ). HighAt cells prior row n (far + w) (gain + v)) second-left (h .second) in
-            let both = counts-next (count + 1) (far + w) (gain + v) (counts-next count far gain c first) second in
-            let counts : count + 1 + 1 ≡ count + 2 = omega arith in
-            record {
-              this = record {
-                far-is = omega (arith, both .this .far-is, same-times w counts);
-                gain-is = omega (arith, both .this .gain-is, same-times v counts);
-              };
-              high = λ k h. both .high k (omega arith);
-            }
+          pub two-next : HighBoth cells prior row left far w gain v → (count′ far′ gain′ : ℕ) → count′ ≡ count + 2 → far′ ≡ far + (w + w)
+              → gain′ ≡ gain + (v + v) → CountsPassed count′ far′ gain′
+          two-next h count′ far′ gain′ count-is far-is gain-is =
+              let first : HighFar far gain = subst (λ (n : ℕ). HighAt cells prior row n far gain) first-left (h .first) in
+              let second : HighFar (far + w) (gain + v) =
+              subst (λ (n : ℕ). HighAt cells prior row n (far + w) (gain + v)) second-left (h .second) in
+              let both = counts-next (count + 1) (far + w) (gain + v) (counts-next count far gain c first) second in
+              let counts : count + 1 + 1 ≡ count′ = omega arith in
+              record {
+                this = record {
+                  far-is = omega (arith, both .this .far-is, same-times w counts);
+                  gain-is = omega (arith, both .this .gain-is, same-times v counts);
+                };
+                high = λ k h. both .high k (omega arith);
+              }

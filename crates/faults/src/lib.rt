@@ -299,7 +299,8 @@ fn breaks_many(
     false
 }
 
-// The same count by count, two in a pass, and the last alone where their number is odd.
+// The same count by count, two in a pass, and the last alone where their number is odd. None and one, which are all that kind 1 has, come
+// first and by themselves: nothing is taken off a claim for none.
 fn breaks_few(
     cells: &[u8],
     prior: usize,
@@ -314,9 +315,15 @@ fn breaks_few(
     requires { ⌜ v ≤ 65_535 ⌝ }
     ensures { λ r. ⌜ Tells r (Low (numbersIn (now (cells .entry))) prior row width w v copies) (High (numbersIn (now (cells .entry))) prior row width w v copies) ⌝ }
 {
-    let mut far = 0;
-    let mut gain: u32 = 0;
-    let mut count = 0;
+    if copies == 0 {
+        return breaks_at(cells, prior, row, width, 0, 0);
+    }
+    if breaks_two(cells, prior, row, width - w, 0, w, 0, v) {
+        return true;
+    }
+    let mut far = w + w;
+    let mut gain = v + v;
+    let mut count = 2;
     while count < copies {
         if breaks_two(cells, prior, row, width - far - w, far, w, gain, v) {
             return true;
