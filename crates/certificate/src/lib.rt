@@ -75,13 +75,13 @@ fn judge(
         (now (copies .entry))) (now (certificate .entry)) ⌝ }
 {
     let n = weights.len() / 4;
-    let room = rules::knapsack_room(kind, n, budget);
+    let needed = rules::knapsack_room(kind, n, budget);
     let labels = n as u32;
     let first = numbers::read_section(certificate, 0, Needed::Exactly(labels));
     let Section::Part(picks, _, picks_end) = first else {
         return refused_with(11);
     };
-    let many = room.cells as u32;
+    let many = needed.cells as u32;
     let second = numbers::read_section(certificate, picks_end, Needed::Exactly(many));
     let Section::Part(cells, _, cells_end) = second else {
         return refused_with(11);
@@ -112,27 +112,13 @@ pub fn check(job: &[u8], certificate: &[u8]) -> Verdict
     let values = requests::bytes_at(job, parts.values);
     let copies = requests::bytes_at(job, parts.copies);
     let none: [u32; 0] = [];
-    let refused = job_refusal(
-        parts.kind,
-        parts.budget,
-        &none,
-        weights,
-        &none,
-        values,
-        &none,
-        copies,
-    );
+    let kind = parts.kind;
+    let budget = parts.budget;
+    let refused = job_refusal(kind, budget, &none, weights, &none, values, &none, copies);
     if refused != 0 {
         return refused_with(refused);
     }
-    judge(
-        parts.kind,
-        parts.budget,
-        weights,
-        values,
-        copies,
-        certificate,
-    )
+    judge(kind, budget, weights, values, copies, certificate)
 }
 
 // ---- the writer

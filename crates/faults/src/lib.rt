@@ -16,7 +16,7 @@ ghost use Rattle.faults.specs.Columns.{Tells, TwoRows, CopiesFit, Low, H
 ghost use Rattle.faults.specs.Columns.{LowWithin, HighWithin, HighAcross, HighColumn, HighBlock};
 
 // Up to how many counts a pass for each is quicker.
-const FEW: usize = 16;
+const FEW: usize = 13;
 
 // The greater of two numbers.
 fn greater(a: u64, b: u64) -> u64
