@@ -33,14 +33,20 @@ static const struct call calls[] = {
      .refused = 6, .cells_after = {7, 7, 7, 7, 7, 7}, .pick_after = 77},
 };
 
-/* A certificate for the job weight 1, value 3, C 1. */
+/* A certificate for a job of one label worth 3, and what is said of it. */
 struct claim {
-    uint32_t slip, pick, cells[4], number, detail;
+    uint32_t slip, kind, weight, copies, budget, pick, cells[CELLS], cells_count, number, detail;
 };
 
 static const struct claim claims[] = {
-    {.slip = 14, .pick = 1, .cells = {0, 0, 9, 3}, .number = 0, .detail = 3},
-    {.slip = 15, .pick = 0, .cells = {4294967293u, 0, 4294967293u, 0}, .number = 14, .detail = 3},
+    {.slip = 14, .kind = KIND_ONCE, .weight = 1, .budget = 1, .pick = 1, .cells = {0, 0, 9, 3}, .cells_count = 4,
+     .number = 0, .detail = 3},
+    {.slip = 15, .kind = KIND_ONCE, .weight = 1, .budget = 1, .pick = 0, .cells = {4294967293u, 0, 4294967293u, 0},
+     .cells_count = 4, .number = 14, .detail = 3},
+    {.slip = 19, .kind = KIND_COPIES, .weight = 1, .copies = 2, .budget = 2, .pick = 1, .cells = {0, 0, 0, 0, 3, 3},
+     .cells_count = 6, .number = 14, .detail = 5},
+    {.slip = 20, .kind = KIND_ANY, .weight = 2, .budget = 4, .pick = 2, .cells = {0, 0, 3, 3, 6}, .cells_count = 5,
+     .number = 0, .detail = 6},
 };
 
 static void one_label(struct bytes *bytes, uint32_t kind, uint32_t value, uint32_t budget) {
@@ -67,12 +73,15 @@ static void try_call(const struct call *call) {
 }
 
 static void try_claim(const struct claim *claim) {
+    static const uint32_t value = 3;
     static struct bytes bytes, certificate;
+    static struct job job;
     about("slip", claim->slip);
-    one_label(&bytes, KIND_ONCE, 3, 1);
+    set_job(&job, claim->kind, claim->budget, 1, &claim->weight, &value, claim->kind == KIND_COPIES ? &claim->copies : NULL);
+    put_job(&bytes, &job);
     certificate.length = 0;
     put_section(&certificate, &claim->pick, 1);
-    put_section(&certificate, claim->cells, 4);
+    put_section(&certificate, claim->cells, claim->cells_count);
     verdict_is(&bytes, &certificate, claim->number, claim->detail);
 }
 

@@ -18,7 +18,7 @@ use Rattle.rules.proofs.Places.{needed-within}
 use Rattle.certificate.proofs.Refusing.{number-within}
 
 -- what is promised of the room of a job with n labels, each number counted up to its bound
-abbrev RoomCounted : Job → ℕ → Room → Type 0
+abbrev pub RoomCounted : Job → ℕ → Room → Type 0
 RoomCounted j n room =
     (k : Knapsack) → kindOf (j .kind-number) ≡ some (packing k) → NeededBy (packing k) (min n mostLabels) (min (j .budget) mostBudget) room
 

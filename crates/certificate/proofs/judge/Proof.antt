@@ -14,7 +14,7 @@ use Rattle.meaning.proofs.Numbers.{numbers-long}
 use Rattle.numbers.specs.TwoSlices.{listFrom}
 use Rattle.requests.proofs.Reading.{SectionNumbers, Whole}
 use Rattle.verdicts.specs.Asked.{bytesJob, knapsackIn}
-use Rattle.certificate.proofs.Counting.{few-labels, room-asked, cells-needed, few-cells}
+use Rattle.certificate.proofs.Counting.{RoomCounted, few-labels, room-asked, cells-needed, few-cells}
 use Rattle.certificate.proofs.Reading.{Held, held, picks-broken, cells-broken, left-over, all-read}
 use Rattle.certificate.proofs.judge.Statement.{statement}
 use Rattle.certificate.proofs.judge.Tie as tie
@@ -61,7 +61,9 @@ module _ (s : tie.Start) where
 -- the room has the cells of a certificate
 cells-are : (c : tie.After-knapsack-room) → certificateCells (knapsack (start c)) (job (start c)) ≡ c .knapsack-room .result .cells
 unfolding jobOf
-cells-are c = cells-needed (start c .pre) _ (labels-are (start c)) _ (c .knapsack-room .ensures)
+cells-are c =
+    let counted : RoomCounted (job (start c)) _ (c .knapsack-room .result) = c .knapsack-room .ensures in
+    cells-needed (start c .pre) _ (labels-are (start c)) (c .knapsack-room .result) counted
 
 -- what is read first is the picks' section
 module _ (c : tie.After-read-section) where
@@ -120,7 +122,7 @@ module _ (c : tie.After-known-told2) where
 
 knapsack-room-requires : tie.Need-knapsack-room-requires
 unfolding jobOf
-knapsack-room-requires c κs = room-asked (c .before .before .before .before .pre)
+knapsack-room-requires c κs = let asked = room-asked (c .before .before .before .before .pre) in (omega (arith, asked .0), omega (arith, asked .1))
 
 cast-labels : tie.Need-cast-labels
 cast-labels c = omega (arith, few-labels (start c .pre) _ (labels-are (start c)))

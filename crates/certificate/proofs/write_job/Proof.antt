@@ -2,13 +2,14 @@
 -- Assumes nothing.
 use mathlib.Core.List.{[], _∷_}
 use mathlib.Core.Path.{_≡_, sym, _∙_}
+use native.Mathlib.Omega.{arith}
 use borrow.Author.Needs.{needs}
 use Rattle.meaning.specs.Job.{Job, jobOf, labels}
 use Rattle.meaning.specs.Certificates.{HasCertificates, certificateCells}
 use Rattle.numbers.specs.TwoSlices.{jobFrom}
 use Rattle.verdicts.specs.Asked.{knapsackIn}
 use Rattle.certificate.specs.Copying.{CopiedFor}
-use Rattle.certificate.proofs.Counting.{few-labels, room-asked, cells-needed, few-cells}
+use Rattle.certificate.proofs.Counting.{RoomCounted, few-labels, room-asked, cells-needed, few-cells}
 use Rattle.certificate.proofs.Refusing.{not-refused}
 use Rattle.certificate.proofs.Copying.{turned-away}
 use Rattle.certificate.proofs.write_job.Statement.{statement}
@@ -44,7 +45,9 @@ module _ (c : tie.After-list-length) where
 cells-counted : (c : tie.After-knapsack-room) → let j = counted-job (c .before) in
     certificateCells (knapsackIn (j .kind-number)) j ≡ c .knapsack-room .result .cells
 unfolding jobOf
-cells-counted c = cells-needed (has (c .before .before)) _ (counted (c .before)) _ (c .knapsack-room .ensures)
+cells-counted c =
+    let room : RoomCounted (counted-job (c .before)) _ (c .knapsack-room .result) = c .knapsack-room .ensures in
+    cells-needed (has (c .before .before)) _ (counted (c .before)) (c .knapsack-room .result) room
 
 job-refusal-requires : tie.Need-job-refusal-requires
 job-refusal-requires c κs = search needs
@@ -60,7 +63,7 @@ list-length-requires c κs = search needs
 
 knapsack-room-requires : tie.Need-knapsack-room-requires
 unfolding jobOf
-knapsack-room-requires c κs = room-asked (has (c .before))
+knapsack-room-requires c κs = let asked = room-asked (has (c .before)) in (omega (arith, asked .0), omega (arith, asked .1))
 
 copy-out-requires : tie.Need-copy-out-requires
 unfolding jobOf

@@ -171,7 +171,7 @@ loop-again c =
     )
 
 returns-4 : tie.Need-returns-4 Inv-loop μ-loop
-returns-4 c = tells-high (counts-all _ _ _ _ _ _ _ _ _ _ (c .if4 .taken) (passed (c .before .before)))
+returns-4 c = tells-high (counts-all _ _ _ _ _ _ _ _ _ _ (omega (arith, c .if4 .taken)) (passed (c .before .before)))
 
 sub-breaks-at : tie.Need-sub-breaks-at Inv-loop μ-loop
 sub-breaks-at c = omega (arith, last-room c)

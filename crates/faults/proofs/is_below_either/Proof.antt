@@ -14,8 +14,10 @@ wrapping-sub-u32-requires-2 c κs = search needs
 
 returns : tie.Need-returns
 returns c =
-    below-either _ _ _ _ _ _ _ (c .before .before .pre) (omega arith) (omega arith) (omega arith)
-    (c .before .wrapping-sub-u32 .ensures) (c .wrapping-sub-u322 .ensures)
+    let s = c .before .before in
+    let a = s .args in
+    below-either (a .claim) (a .near) (a .gain) (a .other) (a .more) (c .before .wrapping-sub-u32 .result) (c .wrapping-sub-u322 .result)
+    (s .pre) (omega arith) (omega arith) (omega arith) (c .before .wrapping-sub-u32 .ensures) (c .wrapping-sub-u322 .ensures)
 
 pub is-below-either-spec : {M : Type 1} → statement M
 is-below-either-spec = tie.close (tie.spec wrapping-sub-u32-requires wrapping-sub-u32-requires-2 returns)

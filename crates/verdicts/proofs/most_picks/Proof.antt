@@ -17,7 +17,7 @@ most-by j i e = sym (ap (λ (k : Knapsack). mostPicks k j i) e)
 
 returns : tie.Need-returns
 unfolding mostPicks
-returns c j e = most-by j _ (taken-once _ (c .if1 .taken))
+returns c j e = most-by j (c .before .before .args .i) (taken-once _ (c .if1 .taken))
 
 most-of-one-requires : tie.Need-most-of-one-requires
 most-of-one-requires c κs = search needs
