@@ -45,7 +45,8 @@ no-certificates (some k) j picks cells before h =
     (nothing-new (jobRefusal (rulesOf (packing k)) j 0) (bytesNeeded k j) (certificate k j picks cells) before h)
 
 -- 2 to 5
-pub turned-away : (j : Job) (picks cells before : List ℕ) (r : ℕ) → r ≡ certifiedRefusal j → ¬ (r ≡ 0) → Writes j picks cells before (Refused r) before
+pub turned-away : (j : Job) (picks cells before : List ℕ) (r : ℕ) → r ≡ certifiedRefusal j → ¬ (r ≡ 0)
+    → Writes j picks cells before (Refused r) before
 unfolding certifiedRefusal Writes
 turned-away j picks cells before r e some-number =
     rw e (no-certificates (certifiedKnapsack (j .kind-number)) j picks cells before (λ none-given. some-number (e ∙ none-given)))

@@ -8,8 +8,8 @@ use native.Mathlib.Omega.{arith}
 use mathlib.Core.Bool.{Bool}
 use mathlib.Core.List.{List}
 use borrow.Author.Count.{below-more}
-use Rattle.faults.specs.Columns.{Tells, Low, High, LowWithin, HighWithin, HighAcross, HighColumn, HighBlock}
-use Rattle.faults.proofs.Telling.{tells-as}
+use Rattle.faults.specs.Columns.{Finds, Low, High, LowWithin, HighWithin, HighAcross, HighColumn, HighBlock}
+use Rattle.faults.proofs.Finding.{finds-as}
 use Rattle.faults.proofs.Cells.{columnCell, same-cell, same-times, parts-times}
 
 module _ (cells : List ℕ) (prior row width w v copies : ℕ) where
@@ -83,9 +83,9 @@ module _ (cells : List ℕ) (prior row width w v copies : ℕ) where
                 same-cell cells row to,
               )
 
-      pub column-told : (r : Bool) → Tells r (Low cells prior row width w v copies) (HighAcross cells prior row width w v copies (b + w))
-          → Tells r (Low cells prior row width w v copies) (KeptColumn b)
-      column-told r told = tells-as r (λ l. l) column-high told
+      pub column-found : (r : Bool) → Finds r (Low cells prior row width w v copies) (HighAcross cells prior row width w v copies (b + w))
+          → Finds r (Low cells prior row width w v copies) (KeptColumn b)
+      column-found r told = finds-as r (λ l. l) column-high told
 
   -- ---- the columns of a block
 

@@ -8,8 +8,8 @@ use mathlib.Core.Bool.{Bool}
 use mathlib.Core.List.{List}
 use borrow.Author.Count.{below-more}
 use Rattle.meaning.specs.Lists.{at}
-use Rattle.faults.specs.Columns.{Tells, CopiesFit, Low, High, LowAt, HighAt, LowEither, at-first, at-second, HighBoth}
-use Rattle.faults.proofs.Telling.{tells-as}
+use Rattle.faults.specs.Columns.{Finds, CopiesFit, Low, High, LowAt, HighAt, LowEither, at-first, at-second, HighBoth}
+use Rattle.faults.proofs.Finding.{finds-as}
 use Rattle.faults.proofs.Cells.{same-times, few-copies}
 
 -- a number that isn't 0
@@ -84,11 +84,12 @@ module _ (cells : List ℕ) (prior row width w v : ℕ) where
         last-high : HighFar far gain → High cells prior row width w v copies
         last-high h = counts-all (count + 1) (far + w) (gain + v) (omega arith) (counts-next count far gain c h)
 
-        pub last-told : (left : ℕ) → left ≡ width - far → (r : Bool) → Tells r (LowAt cells prior row left far gain) (HighAt cells prior row left far gain)
-            → Tells r (Low cells prior row width w v copies) (High cells prior row width w v copies)
-        last-told left left-is r told =
-            let far-told = subst (λ (n : ℕ). Tells r (LowAt cells prior row n far gain) (HighAt cells prior row n far gain)) left-is told in
-            tells-as r (count-low count far gain (c .this) (omega arith)) last-high far-told
+        pub last-found : (left : ℕ) → left ≡ width - far → (r : Bool)
+            → Finds r (LowAt cells prior row left far gain) (HighAt cells prior row left far gain)
+            → Finds r (Low cells prior row width w v copies) (High cells prior row width w v copies)
+        last-found left left-is r told =
+            let far-told = subst (λ (n : ℕ). Finds r (LowAt cells prior row n far gain) (HighAt cells prior row n far gain)) left-is told in
+            finds-as r (count-low count far gain (c .this) (omega arith)) last-high far-told
 
       -- this count and the next
       module _ (two : count < copies) where

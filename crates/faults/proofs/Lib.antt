@@ -1,5 +1,5 @@
 -- The laws behind the proofs of this crate.
-pub mod Telling
+pub mod Finding
 pub mod Cells
 pub mod Passes
 pub mod Pairs

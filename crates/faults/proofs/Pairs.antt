@@ -9,9 +9,9 @@ use mathlib.Core.List.{List}
 use lib.Dec.{ltb}
 use borrow.Author.Tests.{le-ltb, lt-ltb}
 use Rattle.meaning.specs.Lists.{at}
-use Rattle.faults.specs.Columns.{Tells, LowAt, HighAt, BothTold, LowEither, at-first, at-second, HighBoth}
-use Rattle.faults.proofs.Telling.{tells-low, tells-high}
-use Rattle.faults.proofs.Passes.{below-sum, Told, pass-start, pass-next}
+use Rattle.faults.specs.Columns.{Finds, LowAt, HighAt, BothFound, LowEither, at-first, at-second, HighBoth}
+use Rattle.faults.proofs.Finding.{finds-low, finds-high}
+use Rattle.faults.proofs.Passes.{below-sum, FoundSoFar, pass-start, pass-next}
 
 -- ---- the code's test without a sum
 
@@ -39,7 +39,7 @@ four-ors false true x y = sym (or-true x)
 four-ors false false x y = refl
 
 module _ (cells : List ℕ) (prior row far w gain v : ℕ) where
-  pub pair-start : BothTold false cells prior row 0 far w gain v
+  pub pair-start : BothFound false cells prior row 0 far w gain v
   pair-start = record {
     low-near = false;
     low-far = false;
@@ -51,7 +51,7 @@ module _ (cells : List ℕ) (prior row far w gain v : ℕ) where
   pub pair-next : (c : ℕ) (low below : Bool) (claim near other : ℕ)
       → below ≡ (ltb claim (near + gain) || ltb claim (other + (gain + v)))
       → claim ≡ at cells (row + (far + w) + c) → near ≡ at cells (prior + w + c) → other ≡ at cells (prior + c)
-      → BothTold low cells prior row c far w gain v → BothTold (low || below) cells prior row (c + 1) far w gain v
+      → BothFound low cells prior row c far w gain v → BothFound (low || below) cells prior row (c + 1) far w gain v
   pair-next c low below claim near other below-is claim-is near-is other-is t =
       let by-near : row + (far + w) + c ≡ row + w + far + c = omega arith in
       record {
@@ -64,8 +64,8 @@ module _ (cells : List ℕ) (prior row far w gain v : ℕ) where
         distant = pass-next cells prior row (far + w) (gain + v) c (t .low-far) _ claim other refl claim-is other-is (t .distant);
       }
 
-  pub pair-end : (low : Bool) (c left : ℕ) → c ≡ left → BothTold low cells prior row c far w gain v → BothTold low cells prior row left far w gain v
-  pair-end low c left all t = subst (λ (k : ℕ). BothTold low cells prior row k far w gain v) all t
+  pub pair-end : (low : Bool) (c left : ℕ) → c ≡ left → BothFound low cells prior row c far w gain v → BothFound low cells prior row left far w gain v
+  pair-end low c left all t = subst (λ (k : ℕ). BothFound low cells prior row k far w gain v) all t
 
 -- ---- all budgets
 
@@ -98,13 +98,13 @@ module _ (cells : List ℕ) (prior row left far w gain v : ℕ) where
     ];
   }
 
-  pub two-told : HighAt cells prior row w far gain → (r : Bool) → BothTold r cells prior row left far w gain v
-      → Tells r (LowEither cells prior row left far w gain v) (HighBoth cells prior row left far w gain v)
-  two-told light r t = by (t .low-near) (t .low-far) (t .together) (t .near) (t .distant)
+  pub two-found : HighAt cells prior row w far gain → (r : Bool) → BothFound r cells prior row left far w gain v
+      → Finds r (LowEither cells prior row left far w gain v) (HighBoth cells prior row left far w gain v)
+  two-found light r t = by (t .low-near) (t .low-far) (t .together) (t .near) (t .distant)
     where
       by : (a b : Bool) → r ≡ (a || b)
-          → Told cells (prior + w) (row + w) far gain a left → Told cells prior row (far + w) (gain + v) b left
-          → Tells r (LowEither cells prior row left far w gain v) (HighBoth cells prior row left far w gain v)
-      by true b e near distant = rw e (tells-low (at-first (heavy-low (near .broken refl))))
-      by false true e near distant = rw e (tells-low (at-second (distant .broken refl)))
-      by false false e near distant = rw e (tells-high (record { first = joined light (near .kept refl); second = distant .kept refl }))
+          → FoundSoFar cells (prior + w) (row + w) far gain a left → FoundSoFar cells prior row (far + w) (gain + v) b left
+          → Finds r (LowEither cells prior row left far w gain v) (HighBoth cells prior row left far w gain v)
+      by true b e near distant = rw e (finds-low (at-first (heavy-low (near .broken refl))))
+      by false true e near distant = rw e (finds-low (at-second (distant .broken refl)))
+      by false false e near distant = rw e (finds-high (record { first = joined light (near .kept refl); second = distant .kept refl }))

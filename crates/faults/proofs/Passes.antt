@@ -11,8 +11,8 @@ use lib.Dec.{ltb}
 use borrow.Author.Count.{below-more}
 use borrow.Author.Tests.{le-ltb, lt-ltb}
 use Rattle.meaning.specs.Lists.{at, if}
-use Rattle.faults.specs.Columns.{Tells, LowAt, HighAt}
-use Rattle.faults.proofs.Telling.{tells-low, tells-high}
+use Rattle.faults.specs.Columns.{Finds, LowAt, HighAt}
+use Rattle.faults.proofs.Finding.{finds-low, finds-high}
 
 -- ---- the code's test without a sum
 
@@ -57,11 +57,11 @@ count-next {Tell} low c one below one-is l t = record {
 
 module _ (cells : List ℕ) (prior row far gain : ℕ) where
   -- what is told of the first c budgets
-  abbrev pub Told : Bool → ℕ → Type 0
-  Told low c = Tells low (LowAt cells prior row c far gain) (HighAt cells prior row c far gain)
+  abbrev pub FoundSoFar : Bool → ℕ → Type 0
+  FoundSoFar low c = Finds low (LowAt cells prior row c far gain) (HighAt cells prior row c far gain)
 
-  pub pass-start : Told false 0
-  pass-start = tells-high (record { all = λ from h. absurd (omega arith) })
+  pub pass-start : FoundSoFar false 0
+  pass-start = finds-high (record { all = λ from h. absurd (omega arith) })
 
   module _ (c : ℕ) where
     -- what stands at the budget whose turn it is
@@ -72,20 +72,20 @@ module _ (cells : List ℕ) (prior row far gain : ℕ) where
     other-at = at cells (prior + c)
 
     -- one budget more
-    one-more : (low : Bool) → Told low c → Told (low || ltb claim-at (other-at + gain)) (c + 1)
-    one-more true t = let l = t .broken refl in tells-low (record { from = l .from; inside = omega (arith, l .inside); below = l .below })
+    one-more : (low : Bool) → FoundSoFar low c → FoundSoFar (low || ltb claim-at (other-at + gain)) (c + 1)
+    one-more true t = let l = t .broken refl in finds-low (record { from = l .from; inside = omega (arith, l .inside); below = l .below })
     one-more false t =
         elim (decLt claim-at (other-at + gain)) [
-          | yes below ↦ rw (lt-ltb claim-at (other-at + gain) below) (tells-low (record { from = c; inside = omega arith; below = below }))
+          | yes below ↦ rw (lt-ltb claim-at (other-at + gain) below) (finds-low (record { from = c; inside = omega arith; below = below }))
           | no above ↦
               rw (le-ltb claim-at (other-at + gain) (omega arith))
-              (tells-high (record {
+              (finds-high (record {
                 all = below-more (λ (m : ℕ). at cells (prior + m) + gain ≤ at cells (row + (m + far))) c (t .kept refl .all) (omega arith);
               }))
         ]
 
     pub pass-next : (low below : Bool) (claim other : ℕ) → below ≡ ltb claim (other + gain)
-        → claim ≡ at cells (row + far + c) → other ≡ at cells (prior + c) → Told low c → Told (low || below) (c + 1)
+        → claim ≡ at cells (row + far + c) → other ≡ at cells (prior + c) → FoundSoFar low c → FoundSoFar (low || below) (c + 1)
     pass-next low below claim other below-is claim-is other-is t =
         let place : row + far + c ≡ row + (c + far) = omega arith in
         let same : below ≡ ltb claim-at (other-at + gain) =
@@ -93,5 +93,5 @@ module _ (cells : List ℕ) (prior row far gain : ℕ) where
         rw same (one-more low t)
 
   -- all budgets are passed
-  pub pass-end : (low : Bool) (c left : ℕ) → c ≡ left → Told low c → Told low left
-  pass-end low c left all t = subst (Told low) all t
+  pub pass-end : (low : Bool) (c left : ℕ) → c ≡ left → FoundSoFar low c → FoundSoFar low left
+  pass-end low c left all t = subst (FoundSoFar low) all t

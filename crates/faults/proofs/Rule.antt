@@ -13,8 +13,8 @@ use Rattle.meaning.specs.Lists.{at}
 use Rattle.meaning.specs.Certificates.{someOf}
 use Rattle.meaning.proofs.Searches.{some-passes, none-pass}
 use Rattle.faults.specs.LowRows.{belowCount, belowOne, lowIn}
-use Rattle.faults.specs.Columns.{Tells, CopiesFit, Low, High, LowAt, HighAt}
-use Rattle.faults.proofs.Telling.{tells-is}
+use Rattle.faults.specs.Columns.{Finds, CopiesFit, Low, High, LowAt, HighAt}
+use Rattle.faults.proofs.Finding.{finds-is}
 use Rattle.faults.proofs.Cells.{same-cell, same-times}
 
 -- ---- the rule's test at budget c: so much weight fits, and the claim is below
@@ -115,11 +115,11 @@ module _ (end w weight : ℕ) (weight-is : weight ≡ min w end) where
             omega (arith, h .all from count (omega arith) (omega arith), ap (λ (m : ℕ). at cells (row + (from + m))) product);
       }
 
-    pub part-told : (cells : List ℕ) (row width v : ℕ) → width ≤ row → (r : Bool)
-        → Tells r (Low cells (row - width) row end weight v fit) (High cells (row - width) row end weight v fit)
+    pub part-found : (cells : List ℕ) (row width v : ℕ) → width ≤ row → (r : Bool)
+        → Finds r (Low cells (row - width) row end weight v fit) (High cells (row - width) row end weight v fit)
         → r ≡ someOf (lowIn cells row width w v copies) end
-    part-told cells row width v after r told =
-        tells-is r (someOf (lowIn cells row width w v copies) end)
+    part-found cells row width v after r told =
+        finds-is r (someOf (lowIn cells row width w v copies) end)
         (λ l. broken-row cells row width end w v copies after (own-low cells (row - width) row v l))
         (λ h. kept-row cells row width end w v copies after (own-high cells (row - width) row v h)) told
 
@@ -163,7 +163,7 @@ module _ (cells : List ℕ) (w v from end start : ℕ) (start-is : start ≡ max
               (omega (arith, h .all c (omega arith), ap (at cells) claim, ap (at cells) other))
         ])
 
-    pub stretch-told : (r : Bool)
-        → Tells r (LowAt cells (start - w) (start - w) (end - start) w v) (HighAt cells (start - w) (start - w) (end - start) w v)
+    pub stretch-found : (r : Bool)
+        → Finds r (LowAt cells (start - w) (start - w) (end - start) w v) (HighAt cells (start - w) (start - w) (end - start) w v)
         → r ≡ someOf low-after (end - from)
-    stretch-told r told = tells-is r (someOf low-after (end - from)) stretch-broken stretch-kept told
+    stretch-found r told = finds-is r (someOf low-after (end - from)) stretch-broken stretch-kept told

@@ -9,7 +9,7 @@ use lib.ListN.{length}
 use Rattle.meaning.specs.Lists.{at}
 
 -- the answer, with what stands behind either
-pub record Tells (r : Bool) (Broken Kept : Type 0) : Type 0 where
+pub record Finds (r : Bool) (Broken Kept : Type 0) : Type 0 where
   pub broken : r ≡ true → Broken
   pub kept : r ≡ false → Kept
 
@@ -54,12 +54,12 @@ pub record HighAt (cells : List ℕ) (prior row left far gain : ℕ) : Type 0 wh
 -- ---- two distances, the second w more than the first and worth v more
 
 -- over the budgets where both fit: what a pass for each would tell, together
-pub record BothTold (r : Bool) (cells : List ℕ) (prior row left far w gain v : ℕ) : Type 0 where
+pub record BothFound (r : Bool) (cells : List ℕ) (prior row left far w gain v : ℕ) : Type 0 where
   pub low-near : Bool
   pub low-far : Bool
   pub together : r ≡ (low-near || low-far)
-  pub near : Tells low-near (LowAt cells (prior + w) (row + w) left far gain) (HighAt cells (prior + w) (row + w) left far gain)
-  pub distant : Tells low-far (LowAt cells prior row left (far + w) (gain + v)) (HighAt cells prior row left (far + w) (gain + v))
+  pub near : Finds low-near (LowAt cells (prior + w) (row + w) left far gain) (HighAt cells (prior + w) (row + w) left far gain)
+  pub distant : Finds low-far (LowAt cells prior row left (far + w) (gain + v)) (HighAt cells prior row left (far + w) (gain + v))
 
 -- over all budgets: the claim is below at the first distance, or at the second
 pub data LowEither (cells : List ℕ) (prior row left far w gain v : ℕ) : Type 0 where

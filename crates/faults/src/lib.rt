@@ -1,6 +1,6 @@
 // Rule 14 on rows of claims: whether some claim is too low for a label. In a table a row is held to the row before it, in time that doesn't
 // grow with the copies and with no room lent; in a single row it is held to itself.
-// Few counts are passed one by one, each in vectors. For many, a row is cut into blocks of copies+1 weights. From a cell to one that is some
+// Few counts are passed two at a time, in vectors. For many, a row is cut into blocks of copies+1 weights. From a cell to one that is some
 // copies up, a step stays within its block or leads into the next. Within a block the greatest of the row before is carried up. Across
 // the border the least claim is carried up, against the cell that is all copies down.
 ghost use mathlib.Core.Path.{_≡_};
@@ -12,10 +12,11 @@ ghost use Rattle.meaning.specs.Lists.{at, if};
 ghost use Rattle.meaning.specs.Bytes.{numbersIn};
 ghost use Rattle.meaning.specs.Certificates.{someOf};
 ghost use Rattle.faults.specs.LowRows.{RowThere, Budgets, lowIn, belowOne};
-ghost use Rattle.faults.specs.Columns.{Tells, TwoRows, CopiesFit, Low, High, LowAt, HighAt, BothTold, LowEither, HighBoth};
+ghost use Rattle.faults.specs.Columns.{Finds, TwoRows, CopiesFit, Low, High, LowAt, HighAt, BothFound, LowEither, HighBoth};
 ghost use Rattle.faults.specs.Columns.{LowWithin, HighWithin, HighAcross, HighColumn, HighBlock};
 
-// Up to how many counts a pass for each is quicker.
+// Up to how many copies passes are quicker than blocks: a pass for two counts takes as long whatever they are, and blocks take as long
+// whatever the copies are.
 const FEW: usize = 13;
 
 // The greater of two numbers.
@@ -63,8 +64,8 @@ fn is_below(claim: u32, other: u32, v: u32) -> bool
     (claim < v) | (rest < other)
 }
 
-// 1 for a claim that is too low. Claims too low are counted in lanes of 32 bits, as wide as the claims: a lane of its own width for a bool
-// would have to be made narrower for each vector.
+// 1 for a claim that is too low. They are counted, in lanes of 32 bits as the claims are: bools are narrower, and each vector of
+// comparisons would have to be narrowed to them.
 fn one_if(low: bool) -> u32
     ensures { λ r. ⌜ (r ≡ if low 1 0) × (r ≤ 1) ⌝ }
 {
@@ -77,7 +78,7 @@ fn breaks_at(cells: &[u8], prior: usize, row: usize, left: usize, far: usize, ga
     requires { ⌜ left ≤ 65_536 ⌝ }
     requires { ⌜ prior + left ≤ length (numbersIn (now cells)) ⌝ }
     requires { ⌜ row + (left + far) ≤ length (numbersIn (now cells)) ⌝ }
-    ensures { λ r. ⌜ Tells r (LowAt (numbersIn (now (cells .entry))) prior row left far gain) (HighAt (numbersIn (now (cells .entry))) prior row left far gain) ⌝ }
+    ensures { λ r. ⌜ Finds r (LowAt (numbersIn (now (cells .entry))) prior row left far gain) (HighAt (numbersIn (now (cells .entry))) prior row left far gain) ⌝ }
 {
     let up = row + far;
     let mut low: u32 = 0;
@@ -116,7 +117,7 @@ fn breaks_pair(
     requires { ⌜ prior + (left + w) ≤ length (numbersIn (now cells)) ⌝ }
     requires { ⌜ row + (left + (far + w)) ≤ length (numbersIn (now cells)) ⌝ }
     requires { ⌜ gain + v ≤ 4_294_967_295 ⌝ }
-    ensures { λ r. ⌜ BothTold r (numbersIn (now (cells .entry))) prior row left far w gain v ⌝ }
+    ensures { λ r. ⌜ BothFound r (numbersIn (now (cells .entry))) prior row left far w gain v ⌝ }
 {
     let up = row + (far + w);
     let beside = prior + w;
@@ -148,7 +149,7 @@ fn breaks_two(
     requires { ⌜ prior + (left + w) ≤ length (numbersIn (now cells)) ⌝ }
     requires { ⌜ row + (left + (far + w)) ≤ length (numbersIn (now cells)) ⌝ }
     requires { ⌜ gain + v ≤ 4_294_967_295 ⌝ }
-    ensures { λ r. ⌜ Tells r (LowEither (numbersIn (now (cells .entry))) prior row left far w gain v)
+    ensures { λ r. ⌜ Finds r (LowEither (numbersIn (now (cells .entry))) prior row left far w gain v)
         (HighBoth (numbersIn (now (cells .entry))) prior row left far w gain v) ⌝ }
 {
     if breaks_at(cells, prior, row, w, far, gain) {
@@ -169,7 +170,7 @@ fn breaks_within(
 ) -> bool
     requires { ⌜ TwoRows (numbersIn (now cells)) prior row end ⌝ }
     requires { ⌜ (1 ≤ w) × (w ≤ 65_536) ⌝ }
-    ensures { λ r. ⌜ Tells r (LowWithin (numbersIn (now (cells .entry))) prior row end w v b) (HighWithin (numbersIn (now (cells .entry))) prior row end w v b) ⌝ }
+    ensures { λ r. ⌜ Finds r (LowWithin (numbersIn (now (cells .entry))) prior row end w v b) (HighWithin (numbersIn (now (cells .entry))) prior row end w v b) ⌝ }
 {
     let step = v as u64;
     let mut carried: u64 = 0;
@@ -199,7 +200,7 @@ fn breaks_across(
     requires { ⌜ TwoRows (numbersIn (now cells)) prior row width ⌝ }
     requires { ⌜ (1 ≤ w) × (w ≤ 65_536) ⌝ }
     requires { ⌜ (width ≤ 65_536) × (a + copies * w < width) ⌝ }
-    ensures { λ r. ⌜ Tells r (Low (numbersIn (now (cells .entry))) prior row width w v copies) (HighAcross (numbersIn (now (cells .entry))) prior row width w v copies a) ⌝ }
+    ensures { λ r. ⌜ Finds r (Low (numbersIn (now (cells .entry))) prior row width w v copies) (HighAcross (numbersIn (now (cells .entry))) prior row width w v copies a) ⌝ }
 {
     let step = v as u64;
     let gain = copies as u64 * step;
@@ -235,7 +236,7 @@ fn breaks_column(
     requires { ⌜ TwoRows (numbersIn (now cells)) prior row width ⌝ }
     requires { ⌜ CopiesFit width w copies ⌝ }
     requires { ⌜ b < width ⌝ }
-    ensures { λ r. ⌜ Tells r (Low (numbersIn (now (cells .entry))) prior row width w v copies) (HighColumn (numbersIn (now (cells .entry))) prior row width w v copies b) ⌝ }
+    ensures { λ r. ⌜ Finds r (Low (numbersIn (now (cells .entry))) prior row width w v copies) (HighColumn (numbersIn (now (cells .entry))) prior row width w v copies b) ⌝ }
 {
     let next = b + (copies * w + w);
     if breaks_within(cells, prior, row, nearer(next, width), w, v, b) {
@@ -261,7 +262,7 @@ fn breaks_block(
     requires { ⌜ TwoRows (numbersIn (now cells)) prior row width ⌝ }
     requires { ⌜ CopiesFit width w copies ⌝ }
     requires { ⌜ base < width ⌝ }
-    ensures { λ r. ⌜ Tells r (Low (numbersIn (now (cells .entry))) prior row width w v copies) (HighBlock (numbersIn (now (cells .entry))) prior row width w v copies base) ⌝ }
+    ensures { λ r. ⌜ Finds r (Low (numbersIn (now (cells .entry))) prior row width w v copies) (HighBlock (numbersIn (now (cells .entry))) prior row width w v copies base) ⌝ }
 {
     let stop = nearer(base + w, width);
     let mut b = base;
@@ -286,7 +287,7 @@ fn breaks_many(
 ) -> bool
     requires { ⌜ TwoRows (numbersIn (now cells)) prior row width ⌝ }
     requires { ⌜ CopiesFit width w copies ⌝ }
-    ensures { λ r. ⌜ Tells r (Low (numbersIn (now (cells .entry))) prior row width w v copies) (High (numbersIn (now (cells .entry))) prior row width w v copies) ⌝ }
+    ensures { λ r. ⌜ Finds r (Low (numbersIn (now (cells .entry))) prior row width w v copies) (High (numbersIn (now (cells .entry))) prior row width w v copies) ⌝ }
 {
     let span = copies * w + w;
     let mut base = 0;
@@ -313,7 +314,7 @@ fn breaks_few(
     requires { ⌜ TwoRows (numbersIn (now cells)) prior row width ⌝ }
     requires { ⌜ CopiesFit width w copies ⌝ }
     requires { ⌜ v ≤ 65_535 ⌝ }
-    ensures { λ r. ⌜ Tells r (Low (numbersIn (now (cells .entry))) prior row width w v copies) (High (numbersIn (now (cells .entry))) prior row width w v copies) ⌝ }
+    ensures { λ r. ⌜ Finds r (Low (numbersIn (now (cells .entry))) prior row width w v copies) (High (numbersIn (now (cells .entry))) prior row width w v copies) ⌝ }
 {
     if copies == 0 {
         return breaks_at(cells, prior, row, width, 0, 0);

@@ -20,8 +20,8 @@ use Rattle.meaning.specs.Refusals.{rulesOf}
 use Rattle.meaning.specs.Bytes.{JobRead, bytesOf, bytesOfAll, readJob, readable, sectionBytes, unreadable}
 use Rattle.meaning.specs.Knapsacks.{Best, Fits}
 use Rattle.meaning.specs.Answers.{verdictNumbers}
-use Rattle.meaning.specs.Certificates.{HasCertificates, cellAt, certificateCells, certifiedKnapsack, misvalued, mostPicks, overPicked, overweight}
-use Rattle.meaning.specs.Certificates.{verdictOf, verdictOnJob, Checked}
+use Rattle.meaning.specs.Certificates.{HasCertificates, cellAt, certificateCells, certifiedKnapsack, misvalued, mostPicks, overPicked}
+use Rattle.meaning.specs.Certificates.{overweight, verdictOf, verdictOnJob, Checked}
 use Rattle.meaning.specs.Demands.{AcceptedWith, Accepts, BestList, Demand3, Sound, ValidJob, areBytes, listIn}
 use Rattle.meaning.proofs.Totals.{total-part}
 use Rattle.meaning.proofs.OneOfEach.{best-value-unique}
@@ -72,8 +72,9 @@ module _ (k : Knapsack) (j : Job) (v : Valid k j) (picks cells : List ℕ) where
       let fits : Fits k j (labels j) (j .budget) picks = record {
         selection = record {
           one-each = long;
-          allowed =
-              λ m h. shown .allowed m (at picks m) (ltb-false _ _ (first-none (λ i. ltb (mostPicks k j i) (at picks i)) (labels j) (s .within-counts) m h));
+          allowed = λ m h.
+              shown .allowed m (at picks m)
+              (ltb-false _ _ (first-none (λ i. ltb (mostPicks k j i) (at picks i)) (labels j) (s .within-counts) m h));
         };
         weight = omega (arith, ltb-false, s .light);
       } in

@@ -13,8 +13,8 @@ use Rattle.meaning.specs.Blocks.{blockOrder, tooMany}
 use Rattle.meaning.specs.Shares.{startOf, remainderOf, spareOf, precedes, rankOf, shareOf, sharesOf}
 use Rattle.meaning.specs.Answers.{answerNumbers, verdictNumbers, writtenNumbers}
 use Rattle.meaning.specs.Solved.{waysAnswer}
-use Rattle.meaning.specs.Certificates.{orElse, first, someOf, mostPicks, certificateCells, certificateCell, cellAt, belowWith, lowInRow, lowForOne}
-use Rattle.meaning.specs.Certificates.{tooLow, overPicked, overweight, lowCell, misvalued, unlessFound, verdictOnCells, certificateBroken}
+use Rattle.meaning.specs.Certificates.{orElse, first, someOf, mostPicks, certificateCells, certificateCell, cellAt, belowWith, lowInRow}
+use Rattle.meaning.specs.Certificates.{lowForOne, tooLow, overPicked, overweight, lowCell, misvalued, unlessFound, verdictOnCells, certificateBroken}
 use Rattle.meaning.specs.Certificates.{verdictOnCertificate, certifiedKnapsack, verdictFor, unlessRefused, verdictOnJob, verdictOf}
 
 unfoldable pub opens : Unit {0}

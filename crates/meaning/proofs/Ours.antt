@@ -145,7 +145,8 @@ module _ (j : Job) (before after : Lent) (a : Answer) (out out′ : List ℕ) (n
   answered =
       answered-after (kindRefusal (roomFor kind j) kind j before) (roomFor kind j) (TableHolds kind j) kind j before after (answerNumbers a) refl
       (not-refused (roomFor kind j) k j after later keeps enough)
-      (kind-solved j before kind (kindRefusal (roomFor kind j) kind j before) a after (certified-kind (j .kind-number) k (wrote .of-knapsack)) refl solved)
+      (kind-solved j before kind (kindRefusal (roomFor kind j) kind j before) a after (certified-kind (j .kind-number) k (wrote .of-knapsack)) refl
+      solved)
 
   abbrev picks : List ℕ
   picks = answered .content .picks

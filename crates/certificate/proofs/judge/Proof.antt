@@ -62,7 +62,8 @@ module _ (s : tie.Start) where
 cells-are : (c : tie.After-knapsack-room) → certificateCells (knapsack (start c)) (job (start c)) ≡ c .knapsack-room .result .cells
 unfolding jobOf
 cells-are c =
-    let counted : RoomCounted (job (start c)) _ (c .knapsack-room .result) = c .knapsack-room .ensures in
+    let n = length (start c .args .weights .now) / 4 in
+    let counted : RoomCounted (job (start c)) n (c .knapsack-room .result) = c .knapsack-room .ensures in
     cells-needed (start c .pre) _ (labels-are (start c)) (c .knapsack-room .result) counted
 
 -- what is read first is the picks' section
@@ -92,7 +93,8 @@ module _ (c : tie.After-read-section2) where
   abbrev start-2 : tie.Start
   start-2 = start-picks (past-first c)
 
-  cells-asked : readSection (Exactly (certificateCells (knapsack start-2) (job start-2))) (bytes start-2) (picks (past-first c) .1 .1 .0) ≡ c .read-section2 .result
+  cells-asked : readSection (Exactly (certificateCells (knapsack start-2) (job start-2))) (bytes start-2) (picks (past-first c) .1 .1 .0)
+      ≡ c .read-section2 .result
   cells-asked =
       ap (λ (n : ℕ). readSection (Exactly n) (bytes start-2) (picks (past-first c) .1 .1 .0)) (cells-are (first-read (past-first c) .before))
       ∙ sym (c .read-section2 .ensures)

@@ -46,7 +46,8 @@ cells-counted : (c : tie.After-knapsack-room) → let j = counted-job (c .before
     certificateCells (knapsackIn (j .kind-number)) j ≡ c .knapsack-room .result .cells
 unfolding jobOf
 cells-counted c =
-    let room : RoomCounted (counted-job (c .before)) _ (c .knapsack-room .result) = c .knapsack-room .ensures in
+    let listed = c .before in
+    let room : RoomCounted (counted-job listed) (listed .list-length .result) (c .knapsack-room .result) = c .knapsack-room .ensures in
     cells-needed (has (c .before .before)) _ (counted (c .before)) (c .knapsack-room .result) room
 
 job-refusal-requires : tie.Need-job-refusal-requires

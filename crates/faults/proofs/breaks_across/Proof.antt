@@ -5,7 +5,7 @@ use native.Mathlib.Omega.{arith}
 use borrow.Author.Needs.{needs}
 use Rattle.meaning.specs.Bytes.{numbersIn}
 use Rattle.meaning.proofs.Numbers.{numbers-long}
-use Rattle.faults.proofs.Telling.{tells-low, tells-high}
+use Rattle.faults.proofs.Finding.{finds-low, finds-high}
 use Rattle.faults.proofs.Across.{all-worth, Crossed, crossed-start, crossed-fits, crossed-low, crossed-inside, crossed-outside, all-crossed}
 use Rattle.faults.proofs.breaks_across.Statement.{statement}
 use Rattle.faults.proofs.breaks_across.Tie as tie
@@ -76,7 +76,7 @@ add-if1 c = omega (arith, c .cell2 .ensures .1, worth (entry c))
 returns : tie.Need-returns Inv-loop μ-loop
 returns c =
     let other = c .before in
-    tells-low (crossed-low _ _ _ _ _ _ _ _ _ _ _ (head other .loop .inv) (other .before .loop-test .taken) _ (other .cell2 .ensures .0)
+    finds-low (crossed-low _ _ _ _ _ _ _ _ _ _ _ (head other .loop .inv) (other .before .loop-test .taken) _ (other .cell2 .ensures .0)
     (c .if1 .taken))
 
 add-x : tie.Need-add-x Inv-loop μ-loop
@@ -119,7 +119,7 @@ loop-again-2 c =
     (c .before .if1 .left) (omega arith) (c .if2 .left)
 
 returns-2 : tie.Need-returns-2 Inv-loop μ-loop
-returns-2 c = let h = c .before in tells-high (all-crossed _ _ _ _ _ _ _ _ _ _ _ (h .loop .inv) (start h .pre .1 .0 .0) (omega arith))
+returns-2 c = let h = c .before in finds-high (all-crossed _ _ _ _ _ _ _ _ _ _ _ (h .loop .inv) (start h .pre .1 .0 .0) (omega arith))
 
 pub breaks-across-spec : {M : Type 1} → statement M
 breaks-across-spec =

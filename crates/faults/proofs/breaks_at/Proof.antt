@@ -5,12 +5,12 @@ use native.Mathlib.Omega.{arith}
 use borrow.Author.Needs.{needs}
 use Rattle.meaning.specs.Bytes.{numbersIn}
 use Rattle.meaning.proofs.Numbers.{numbers-long}
-use Rattle.faults.proofs.Passes.{CountedLow, Told, count-next, count-start, pass-start, pass-next, pass-end}
+use Rattle.faults.proofs.Passes.{CountedLow, FoundSoFar, count-next, count-start, pass-start, pass-next, pass-end}
 use Rattle.faults.proofs.breaks_at.Statement.{statement}
 use Rattle.faults.proofs.breaks_at.Tie as tie
 
 abbrev Inv-loop : tie.InvT-loop
-Inv-loop cells prior row left far gain up low₀ c₀ low c = (c ≤ left) × CountedLow (Told (numbersIn cells) prior row far gain) low c
+Inv-loop cells prior row left far gain up low₀ c₀ low c = (c ≤ left) × CountedLow (FoundSoFar (numbersIn cells) prior row far gain) low c
 
 abbrev μ-loop : tie.MeasureT-loop
 μ-loop cells prior row left far gain up low₀ c₀ low c = left - c

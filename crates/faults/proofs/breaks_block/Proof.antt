@@ -4,7 +4,7 @@ use Prim.Native.Nat.{_-_}
 use native.Mathlib.Omega.{arith}
 use borrow.Author.Needs.{needs}
 use Rattle.meaning.specs.Bytes.{numbersIn}
-use Rattle.faults.proofs.Telling.{tells-low, tells-high}
+use Rattle.faults.proofs.Finding.{finds-low, finds-high}
 use Rattle.faults.proofs.Blocks.{ColumnsKept, columns-start, columns-next, columns-all}
 use Rattle.faults.proofs.breaks_block.Statement.{statement}
 use Rattle.faults.proofs.breaks_block.Tie as tie
@@ -38,7 +38,7 @@ breaks-column-requires c κs =
     (start cut .pre .0, (start cut .pre .1 .0, omega (arith, cut .nearer .ensures)))
 
 returns : tie.Need-returns Inv-loop μ-loop
-returns c = tells-low (c .before .breaks-column .ensures .broken (c .if1 .taken))
+returns c = finds-low (c .before .breaks-column .ensures .broken (c .if1 .taken))
 
 add-b : tie.Need-add-b Inv-loop μ-loop
 add-b c = omega arith
@@ -53,7 +53,7 @@ loop-again c =
 returns-2 : tie.Need-returns-2 Inv-loop μ-loop
 returns-2 c =
     let h = c .before in
-    tells-high (columns-all _ _ _ _ _ _ _ _ _ (omega (arith, h .before .nearer .ensures)) (h .loop .inv))
+    finds-high (columns-all _ _ _ _ _ _ _ _ _ (omega (arith, h .before .nearer .ensures)) (h .loop .inv))
 
 pub breaks-block-spec : {M : Type 1} → statement M
 breaks-block-spec =

@@ -1,8 +1,8 @@
 -- `faults::breaks_column` meets its contract: within the block, and into the next one where there is one.
 -- Assumes nothing.
 use borrow.Author.Needs.{needs}
-use Rattle.faults.proofs.Telling.{tells-low, tells-high}
-use Rattle.faults.proofs.Blocks.{column-low, column-last, column-told}
+use Rattle.faults.proofs.Finding.{finds-low, finds-high}
+use Rattle.faults.proofs.Blocks.{column-low, column-last, column-found}
 use Rattle.faults.proofs.breaks_column.Statement.{statement}
 use Rattle.faults.proofs.breaks_column.Tie as tie
 
@@ -28,13 +28,13 @@ breaks-within-requires c κs = search needs
 returns : tie.Need-returns
 returns c =
     let told = c .before in
-    tells-low (column-low _ _ _ _ _ _ _ _ _ (told .before .nearer .ensures) (told .breaks-within .ensures .broken (c .if1 .taken)))
+    finds-low (column-low _ _ _ _ _ _ _ _ _ (told .before .nearer .ensures) (told .breaks-within .ensures .broken (c .if1 .taken)))
 
 returns-2 : tie.Need-returns-2
 returns-2 c =
     let told = c .before .before in
     let cut = told .before in
-    tells-high (column-last _ _ _ _ _ _ _ _ _ (cut .nearer .ensures) (start cut .pre .1 .0 .weighs)
+    finds-high (column-last _ _ _ _ _ _ _ _ _ (cut .nearer .ensures) (start cut .pre .1 .0 .weighs)
     (told .breaks-within .ensures .kept (c .before .if1 .left)) (c .if2 .taken))
 
 add-breaks-across : tie.Need-add-breaks-across
@@ -48,7 +48,7 @@ returns-3 c =
     let high = c .before .before in
     let told = high .before in
     let cut = told .before in
-    column-told _ _ _ _ _ _ _ _ _ (cut .nearer .ensures) (start cut .pre .1 .0 .weighs)
+    column-found _ _ _ _ _ _ _ _ _ (cut .nearer .ensures) (start cut .pre .1 .0 .weighs)
     (told .breaks-within .ensures .kept (high .if1 .left)) _ (c .breaks-across .ensures)
 
 pub breaks-column-spec : {M : Type 1} → statement M

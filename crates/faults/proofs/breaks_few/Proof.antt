@@ -5,10 +5,10 @@ use Prim.Native.Nat.{_≤_, _<_, _+_, _-_}
 use native.Mathlib.Omega.{arith}
 use Rattle.meaning.specs.Bytes.{numbersIn}
 use Rattle.faults.specs.Columns.{CopiesFit}
-use Rattle.faults.proofs.Telling.{tells-low, tells-high}
+use Rattle.faults.proofs.Finding.{finds-low, finds-high}
 use Rattle.faults.proofs.Cells.{few-copies}
 use Rattle.faults.proofs.Counts.{CountsPassed, counts-start, gain-fits, two-fit, two-low, two-next, counts-all}
-use Rattle.faults.proofs.Counts.{last-fits, last-told, some-copies}
+use Rattle.faults.proofs.Counts.{last-fits, last-found, some-copies}
 use Rattle.faults.proofs.breaks_few.Statement.{statement}
 use Rattle.faults.proofs.breaks_few.Tie as tie
 
@@ -81,7 +81,7 @@ breaks-at-requires c κs =
 returns : tie.Need-returns Inv-loop μ-loop
 returns c =
     let s = c .before .before .before in
-    last-told _ _ _ _ _ _ _ (s .pre .1 .0) _ _ _ (none-passed s) (sym (c .before .if1 .taken)) _ (omega arith) _
+    last-found _ _ _ _ _ _ _ (s .pre .1 .0) _ _ _ (none-passed s) (sym (c .before .if1 .taken)) _ (omega arith) _
     (c .breaks-at .ensures)
 
 sub-breaks-two : tie.Need-sub-breaks-two Inv-loop μ-loop
@@ -102,7 +102,7 @@ returns-2 : tie.Need-returns-2 Inv-loop μ-loop
 returns-2 c =
     let first = c .before in
     let s = entry (first .before) in
-    tells-low (two-low _ _ _ _ _ _ _ (s .pre .1 .0) _ _ _ (none-passed s) (one-fits (first .before)) _ (omega arith)
+    finds-low (two-low _ _ _ _ _ _ _ (s .pre .1 .0) _ _ _ (none-passed s) (one-fits (first .before)) _ (omega arith)
     (first .breaks-two .ensures .broken (c .if2 .taken)))
 
 add-far : tie.Need-add-far Inv-loop μ-loop
@@ -139,7 +139,7 @@ breaks-two-requires-2 c κs =
 returns-3 : tie.Need-returns-3 Inv-loop μ-loop
 returns-3 c =
     let t = c .before .before in
-    tells-low (two-low _ _ _ _ _ _ _ (fitting (head t)) _ _ _ (passed (head t)) (t .loop-test .taken) _ refl
+    finds-low (two-low _ _ _ _ _ _ _ (fitting (head t)) _ _ _ (passed (head t)) (t .loop-test .taken) _ refl
     (c .before .breaks-two2 .ensures .broken (c .if3 .taken)))
 
 add-far-2 : tie.Need-add-far-2 Inv-loop μ-loop
@@ -171,7 +171,7 @@ loop-again c =
     )
 
 returns-4 : tie.Need-returns-4 Inv-loop μ-loop
-returns-4 c = tells-high (counts-all _ _ _ _ _ _ _ _ _ _ (omega (arith, c .if4 .taken)) (passed (c .before .before)))
+returns-4 c = finds-high (counts-all _ _ _ _ _ _ _ _ _ _ (omega (arith, c .if4 .taken)) (passed (c .before .before)))
 
 sub-breaks-at : tie.Need-sub-breaks-at Inv-loop μ-loop
 sub-breaks-at c = omega (arith, last-room c)
@@ -186,7 +186,7 @@ breaks-at-requires-2 c κs =
 returns-5 : tie.Need-returns-5 Inv-loop μ-loop
 returns-5 c =
     let h = end (c .before) in
-    last-told _ _ _ _ _ _ _ (fitting h) _ _ _ (passed h) (last (c .before)) _ refl _ (c .breaks-at2 .ensures)
+    last-found _ _ _ _ _ _ _ (fitting h) _ _ _ (passed h) (last (c .before)) _ refl _ (c .breaks-at2 .ensures)
 
 pub breaks-few-spec : {M : Type 1} → statement M
 breaks-few-spec =

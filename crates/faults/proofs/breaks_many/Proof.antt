@@ -4,7 +4,7 @@ use Prim.Native.Nat.{_-_}
 use native.Mathlib.Omega.{arith}
 use Rattle.meaning.specs.Bytes.{numbersIn}
 use Rattle.faults.specs.Columns.{CopiesFit}
-use Rattle.faults.proofs.Telling.{tells-low, tells-high}
+use Rattle.faults.proofs.Finding.{finds-low, finds-high}
 use Rattle.faults.proofs.Blocks.{BlocksKept, blocks-start, blocks-next, blocks-all}
 use Rattle.faults.proofs.breaks_many.Statement.{statement}
 use Rattle.faults.proofs.breaks_many.Tie as tie
@@ -41,7 +41,7 @@ breaks-block-requires : tie.Need-breaks-block-requires Inv-loop μ-loop
 breaks-block-requires c κs = let s = start (c .before) in (s .pre .0, (s .pre .1, omega arith))
 
 returns : tie.Need-returns Inv-loop μ-loop
-returns c = tells-low (c .before .breaks-block .ensures .broken (c .if1 .taken))
+returns c = finds-low (c .before .breaks-block .ensures .broken (c .if1 .taken))
 
 add-base : tie.Need-add-base Inv-loop μ-loop
 add-base c = let f = fitting (c .before) in omega (arith, f .fit, f .narrow, f .light)
@@ -53,7 +53,7 @@ loop-again : tie.Need-loop-again Inv-loop μ-loop
 loop-again c = blocks-next _ _ _ _ _ _ _ _ (head (c .before) .loop .inv) (c .before .breaks-block .ensures .kept (c .if1 .left))
 
 returns-2 : tie.Need-returns-2 Inv-loop μ-loop
-returns-2 c = let h = c .before in tells-high (blocks-all _ _ _ _ _ _ _ _ (start h .pre .1 .weighs) (omega arith) (h .loop .inv))
+returns-2 c = let h = c .before in finds-high (blocks-all _ _ _ _ _ _ _ _ (start h .pre .1 .weighs) (omega arith) (h .loop .inv))
 
 pub breaks-many-spec : {M : Type 1} → statement M
 breaks-many-spec =

@@ -5,7 +5,7 @@ use native.Mathlib.Omega.{arith}
 use borrow.Author.Needs.{needs}
 use Rattle.meaning.specs.Bytes.{numbersIn}
 use Rattle.meaning.proofs.Numbers.{numbers-long}
-use Rattle.faults.specs.Columns.{BothTold}
+use Rattle.faults.specs.Columns.{BothFound}
 use Rattle.faults.proofs.Passes.{CountedLow, count-next, count-start}
 use Rattle.faults.proofs.Pairs.{pair-start, pair-next, pair-end}
 use Rattle.faults.proofs.breaks_pair.Statement.{statement}
@@ -13,7 +13,7 @@ use Rattle.faults.proofs.breaks_pair.Tie as tie
 
 abbrev Inv-loop : tie.InvT-loop
 Inv-loop cells prior row left far w gain v up beside more low₀ c₀ low c =
-    (c ≤ left) × CountedLow (λ b d. BothTold b (numbersIn cells) prior row d far w gain v) low c
+    (c ≤ left) × CountedLow (λ b d. BothFound b (numbersIn cells) prior row d far w gain v) low c
 
 abbrev μ-loop : tie.MeasureT-loop
 μ-loop cells prior row left far w gain v up beside more low₀ c₀ low c = left - c

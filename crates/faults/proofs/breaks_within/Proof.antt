@@ -5,7 +5,7 @@ use native.Mathlib.Omega.{arith}
 use borrow.Author.Needs.{needs}
 use Rattle.meaning.specs.Bytes.{numbersIn}
 use Rattle.meaning.proofs.Numbers.{numbers-long}
-use Rattle.faults.proofs.Telling.{tells-low, tells-high}
+use Rattle.faults.proofs.Finding.{finds-low, finds-high}
 use Rattle.faults.proofs.Within.{ColumnPassed, passed-start, low-here, passed-next, all-passed}
 use Rattle.faults.proofs.breaks_within.Statement.{statement}
 use Rattle.faults.proofs.breaks_within.Tie as tie
@@ -52,7 +52,7 @@ returns : tie.Need-returns Inv-loop μ-loop
 returns c =
     let claim = c .before in
     let other = read claim in
-    tells-low (low-here _ _ _ _ _ _ _ _ _ (head other .loop .inv .1) _ _ _ (other .cell .ensures .0) (claim .cell2 .ensures .0)
+    finds-low (low-here _ _ _ _ _ _ _ _ _ (head other .loop .inv .1) _ _ _ (other .cell .ensures .0) (claim .cell2 .ensures .0)
     (claim .before .greater .ensures) (omega arith) (c .if1 .taken))
 
 add-carried : tie.Need-add-carried Inv-loop μ-loop
@@ -76,7 +76,7 @@ loop-again c =
     )
 
 returns-2 : tie.Need-returns-2 Inv-loop μ-loop
-returns-2 c = tells-high (all-passed _ _ _ _ _ _ _ _ _ (omega arith) (c .before .loop .inv .1))
+returns-2 c = finds-high (all-passed _ _ _ _ _ _ _ _ _ (omega arith) (c .before .loop .inv .1))
 
 pub breaks-within-spec : {M : Type 1} → statement M
 breaks-within-spec =

@@ -8,8 +8,8 @@ use borrow.Author.Needs.{needs}
 use Rattle.meaning.specs.Bytes.{numbersIn}
 use Rattle.meaning.specs.Certificates.{someOf}
 use Rattle.faults.specs.LowRows.{lowIn}
-use Rattle.faults.specs.Columns.{Tells, TwoRows, CopiesFit, Low, High}
-use Rattle.faults.proofs.Rule.{part-fits, part-told}
+use Rattle.faults.specs.Columns.{Finds, TwoRows, CopiesFit, Low, High}
+use Rattle.faults.proofs.Rule.{part-fits, part-found}
 use Rattle.faults.proofs.row_breaks.Statement.{statement}
 use Rattle.faults.proofs.row_breaks.Tie as tie
 
@@ -33,11 +33,11 @@ module _ (c : tie.After-nearer2) where
   -- what is found for them is the rule's answer
   told : let a = start .args in (r : Bool)
       → let w = c .before .nearer .result in let copies = c .nearer2 .result in let claims = numbersIn (a .cells .now) in
-      Tells r (Low claims (a .row - a .width) (a .row) (a .end) w (a .v) copies) (High claims (a .row - a .width) (a .row) (a .end) w (a .v) copies)
+      Finds r (Low claims (a .row - a .width) (a .row) (a .end) w (a .v) copies) (High claims (a .row - a .width) (a .row) (a .end) w (a .v) copies)
       → r ≡ someOf (lowIn claims (a .row) (a .width) (a .w) (a .v) (a .most)) (a .end)
   told =
       let part = start .pre .1 in
-      part-told _ (start .args .w) _ (c .before .nearer .ensures) _ _ (part .weighs) (part .some) (c .nearer2 .ensures)
+      part-found _ (start .args .w) _ (c .before .nearer .ensures) _ _ (part .weighs) (part .some) (c .nearer2 .ensures)
       _ _ (start .args .width) _ (start .pre .0 .not-first)
 
 sub-prior : tie.Need-sub-prior

@@ -2,7 +2,7 @@
 -- Assumes nothing.
 use borrow.Author.Needs.{needs}
 use Rattle.meaning.specs.Bytes.{numbersIn}
-use Rattle.faults.proofs.Rule.{too-heavy, stretch-told}
+use Rattle.faults.proofs.Rule.{too-heavy, stretch-found}
 use Rattle.faults.proofs.stretch_breaks.Statement.{statement}
 use Rattle.faults.proofs.stretch_breaks.Tie as tie
 
@@ -25,7 +25,7 @@ returns-2 : tie.Need-returns-2
 returns-2 c =
     let far = c .before .before in
     let a = far .before .before .args in
-    stretch-told (numbersIn (a .cells .now)) (a .w) (a .v) (a .from) (a .end) (far .farther .result) (far .farther .ensures) (c .before .if1 .left)
+    stretch-found (numbersIn (a .cells .now)) (a .w) (a .v) (a .from) (a .end) (far .farther .result) (far .farther .ensures) (c .before .if1 .left)
     (c .breaks-at .result) (c .breaks-at .ensures)
 
 pub stretch-breaks-spec : {M : Type 1} → statement M
