@@ -1,13 +1,28 @@
 -- Verdicts on corner certificates, and on jobs that have none.
 -- Assumes nothing.
-use mathlib.Core.Path.{refl}
-use Prim.Native.Nat.{ℕ}
+use mathlib.Core.Path.{_≡_, refl, _∙_}
+use mathlib.Core.Option.{none}
+use Prim.Native.Nat.{ℕ, suc, _≤_, _<_}
+use native.Mathlib.Omega.{arith}
+use mathlib.Core.Bool.{false}
 use mathlib.Core.List.{List, [], _++_, _∷_}
+use lib.Dec.{lit≤, ltb}
+use borrow.Author.Count.{below-more}
+use borrow.Author.Tests.{le-ltb}
 use Rattle.meaning.specs.declared.Verdict.{Verdict}
 use Rattle.meaning.specs.declared.Verdict.the-variants.{Accepted, Refused}
+use Rattle.meaning.specs.Lists.{if, total}
+use Rattle.meaning.specs.Job.{Job, jobOf, labels, limited}
+use Rattle.meaning.specs.Bounds.{mostCopies}
+use Rattle.meaning.specs.Lent.{cellCount}
+use Rattle.meaning.specs.Knapsacks.{cellNumber}
 use Rattle.meaning.specs.Bytes.{jobBytes, sectionBytes}
-use Rattle.meaning.specs.Certificates.{verdictOf}
+use Rattle.meaning.specs.Certificates.{belowWith, cellAt, certificateCell, certificateCells, first, lowCell, lowInRow, misvalued, mostPicks, orElse}
+use Rattle.meaning.specs.Certificates.{overPicked, overweight, someOf, tooLow, verdictOf, verdictOnCells}
 use Rattle.meaning.specs.Trials.{certJ, jobJ}
+use Rattle.meaning.proofs.Searches.{none-first}
+use Rattle.meaning.proofs.Covering.{copies-past}
+use Rattle.meaning.proofs.Verdicts.{accepts-seen}
 use Rattle.meaning.proofs.Opens.{opens}
 use Rattle.meaning.proofs.Cases.{plain}
 use Rattle.meaning.proofs.Computing.{Computes, _gives_}
@@ -73,7 +88,6 @@ verdicts-copied : Computes judge (
     ∷ (copied 3 0, written (1 ∷ []) (0 ∷ 0 ∷ 0 ∷ 0 ∷ 0 ∷ 0 ∷ [])) gives Refused 12 0  -- one picked of them
     ∷ (copied 3 2, written (3 ∷ []) (0 ∷ 0 ∷ 0 ∷ 0 ∷ 3 ∷ 6 ∷ [])) gives Refused 12 0  -- a pick more than the copies
     ∷ (copied 3 3, written (3 ∷ []) (0 ∷ 0 ∷ 0 ∷ 0 ∷ 3 ∷ 6 ∷ [])) gives Refused 13 0  -- as many, and too heavy
-    ∷ (copied 3 65_535, written (2 ∷ []) (0 ∷ 0 ∷ 0 ∷ 0 ∷ 3 ∷ 6 ∷ [])) gives Accepted 6  -- the most copies
     ∷ (copied 3 65_535, written (65_535 ∷ []) (0 ∷ 0 ∷ 0 ∷ 0 ∷ 3 ∷ 6 ∷ [])) gives Refused 13 0  -- the most copies, all of them picked
     ∷ (copied 3 65_535, written (65_536 ∷ []) (0 ∷ 0 ∷ 0 ∷ 0 ∷ 3 ∷ 6 ∷ [])) gives Refused 12 0  -- one more
     ∷ (copied 3 65_536, []) gives Refused 5 0  -- a copies number past its bound
@@ -91,6 +105,60 @@ verdicts-copied : Computes judge (
     )
 unfolding opens copied written
 verdicts-copied = refl
+
+-- however many copies there are, of which two fit: their number isn't counted out
+module _ (copies : ℕ) (two-or-more : 2 ≤ copies) where
+  abbrev many : Job
+  many = plain 2 2 (1 ∷ []) (3 ∷ []) (copies ∷ [])
+
+  abbrev exact : List ℕ
+  exact = 0 ∷ 0 ∷ 0 ∷ 0 ∷ 3 ∷ 6 ∷ []
+
+  in-row-0 : (c : ℕ) → lowInRow limited many exact 0 c ≡ false
+  unfolding lowInRow
+  in-row-0 c = refl
+
+  in-row-1 : (c : ℕ) → c ≤ 2 → someOf (belowWith limited many exact 0 c) (suc c) ≡ false → lowInRow limited many exact 1 c ≡ false
+  unfolding lowInRow mostPicks jobOf
+  in-row-1 c h kept = copies-past limited many exact 0 c copies (lit≤ tt) (omega arith) ∙ kept
+
+  budget-0 : lowInRow limited many exact 1 0 ≡ false
+  unfolding opens
+  budget-0 = in-row-1 0 (lit≤ tt) refl
+
+  budget-1 : lowInRow limited many exact 1 1 ≡ false
+  unfolding opens
+  budget-1 = in-row-1 1 (lit≤ tt) refl
+
+  budget-2 : lowInRow limited many exact 1 2 ≡ false
+  unfolding opens
+  budget-2 = in-row-1 2 (lit≤ tt) refl
+
+  -- one cell after the other
+  more : (n : ℕ) → ((m : ℕ) → m < n → tooLow limited many exact m ≡ false) → tooLow limited many exact n ≡ false
+      → (m : ℕ) → m < suc n → tooLow limited many exact m ≡ false
+  more n before here m h = below-more (λ (x : ℕ). tooLow limited many exact x ≡ false) n before here m (omega arith)
+
+  none-low : lowCell limited many exact ≡ none
+  unfolding lowCell certificateCells cellCount jobOf labels tooLow
+  none-low =
+      none-first (tooLow limited many exact) 6
+      (more 5 (more 4 (more 3 (more 2 (more 1 (more 0 (λ m h. absurd (omega arith)) (in-row-0 0)) (in-row-0 1)) (in-row-0 2)) budget-0) budget-1)
+      budget-2)
+
+  within : ltb copies 2 ≡ false
+  within = le-ltb copies 2 two-or-more
+
+  many-copies : verdictOnCells limited many (2 ∷ []) exact ≡ Accepted 6
+  unfolding overPicked overweight misvalued mostPicks first orElse if jobOf labels total cellAt certificateCell cellNumber
+  many-copies =
+      accepts-seen limited many (2 ∷ []) exact 6
+      (record { within-counts = rw within refl; light = refl; rule-kept = none-low; same = refl; value = refl })
+
+-- the most of them
+most-copies : verdictOnCells limited (plain 2 2 (1 ∷ []) (3 ∷ []) (mostCopies ∷ [])) (2 ∷ []) (0 ∷ 0 ∷ 0 ∷ 0 ∷ 3 ∷ 6 ∷ []) ≡ Accepted 6
+unfolding mostCopies
+most-copies = many-copies mostCopies (lit≤ tt)
 
 -- ---- kind 3
 

@@ -23,7 +23,7 @@ use Rattle.meaning.proofs.Steps.{fits-less, fits-more}
 use Rattle.meaning.proofs.Free.{free-more}
 use Rattle.meaning.proofs.CellNumbers.{CellOf, RowAndBudget, cell-of, row-and-budget}
 use Rattle.meaning.proofs.Valid.{Valid, weight-rule}
-use Rattle.meaning.proofs.Searches.{first-none, none-first, none-pass, none-passes}
+use Rattle.meaning.proofs.Searches.{first-none, none-first, none-pass, none-passes, some-fewer}
 
 -- ---- rule 14 at one count, as an order
 
@@ -329,7 +329,15 @@ module _ (j : Job) (cells : List ℕ) where
   unfolding belowWith cellAt certificateCell
   rule-14-free i c = simp mul-one
 
--- so cell 0 of kind 3 is never too low: every label weighs more than 0
+-- counts that weigh more than the budget aren't asked about, so copies past it change nothing
+pub copies-past : (k : Knapsack) (j : Job) (cells : List ℕ) (i c most : ℕ) → 1 ≤ at (j .weights) i → c ≤ most
+    → someOf (belowWith k j cells i c) (suc most) ≡ someOf (belowWith k j cells i c) (suc c)
+copies-past k j cells i c most weighs past =
+    some-fewer (belowWith k j cells i c) (suc most) (suc c) (omega arith)
+    (λ x above below. below-not k j cells i c x
+    (λ light. absurd (omega (arith, le-mul-of-pos-right {m = at (j .weights) i} x weighs, mul-comm x (at (j .weights) i)))))
+
+-- cell 0 of kind 3 is never too low: every label weighs more than 0
 pub cell-0-kept : (j : Job) → Valid free j → (cells : List ℕ) → tooLow free j cells 0 ≡ false
 unfolding tooLow lowForOne
 cell-0-kept j v cells =

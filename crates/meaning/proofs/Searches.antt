@@ -3,21 +3,17 @@
 use mathlib.Core.Path.{_≡_, refl, sym, ap, ap₂, _∙_}
 use mathlib.Core.Logic.{_⊎_, inl, inr}
 use mathlib.Core.Option.{Option, none, some}
-use Prim.Native.Nat.{ℕ, suc, zero, _+_, _<_}
+use Prim.Native.Nat.{ℕ, suc, zero, _+_, _≤_, _<_}
 use native.Mathlib.Nat.{add-zero, le-refl, not-suc-le-zero}
 use native.Mathlib.Numerals.{add-one}
 use native.Mathlib.Decide.{decLt}
 use native.Mathlib.Omega.{arith}
-use mathlib.Core.Bool.{Bool, true, false, _||_}
+use mathlib.Core.Bool.{Bool, true, false, _||_, or-true, or-false}
 use borrow.Author.Count.{below-more}
 use Rattle.meaning.specs.Lists.{if}
 use Rattle.meaning.specs.Certificates.{first, orElse, someOf}
 
 -- ---- whether some does
-
-or-true : (b : Bool) → (b || true) ≡ true
-or-true true = refl
-or-true false = refl
 
 or-neither : (a b : Bool) → (a || b) ≡ false → (a ≡ false) × (b ≡ false)
 or-neither true b e = (e, let c : true ≡ false = e in cc)
@@ -67,6 +63,18 @@ module _ (test : ℕ → Bool) where
   none-passes (suc n) e i h =
       let (before, here) = or-neither (someOf test n) (test n) e in
       below-more (λ (x : ℕ). test x ≡ false) n (none-passes n before) here i (omega arith)
+
+-- those that fail needn't be asked
+pub some-fewer : (test : ℕ → Bool) (n m : ℕ) → m ≤ n → ((i : ℕ) → m ≤ i → i < n → test i ≡ false) → someOf test n ≡ someOf test m
+unfolding someOf
+some-fewer test zero m h fail = let same : 0 ≡ m = omega arith in ap (someOf test) same
+some-fewer test (suc n) m h fail =
+    elim (decLt n m) [
+      | yes all ↦ let same : suc n ≡ m = omega arith in ap (someOf test) same
+      | no less ↦
+          let before = some-fewer test n m (omega arith) (λ i above below. fail i above (omega arith)) in
+          ap₂ _||_ before (fail n (omega arith) (le-refl (suc n))) ∙ or-false (someOf test m)
+    ]
 
 -- two tests that agree on them
 pub some-same : (f g : ℕ → Bool) (n : ℕ) → ((i : ℕ) → i < n → f i ≡ g i) → someOf f n ≡ someOf g n
