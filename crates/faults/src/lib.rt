@@ -17,7 +17,7 @@ ghost use Rattle.faults.specs.Columns.{LowWithin, HighWithin, HighAcross
 
 // Up to how many copies passes are quicker than blocks: a pass for two counts takes as long whatever they are, and blocks take as long
 // whatever the copies are.
-const FEW: usize = 13;
+const FEW: usize = 20;
 
 // The greater of two numbers.
 fn greater(a: u64, b: u64) -> u64
