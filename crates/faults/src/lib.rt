@@ -26,21 +26,21 @@ fn greater(a: u64, b: u64) -> u64
     if a < b { b } else { a }
 }
 
-// The less of two numbers.
-fn less(a: u64, b: u64) -> u64
+// The lesser of two numbers.
+fn lesser(a: u64, b: u64) -> u64
     ensures { λ r. ⌜ r ≡ min a b ⌝ }
 {
     if a < b { a } else { b }
 }
 
-// The less of two places.
+// The nearer of two places.
 fn nearer(a: usize, b: usize) -> usize
     ensures { λ r. ⌜ r ≡ min a b ⌝ }
 {
     if a < b { a } else { b }
 }
 
-// The greater of two places.
+// The farther of two places.
 fn farther(a: usize, b: usize) -> usize
     ensures { λ r. ⌜ r ≡ max a b ⌝ }
 {
@@ -216,7 +216,7 @@ fn breaks_across(
         y += w;
         least += step;
         if y < width {
-            least = less(cell(cells, row + y), least);
+            least = lesser(cell(cells, row + y), least);
         }
     }
     false

@@ -96,8 +96,8 @@ add-cell-3 c =
 cell-requires-3 : tie.Need-cell-requires-3 Inv-loop μ-loop
 cell-requires-3 c κs = omega (arith, entry (c .before .before) .pre .0 .row-ends)
 
-less-requires : tie.Need-less-requires Inv-loop μ-loop
-less-requires c κs = search needs
+lesser-requires : tie.Need-lesser-requires Inv-loop μ-loop
+lesser-requires c κs = search needs
 
 loop-less : tie.Need-loop-less Inv-loop μ-loop
 loop-less c = omega (arith, entry (read (c .before)) .pre .1 .0)
@@ -107,7 +107,7 @@ loop-again c =
     let claim = c .before in
     let other = read claim in
     crossed-inside _ _ _ _ _ _ _ _ _ _ _ (head other .loop .inv) (other .before .loop-test .taken) _ (other .cell2 .ensures .0)
-    (claim .before .before .if1 .left) (omega arith) _ _ (claim .before .if2 .taken) (claim .cell3 .ensures .0) (c .less .ensures)
+    (claim .before .before .if1 .left) (omega arith) _ _ (claim .before .if2 .taken) (claim .cell3 .ensures .0) (c .lesser .ensures)
 
 loop-less-2 : tie.Need-loop-less-2 Inv-loop μ-loop
 loop-less-2 c = omega (arith, entry (c .before .before) .pre .1 .0)
@@ -142,7 +142,7 @@ breaks-across-spec =
     add-least
     add-cell-3
     cell-requires-3
-    less-requires
+    lesser-requires
     loop-less
     loop-again
     loop-less-2
