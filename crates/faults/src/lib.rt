@@ -78,7 +78,8 @@ fn breaks_at(cells: &[u8], prior: usize, row: usize, left: usize, far: usize, ga
     requires { ⌜ left ≤ 65_536 ⌝ }
     requires { ⌜ prior + left ≤ length (numbersIn (now cells)) ⌝ }
     requires { ⌜ row + (left + far) ≤ length (numbersIn (now cells)) ⌝ }
-    ensures { λ r. ⌜ Finds r (LowAt (numbersIn (now (cells .entry))) prior row left far gain) (HighAt (numbersIn (now (cells .entry))) prior row left far gain) ⌝ }
+    ensures { λ r. ⌜ Finds r (LowAt (numbersIn (now (cells .entry))) prior row left far gain)
+        (HighAt (numbersIn (now (cells .entry))) prior row left far gain) ⌝ }
 {
     let up = row + far;
     let mut low: u32 = 0;
@@ -170,7 +171,8 @@ fn breaks_within(
 ) -> bool
     requires { ⌜ TwoRows (numbersIn (now cells)) prior row end ⌝ }
     requires { ⌜ (1 ≤ w) × (w ≤ 65_536) ⌝ }
-    ensures { λ r. ⌜ Finds r (LowWithin (numbersIn (now (cells .entry))) prior row end w v b) (HighWithin (numbersIn (now (cells .entry))) prior row end w v b) ⌝ }
+    ensures { λ r. ⌜ Finds r (LowWithin (numbersIn (now (cells .entry))) prior row end w v b)
+        (HighWithin (numbersIn (now (cells .entry))) prior row end w v b) ⌝ }
 {
     let step = v as u64;
     let mut carried: u64 = 0;
@@ -200,7 +202,8 @@ fn breaks_across(
     requires { ⌜ TwoRows (numbersIn (now cells)) prior row width ⌝ }
     requires { ⌜ (1 ≤ w) × (w ≤ 65_536) ⌝ }
     requires { ⌜ (width ≤ 65_536) × (a + copies * w < width) ⌝ }
-    ensures { λ r. ⌜ Finds r (Low (numbersIn (now (cells .entry))) prior row width w v copies) (HighAcross (numbersIn (now (cells .entry))) prior row width w v copies a) ⌝ }
+    ensures { λ r. ⌜ Finds r (Low (numbersIn (now (cells .entry))) prior row width w v copies)
+        (HighAcross (numbersIn (now (cells .entry))) prior row width w v copies a) ⌝ }
 {
     let step = v as u64;
     let gain = copies as u64 * step;
@@ -236,7 +239,8 @@ fn breaks_column(
     requires { ⌜ TwoRows (numbersIn (now cells)) prior row width ⌝ }
     requires { ⌜ CopiesFit width w copies ⌝ }
     requires { ⌜ b < width ⌝ }
-    ensures { λ r. ⌜ Finds r (Low (numbersIn (now (cells .entry))) prior row width w v copies) (HighColumn (numbersIn (now (cells .entry))) prior row width w v copies b) ⌝ }
+    ensures { λ r. ⌜ Finds r (Low (numbersIn (now (cells .entry))) prior row width w v copies)
+        (HighColumn (numbersIn (now (cells .entry))) prior row width w v copies b) ⌝ }
 {
     let next = b + (copies * w + w);
     if breaks_within(cells, prior, row, nearer(next, width), w, v, b) {
@@ -262,7 +266,8 @@ fn breaks_block(
     requires { ⌜ TwoRows (numbersIn (now cells)) prior row width ⌝ }
     requires { ⌜ CopiesFit width w copies ⌝ }
     requires { ⌜ base < width ⌝ }
-    ensures { λ r. ⌜ Finds r (Low (numbersIn (now (cells .entry))) prior row width w v copies) (HighBlock (numbersIn (now (cells .entry))) prior row width w v copies base) ⌝ }
+    ensures { λ r. ⌜ Finds r (Low (numbersIn (now (cells .entry))) prior row width w v copies)
+        (HighBlock (numbersIn (now (cells .entry))) prior row width w v copies base) ⌝ }
 {
     let stop = nearer(base + w, width);
     let mut b = base;
@@ -287,7 +292,8 @@ fn breaks_many(
 ) -> bool
     requires { ⌜ TwoRows (numbersIn (now cells)) prior row width ⌝ }
     requires { ⌜ CopiesFit width w copies ⌝ }
-    ensures { λ r. ⌜ Finds r (Low (numbersIn (now (cells .entry))) prior row width w v copies) (High (numbersIn (now (cells .entry))) prior row width w v copies) ⌝ }
+    ensures { λ r. ⌜ Finds r (Low (numbersIn (now (cells .entry))) prior row width w v copies)
+        (High (numbersIn (now (cells .entry))) prior row width w v copies) ⌝ }
 {
     let span = copies * w + w;
     let mut base = 0;
@@ -314,7 +320,8 @@ fn breaks_few(
     requires { ⌜ TwoRows (numbersIn (now cells)) prior row width ⌝ }
     requires { ⌜ CopiesFit width w copies ⌝ }
     requires { ⌜ v ≤ 65_535 ⌝ }
-    ensures { λ r. ⌜ Finds r (Low (numbersIn (now (cells .entry))) prior row width w v copies) (High (numbersIn (now (cells .entry))) prior row width w v copies) ⌝ }
+    ensures { λ r. ⌜ Finds r (Low (numbersIn (now (cells .entry))) prior row width w v copies)
+        (High (numbersIn (now (cells .entry))) prior row width w v copies) ⌝ }
 {
     if copies == 0 {
         return breaks_at(cells, prior, row, width, 0, 0);
