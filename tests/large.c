@@ -27,7 +27,7 @@ static struct plain_job read;
 
 /* ---- which loops they ran */
 
-enum { LIGHT, HEAVY, BITS, CROSSING, WHOLE, SMALL, BLOCKS, COUNTED, PASSED, PRODUCT, SUM, MANY, BOUND, LOOPS };
+enum { LIGHT, HEAVY, BITS, CROSSING, WHOLE, EVERY, SMALL, BLOCKS, COUNTED, PASSED, PRODUCT, SUM, MANY, BOUND, LOOPS };
 
 static struct thing loops[LOOPS] = {
     [LIGHT] = {"kind 3, a weight below a stretch that fits so many times", 50, 0},
@@ -35,6 +35,7 @@ static struct thing loops[LOOPS] = {
     [BITS] = {"kind 4, more words than a stretch above a weight of bits", 90, 0},
     [CROSSING] = {"kind 4, more words than a stretch above a weight of words and bits", 110, 0},
     [WHOLE] = {"kind 4, more words than a stretch above a weight of whole words", 80, 0},
+    [EVERY] = {"kind 4, a total in each of more words than a stretch", 30, 0},
     [SMALL] = {"kind 5, a size below a stretch that fits so many times", 35, 0},
     [BLOCKS] = {"kind 5, a size of a stretch or more that fits 4 times", 90, 0},
     [COUNTED] = {"kind 6, 2^62 ways or more, counted", 15, 0},
@@ -66,6 +67,13 @@ static int has_move(int which) {
     return 0;
 }
 
+/* Whether the words are more than a stretch, and each of them has a total. */
+static int has_every(const struct plain_answer *answer) {
+    uint32_t m = 0;
+    while (m < answer->filled.words && answer->words[m] != 0) m++;
+    return m > STRETCH && m == answer->filled.words;
+}
+
 /* Kind 6: the first amount that is full, or C. */
 static uint32_t first_full(const struct plain_answer *answer) {
     uint32_t a = 0;
@@ -85,6 +93,7 @@ static void count_loops(const struct plain_answer *answer) {
     loops[LIGHT].came += kind == KIND_ANY && has_weight(1, STRETCH - 1, STRETCH);
     loops[HEAVY].came += kind == KIND_ANY && has_weight(STRETCH, UINT32_MAX, 4);
     for (which = BITS; which <= WHOLE; which++) loops[which].came += kind == KIND_SUMS && has_move(which);
+    loops[EVERY].came += kind == KIND_SUMS && has_every(answer);
     loops[SMALL].came += kind == KIND_FEWEST && has_weight(1, STRETCH - 1, STRETCH);
     loops[BLOCKS].came += kind == KIND_FEWEST && has_weight(STRETCH, UINT32_MAX, 4);
     loops[COUNTED].came += kind == KIND_WAYS && answer->first >> 62 != 0;

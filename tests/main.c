@@ -11,8 +11,9 @@ static const struct {
     void (*run)(void);
     int of_solver;
 } parts[] = {
-    {part_header, 0}, {part_solve, 1}, {part_ties, 1}, {part_slips, 0},  {part_write, 0},       {part_check, 0},  {part_empty, 0},
-    {part_drawn, 1},  {part_large, 1}, {part_ring, 0}, {part_claims, 0}, {part_claims_long, 0}, {part_damage, 0}, {part_full, 0},
+    {part_header, 0}, {part_solve, 1},  {part_ties, 1},        {part_totals, 1}, {part_slips, 0},
+    {part_write, 0},  {part_check, 0},  {part_empty, 0},       {part_drawn, 1},  {part_large, 1},
+    {part_ring, 0},   {part_claims, 0}, {part_claims_long, 0}, {part_damage, 0}, {part_full, 0},
 };
 
 int main(int count, char **words) {

@@ -35,8 +35,7 @@ count-totals-requires : tie.Need-count-totals-requires
 unfolding mostBudget
 count-totals-requires c κs =
     let t = cut (c .before) in
-    let f = filled t in
-    omega (arith, entry f .pre, f .fill .kept .1 .1 .0, t .trim .kept .0)
+    omega (arith, entry (filled t) .pre, filled t .fill .kept .1 .1 .0, t .trim .kept .0)
 
 same-length : tie.Need-same-length
 same-length c = search needs
