@@ -115,18 +115,18 @@ fn is_set(words: &[u64], t: usize) -> bool
     (words[t / 64] >> (t % 64)) % 2 == 1
 }
 
-// How many bits are set, a word at a time.
+// How many bits are set, a word at a time. The sum is as wide as a word and narrowed once: only so does no turn of the loop narrow its vectors.
 fn count_totals(words: &[u64]) -> u32
     requires { ⌜ 64 * length (now words) ≤ mostBudget + 1 ⌝ }
     ensures { λ r. ⌜ r ≡ tally (isSet (now (words .entry))) (upTo (64 * length (now (words .entry)))) ⌝ }
 {
-    let mut count: u32 = 0;
+    let mut count: u64 = 0;
     let mut m = 0;
     while m < words.len() {
-        count += u64::count_ones(words[m]);
+        count += u64::count_ones(words[m]) as u64;
         m += 1;
     }
-    count
+    count as u32
 }
 
 // ---- the door
