@@ -15,8 +15,8 @@ ghost use Rattle.faults.specs.LowRows.{RowThere, Budgets, lowIn, belowOn
 ghost use Rattle.faults.specs.Columns.{Finds, TwoRows, CopiesFit, Low, High, LowAt, HighAt, BothFound, LowEither, HighBoth};
 ghost use Rattle.faults.specs.Columns.{LowWithin, HighWithin, HighAcross, HighColumn, HighBlock};
 
-// Up to how many copies passes are quicker than blocks: a pass for two counts takes as long whatever they are, and blocks take as long
-// whatever the copies are.
+// So many copies are few: a pass for two counts takes as long whatever they are, and blocks take as long whatever the copies are. Where the
+// two meet goes by the weight, at some 14 copies of a light label and 25 of a heavy one, and this is between them (docs/SPEED.md).
 const FEW: usize = 20;
 
 // The greater of two numbers.
