@@ -66,7 +66,9 @@ fn labels_jobs(kind: u32) -> Vec<Job> {
 fn jobs_of(kind: u32) -> Vec<Job> {
     match kind {
         ANY => labels_jobs(ANY).into_iter().chain([jobs::labels(ANY, 1_000, 60_000, 16), jobs::labels(ANY, 50, 500, 16)]).collect(),
-        ONCE | COPIES | SUMS => labels_jobs(kind),
+        // with so few labels the count of the totals is a large part of the call
+        SUMS => labels_jobs(SUMS).into_iter().chain([jobs::labels(SUMS, 2, 60_000, 3_000)]).collect(),
+        ONCE | COPIES => labels_jobs(kind),
         FEWEST | WAYS => jobs::sizes(kind, MOST_SIZES, 60_000, 3_000).into_iter().chain(jobs::sizes(kind, MOST_SIZES, 500, 400)).collect(),
         _ => jobs::claims(1_000).into_iter().chain(jobs::claims(50)).collect(),
     }
