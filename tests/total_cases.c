@@ -1,5 +1,5 @@
 /* Kind 4's number of totals, over one word, few and many. Labels of u, 2u, 4u .. bytes make every multiple of u, so there are C/u + 1
- * totals, and a u of a word or less has one of them in every word. Most of these jobs reach totals above C in the word of C too. */
+ * totals, and a u of a word or less has one of them in every word. Many of these jobs reach totals above C in the word of C too. */
 #include "calls.h"
 #include "parts.h"
 #include "tell.h"
