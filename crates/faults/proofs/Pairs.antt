@@ -9,7 +9,7 @@ use mathlib.Core.List.{List}
 use lib.Dec.{ltb}
 use borrow.Author.Tests.{le-ltb, lt-ltb}
 use Rattle.meaning.specs.Lists.{at}
-use Rattle.faults.specs.Columns.{Finds, LowAt, HighAt, BothFound, LowEither, at-first, at-second, HighBoth}
+use Rattle.faults.specs.Columns.{Finds, LowAt, HighAt, LowEither, at-first, at-second, HighBoth}
 use Rattle.faults.proofs.Finding.{finds-low, finds-high}
 use Rattle.faults.proofs.Passes.{below-sum, FoundSoFar, pass-start, pass-next}
 
@@ -31,6 +31,14 @@ below-either claim near gain other more rest less order claim-fits rest-fits les
     ]
 
 -- ---- budget by budget
+
+-- over the budgets where both fit: what a pass for each would tell, together
+pub record BothFound (r : Bool) (cells : List ℕ) (prior row left far w gain v : ℕ) : Type 0 where
+  pub low-near : Bool
+  pub low-far : Bool
+  pub together : r ≡ (low-near || low-far)
+  pub near : FoundSoFar cells (prior + w) (row + w) far gain low-near left
+  pub distant : FoundSoFar cells prior row (far + w) (gain + v) low-far left
 
 -- the two tests of a budget, each put to its own
 four-ors : (a b x y : Bool) → ((a || b) || (x || y)) ≡ ((a || x) || (b || y))

@@ -3,7 +3,7 @@
 -- Assumes nothing.
 use mathlib.Core.Path.{_≡_}
 use Prim.Native.Nat.{ℕ, _+_, _*_, _≤_, _<_}
-use mathlib.Core.Bool.{Bool, true, false, _||_}
+use mathlib.Core.Bool.{Bool, true, false}
 use mathlib.Core.List.{List}
 use lib.ListN.{length}
 use Rattle.meaning.specs.Lists.{at}
@@ -53,15 +53,7 @@ pub record HighAt (cells : List ℕ) (prior row left far gain : ℕ) : Type 0 wh
 
 -- ---- two distances, the second w more than the first and worth v more
 
--- over the budgets where both fit: what a pass for each would tell, together
-pub record BothFound (r : Bool) (cells : List ℕ) (prior row left far w gain v : ℕ) : Type 0 where
-  pub low-near : Bool
-  pub low-far : Bool
-  pub together : r ≡ (low-near || low-far)
-  pub near : Finds low-near (LowAt cells (prior + w) (row + w) left far gain) (HighAt cells (prior + w) (row + w) left far gain)
-  pub distant : Finds low-far (LowAt cells prior row left (far + w) (gain + v)) (HighAt cells prior row left (far + w) (gain + v))
-
--- over all budgets: the claim is below at the first distance, or at the second
+-- the claim is below at the first distance, or at the second
 pub data LowEither (cells : List ℕ) (prior row left far w gain v : ℕ) : Type 0 where
   at-first : LowAt cells prior row (left + w) far gain → LowEither cells prior row left far w gain v
   at-second : LowAt cells prior row left (far + w) (gain + v) → LowEither cells prior row left far w gain v

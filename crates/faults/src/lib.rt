@@ -12,7 +12,7 @@ ghost use Rattle.meaning.specs.Lists.{at, if};
 ghost use Rattle.meaning.specs.Bytes.{numbersIn};
 ghost use Rattle.meaning.specs.Certificates.{someOf};
 ghost use Rattle.faults.specs.LowRows.{RowThere, Budgets, lowIn, belowOne};
-ghost use Rattle.faults.specs.Columns.{Finds, TwoRows, CopiesFit, Low, High, LowAt, HighAt, BothFound, LowEither, HighBoth};
+ghost use Rattle.faults.specs.Columns.{Finds, TwoRows, CopiesFit, Low, High, LowAt, HighAt, LowEither, HighBoth};
 ghost use Rattle.faults.specs.Columns.{LowWithin, HighWithin, HighAcross, HighColumn, HighBlock};
 
 // So many copies are few: a pass for two counts takes as long whatever they are, and blocks take as long whatever the copies are. Where the
@@ -103,39 +103,7 @@ fn is_below_either(claim: u32, near: u32, gain: u32, other: u32, more: u32) -> b
     (claim < more) | (rest < near) | (less < other)
 }
 
-// A count and the next in one pass, over the budgets where both fit: each claim is read once for the two.
-fn breaks_pair(
-    cells: &[u8],
-    prior: usize,
-    row: usize,
-    left: usize,
-    far: usize,
-    w: usize,
-    gain: u32,
-    v: u32,
-) -> bool
-    requires { ⌜ left + w ≤ 65_536 ⌝ }
-    requires { ⌜ prior + (left + w) ≤ length (numbersIn (now cells)) ⌝ }
-    requires { ⌜ row + (left + (far + w)) ≤ length (numbersIn (now cells)) ⌝ }
-    requires { ⌜ gain + v ≤ 4_294_967_295 ⌝ }
-    ensures { λ r. ⌜ BothFound r (numbersIn (now (cells .entry))) prior row left far w gain v ⌝ }
-{
-    let up = row + (far + w);
-    let beside = prior + w;
-    let more = gain + v;
-    let mut low: u32 = 0;
-    let mut c = 0;
-    while c < left {
-        let claim = numbers::number_in(cells, up + c);
-        let near = numbers::number_in(cells, beside + c);
-        let other = numbers::number_in(cells, prior + c);
-        low += one_if(is_below_either(claim, near, gain, other, more));
-        c += 1;
-    }
-    0 < low
-}
-
-// The same over all budgets: at the first w of them only the one count fits.
+// A count and the next in one pass: each claim is read once for the two. At the first w budgets only the one fits.
 fn breaks_two(
     cells: &[u8],
     prior: usize,
@@ -156,7 +124,19 @@ fn breaks_two(
     if breaks_at(cells, prior, row, w, far, gain) {
         return true;
     }
-    breaks_pair(cells, prior, row, left, far, w, gain, v)
+    let up = row + (far + w);
+    let beside = prior + w;
+    let more = gain + v;
+    let mut low: u32 = 0;
+    let mut c = 0;
+    while c < left {
+        let claim = numbers::number_in(cells, up + c);
+        let near = numbers::number_in(cells, beside + c);
+        let other = numbers::number_in(cells, prior + c);
+        low += one_if(is_below_either(claim, near, gain, other, more));
+        c += 1;
+    }
+    0 < low
 }
 
 // Whether some cell of a column up to `end` is below one down the column in the row before, and the value of the count between.
