@@ -8,19 +8,21 @@ use mathlib.Core.List.{List, [], _∷_}
 use lib.Dec.{lit≤}
 use lib.ListN.{replicate}
 use Rattle.meaning.specs.declared.Answer.{Answer}
-use Rattle.meaning.specs.declared.Answer.the-variants.{Knapsack, Sums, Blocks, Ways, Shares}
+use Rattle.meaning.specs.declared.Answer.the-variants.{Knapsack, Sums, Blocks, Ways, Shares, Weight}
 use Rattle.meaning.specs.Lists.{at}
-use Rattle.meaning.specs.Job.{Job, Kind, block-ways, fewest-blocks, free, jobOf, limited, once, packing, sharing, subset-sums, kindOf}
+use Rattle.meaning.specs.Job.{Job, Kind, block-ways, fewest-blocks, free, jobOf, limited, once, packing, sharing, subset-sums}
+use Rattle.meaning.specs.Job.{labels-behind, kindOf}
 use Rattle.meaning.specs.Lent.{Lent, lentOf, roomFor}
 use Rattle.meaning.specs.Refusals.{kindRefusal}
 use Rattle.meaning.specs.Bytes.{jobBytes, readJob, readable}
 use Rattle.meaning.specs.Answers.{answerNumbers}
-use Rattle.meaning.specs.Solved.{Unrefused}
+use Rattle.meaning.specs.Solved.{Gives, Unrefused, Weighed, a-sum}
 use Rattle.meaning.specs.Host.{firstNumber}
-use Rattle.meaning.specs.Trials.{AllGo, Goes, Trial, _and_, done, solve, trials}
+use Rattle.meaning.specs.Trials.{AllGo, Goes, Trial, _and_, done, justEnough, solve, trials}
 use Rattle.meaning.proofs.EachKind.{refusals, tableOf}
+use Rattle.meaning.proofs.Small.{behind-out, behind-weighs, isBehind}
 use Rattle.meaning.proofs.Opens.{opens}
-use Rattle.meaning.proofs.Sixteen.{sixteen}
+use Rattle.meaning.proofs.Sixteen.{goes, sixteen}
 
 -- a job with one budget
 abbrev pub plain : ℕ → ℕ → List ℕ → List ℕ → List ℕ → Job
@@ -48,7 +50,7 @@ pub record Tried : Type 0 where
   pub answer : Answer
   pub picks : List ℕ
 
--- document 01's first trial of each kind: A, D, E, F, G, H and I
+-- document 01's first trial of each kind: A, D, E, F, G, H and I; and F as kind 8
 abbrev pub tried : Kind → Tried
 tried (packing once) = record { job = caseA; answer = Knapsack 9 7; picks = 1 ∷ 1 ∷ 0 ∷ [] }
 tried (packing limited) = record { job = plain 2 7 (2 ∷ 3 ∷ []) (3 ∷ 5 ∷ []) (2 ∷ 1 ∷ []); answer = Knapsack 11 7; picks = 2 ∷ 1 ∷ [] }
@@ -57,6 +59,7 @@ tried subset-sums = record { job = plain 4 8 (3 ∷ 5 ∷ 9 ∷ []) [] []; answe
 tried fewest-blocks = record { job = plain 5 6 (1 ∷ 3 ∷ 4 ∷ []) [] []; answer = Blocks 2; picks = 0 ∷ 2 ∷ 0 ∷ [] }
 tried block-ways = record { job = plain 6 5 (1 ∷ 2 ∷ 5 ∷ []) [] []; answer = Ways 4; picks = [] }
 tried sharing = record { job = plain 7 10 (1 ∷ 1 ∷ 1 ∷ []) [] []; answer = Shares 1; picks = 4 ∷ 3 ∷ 3 ∷ [] }
+tried labels-behind = record { job = plain 8 8 (3 ∷ 5 ∷ 9 ∷ []) [] []; answer = Weight 8; picks = 1 ∷ 1 ∷ 0 ∷ [] }
 
 -- ---- what is shown of the trial of each kind
 
@@ -78,7 +81,7 @@ filled x k =
     let room = roomFor k (tried k .job) in
     lentOf (replicate (room .cells) x) (replicate (room .words) x) (replicate (room .picks) x)
 
--- it goes as the sixteen say, and is read back from its bytes; its answer is no refusal, and its first number isn't 0; with `filled` slices it isn't
+-- it goes as the sixteen say (kind 8's as F, which is among them, says), and is read back from its bytes; its answer is no refusal, and its first number isn't 0; with `filled` slices it isn't
 -- refused, and its table, where the kind has one, begins with what they are filled with
 pub record TrialFacts (k : Kind) : Type 0 where
   pub goes : Goes (solve (tried k .job) (tried k .answer) (tried k .picks))
@@ -96,6 +99,11 @@ facts-by : {k : Kind} → Goes (solve (tried k .job) (tried k .answer) (tried k 
     → ((x : ℕ) → Unrefused k (tried k .job) (filled x k)) → (¬ (k ≡ sharing) → (x : ℕ) → at (tableOf k (filled x k)) 0 ≡ x) → TrialFacts k
 facts-by g b r n u f = record { goes = g; back = b; no-refusal = r; not-0 = n; unrefused = u; first-filled = f }
 
+-- F as kind 8
+behind-F : Goes (solve (tried labels-behind .job) (tried labels-behind .answer) (tried labels-behind .picks))
+unfolding opens Goes justEnough Gives Weighed isBehind
+behind-F = goes labels-behind refl refl (a-sum (behind-weighs _ _ tt) (behind-out _ _ tt) refl)
+
 pub trial-facts : (k : Kind) → TrialFacts k
 unfolding opens trials GoesAt refusals firstNumber filled tableOf
 trial-facts (packing once) = facts-by (goes-at 0 sixteen) refl refl (lit≤ tt) (λ x. unrefused-by refl refl) (λ has x. refl)
@@ -105,3 +113,4 @@ trial-facts subset-sums = facts-by (goes-at 6 sixteen) refl refl (lit≤ tt) (λ
 trial-facts fewest-blocks = facts-by (goes-at 8 sixteen) refl refl (lit≤ tt) (λ x. unrefused-by refl refl) (λ has x. refl)
 trial-facts block-ways = facts-by (goes-at 10 sixteen) refl refl (lit≤ tt) (λ x. unrefused-by refl refl) (λ has x. refl)
 trial-facts sharing = facts-by (goes-at 12 sixteen) refl refl (lit≤ tt) (λ x. unrefused-by refl refl) (λ has x. absurd (has refl))
+trial-facts labels-behind = facts-by behind-F refl refl (lit≤ tt) (λ x. unrefused-by refl refl) (λ has x. refl)

@@ -9,20 +9,21 @@ use Rattle.meaning.specs.declared.Answer.the-variants as Says
 use Rattle.meaning.specs.declared.Verdict.the-variants.{Accepted, Refused}
 use Rattle.meaning.specs.declared.Written.the-variants as Reports
 use Rattle.meaning.specs.Answers.{is-blocks, is-knapsack, is-refusal, is-shares, is-sums}
-use Rattle.meaning.specs.Answers.{is-ways, verdictNumbers, answerNumbers, writtenNumbers}
+use Rattle.meaning.specs.Answers.{is-ways, is-weight, verdictNumbers, answerNumbers, writtenNumbers}
 use Rattle.meaning.specs.Solved.{waysAnswer}
 use Rattle.meaning.specs.Host.{firstNumber, refusalNumber, secondNumber, valueOrPlace}
 use Rattle.meaning.proofs.Opens.{opens}
 use Rattle.meaning.proofs.Computing.{Computes, _gives_}
 
 answer-numbers : Computes answerNumbers (
-    Says.Refused 5 gives record { case = is-refusal; refusal = 5; value = 0; weight = 0; yes = 0; totals = 0; blocks = 0; ways = 0; spare = 0 }
-    ∷ Says.Knapsack 9 7 gives record { case = is-knapsack; refusal = 0; value = 9; weight = 7; yes = 0; totals = 0; blocks = 0; ways = 0; spare = 0 }
-    ∷ Says.Sums true 4 gives record { case = is-sums; refusal = 0; value = 0; weight = 0; yes = 1; totals = 4; blocks = 0; ways = 0; spare = 0 }
-    ∷ Says.Sums false 3 gives record { case = is-sums; refusal = 0; value = 0; weight = 0; yes = 0; totals = 3; blocks = 0; ways = 0; spare = 0 }
-    ∷ Says.Blocks 2 gives record { case = is-blocks; refusal = 0; value = 0; weight = 0; yes = 0; totals = 0; blocks = 2; ways = 0; spare = 0 }
-    ∷ Says.Ways 4 gives record { case = is-ways; refusal = 0; value = 0; weight = 0; yes = 0; totals = 0; blocks = 0; ways = 4; spare = 0 }
-    ∷ Says.Shares 1 gives record { case = is-shares; refusal = 0; value = 0; weight = 0; yes = 0; totals = 0; blocks = 0; ways = 0; spare = 1 }
+    Says.Refused 5 gives record { case = is-refusal; refusal = 5; value = 0; weight = 0; yes = 0; totals = 0; blocks = 0; ways = 0; spare = 0; exact = 0 }
+    ∷ Says.Knapsack 9 7 gives record { case = is-knapsack; refusal = 0; value = 9; weight = 7; yes = 0; totals = 0; blocks = 0; ways = 0; spare = 0; exact = 0 }
+    ∷ Says.Sums true 4 gives record { case = is-sums; refusal = 0; value = 0; weight = 0; yes = 1; totals = 4; blocks = 0; ways = 0; spare = 0; exact = 0 }
+    ∷ Says.Sums false 3 gives record { case = is-sums; refusal = 0; value = 0; weight = 0; yes = 0; totals = 3; blocks = 0; ways = 0; spare = 0; exact = 0 }
+    ∷ Says.Blocks 2 gives record { case = is-blocks; refusal = 0; value = 0; weight = 0; yes = 0; totals = 0; blocks = 2; ways = 0; spare = 0; exact = 0 }
+    ∷ Says.Ways 4 gives record { case = is-ways; refusal = 0; value = 0; weight = 0; yes = 0; totals = 0; blocks = 0; ways = 4; spare = 0; exact = 0 }
+    ∷ Says.Shares 1 gives record { case = is-shares; refusal = 0; value = 0; weight = 0; yes = 0; totals = 0; blocks = 0; ways = 0; spare = 1; exact = 0 }
+    ∷ Says.Weight 8 gives record { case = is-weight; refusal = 0; value = 0; weight = 0; yes = 0; totals = 0; blocks = 0; ways = 0; spare = 0; exact = 8 }
     ∷ []
     )
 unfolding opens
@@ -65,6 +66,7 @@ first-numbers : Computes first-said (
     ∷ Says.Blocks 2 gives 2
     ∷ Says.Ways 4 gives 4
     ∷ Says.Shares 6 gives 6
+    ∷ Says.Weight 8 gives 8
     ∷ []
     )
 unfolding opens firstNumber
@@ -81,6 +83,7 @@ second-numbers : Computes second-said (
     ∷ Says.Blocks 2 gives 0
     ∷ Says.Ways 4 gives 0
     ∷ Says.Shares 6 gives 0
+    ∷ Says.Weight 8 gives 0
     ∷ []
     )
 unfolding opens secondNumber

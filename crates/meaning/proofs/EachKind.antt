@@ -16,16 +16,20 @@ use Rattle.meaning.specs.declared.Answer.{Answer}
 use Rattle.meaning.specs.declared.Answer.the-variants as Says
 use Rattle.meaning.specs.Lists.{at, if, sum, total}
 use Rattle.meaning.specs.Slices.{Holds}
+use Rattle.meaning.specs.Cells.{LeastShown}
 use Rattle.meaning.specs.Job.{Job, Kind, Knapsack, allKinds, block-ways, fewest-blocks, free}
-use Rattle.meaning.specs.Job.{kindOf, labels, limited, once, packing, sharing, subset-sums}
+use Rattle.meaning.specs.Job.{kindOf, labels, labels-behind, limited, once, packing, sharing, subset-sums}
 use Rattle.meaning.specs.Lent.{Lent, Room, cellCount, roomFor, roomOf}
 use Rattle.meaning.specs.Knapsacks.{ValueTable}
+use Rattle.meaning.specs.Sums.{Weighs}
+use Rattle.meaning.specs.Behind.{FirstRow}
 use Rattle.meaning.specs.Blocks.{FewestRow, Makes, WaysFor, WaysRow, tooMany}
 use Rattle.meaning.specs.Shares.{spareOf}
-use Rattle.meaning.specs.Answers.{AnswerNumbers, Which, is-blocks, is-knapsack, is-refusal, is-shares, is-sums, is-ways, answerNumbers}
-use Rattle.meaning.specs.Solved.{Answered, Built, Gives, TableHolds, a-sum, no-such-sum, waysAnswer}
+use Rattle.meaning.specs.Answers.{AnswerNumbers, Which, is-blocks, is-knapsack, is-refusal, is-shares, is-sums, is-ways, is-weight}
+use Rattle.meaning.specs.Answers.{answerNumbers}
+use Rattle.meaning.specs.Solved.{Answered, Built, Gives, TableHolds, Weighed, a-sum, no-such-sum, waysAnswer}
 use Rattle.meaning.proofs.OneOfEach.{same-list, rows-unique, row-unique, bits-table-unique, least-shown-unique, ways-shown-unique}
-use Rattle.meaning.proofs.OneOfEach.{packed-unique, summed-unique, sum-or-none-unique, laid-unique, ways-given-unique}
+use Rattle.meaning.proofs.OneOfEach.{packed-unique, summed-unique, sum-or-none-unique, laid-unique, ways-given-unique, behind-unique}
 
 -- ---- the number
 
@@ -38,6 +42,7 @@ numberOf subset-sums = 4
 numberOf fewest-blocks = 5
 numberOf block-ways = 6
 numberOf sharing = 7
+numberOf labels-behind = 8
 
 -- the kinds of a list have the numbers m, m + 1, ..
 unfoldable inOrder : ℕ → List Kind → Bool
@@ -80,22 +85,29 @@ record SamePlaces (room : Room) (s t : Lent) : Type 0 where
 none-needed : (s t : List ℕ) (m : ℕ) → m < 0 → at s m ≡ at t m
 none-needed s t m h = absurd (not-suc-le-zero h)
 
+-- a cell for each total or amount to C that shows the least of some numbers
+shown-places : (budget picks : ℕ) {P : ℕ → ℕ → Type 0} (s t : Lent) → ((a : ℕ) → a ≤ budget → LeastShown (P a) (at (s .cells) a))
+    → ((a : ℕ) → a ≤ budget → LeastShown (P a) (at (t .cells) a)) → SamePlaces (roomOf (budget + 1) 0 picks) s t
+unfolding roomOf
+shown-places budget picks s t a b = record {
+  cells = λ m h. least-shown-unique (a m (omega arith)) (b m (omega arith));
+  words = none-needed (s .words) (t .words);
+}
+
 same-places : (k : Kind) (j : Job) (s t : Lent) → TableHolds k j s → TableHolds k j t → SamePlaces (roomFor k j) s t
-unfolding TableHolds ValueTable FewestRow WaysRow roomFor roomOf
+unfolding TableHolds ValueTable FewestRow WaysRow FirstRow roomFor roomOf
 same-places (packing once) j s t a b = record { cells = rows-unique once j (s .cells) (t .cells) a b; words = none-needed (s .words) (t .words) }
 same-places (packing limited) j s t a b =
     record { cells = rows-unique limited j (s .cells) (t .cells) a b; words = none-needed (s .words) (t .words) }
 same-places (packing free) j s t a b = record { cells = row-unique free j (s .cells) (t .cells) a b; words = none-needed (s .words) (t .words) }
 same-places subset-sums j s t a b = record { cells = none-needed (s .cells) (t .cells); words = bits-table-unique j (s .words) (t .words) a b }
-same-places fewest-blocks j s t a b = record {
-  cells = λ m h. least-shown-unique (a m (omega arith)) (b m (omega arith));
-  words = none-needed (s .words) (t .words);
-}
+same-places fewest-blocks j s t a b = shown-places (j .budget) (labels j) s t a b
 same-places block-ways j s t a b = record {
   cells = none-needed (s .cells) (t .cells);
   words = λ m h. ways-shown-unique (a m (omega arith)) (b m (omega arith));
 }
 same-places sharing j s t a b = record { cells = none-needed (s .cells) (t .cells); words = none-needed (s .words) (t .words) }
+same-places labels-behind j s t a b = shown-places (j .budget) (labels j) s t a b
 
 -- each kind's table leaves one content
 pub table-unique : (k : Kind) (j : Job) → OneTable (roomFor k j) (TableHolds k j)
@@ -115,6 +127,7 @@ tableOf subset-sums lent = lent .words
 tableOf fewest-blocks lent = lent .cells
 tableOf block-ways lent = lent .words
 tableOf sharing lent = []
+tableOf labels-behind lent = lent .cells
 
 -- the places that are needed for the table hold it, and there is one at least
 pub record TableLeft (k : Kind) (content before after : Lent) : Type 0 where
@@ -131,27 +144,30 @@ table-left subset-sums x = record { held = x .words-hold; needed = λ has. omega
 table-left fewest-blocks x = record { held = x .cells-hold; needed = λ has. omega (arith, x .cells-needed) }
 table-left block-ways x = record { held = x .words-hold; needed = λ has. omega (arith, x .words-needed) }
 table-left sharing x = record { held = refl; needed = λ has. absurd (has refl) }
+table-left labels-behind x = record { held = x .cells-hold; needed = λ has. omega (arith, x .cells-needed) }
 
 -- ---- what a kind says and writes
 
 -- each kind says one thing and writes one list
 pub gives-unique : (k : Kind) (j : Job) (s s′ : AnswerNumbers) (p p′ : List ℕ) → Gives k j s p → Gives k j s′ p′ → (p ≡ p′) × (s ≡ s′)
-unfolding Gives Built
+unfolding Gives Built Weighed
 gives-unique (packing k) j s s′ p p′ a b = packed-unique a b
 gives-unique subset-sums j s s′ p p′ a b = summed-unique a b
 gives-unique fewest-blocks j s s′ p p′ a b = sum-or-none-unique (laid-unique j (j .budget)) a b
 gives-unique block-ways j s s′ p p′ a b = ways-given-unique a b
 gives-unique sharing j s s′ p p′ a b = (a .given ∙ sym (b .given), a .numbers ∙ sym (b .numbers))
+gives-unique labels-behind j s s′ p p′ a b = sum-or-none-unique (behind-unique j (labels j) (j .budget)) a b
 
 -- ---- a refusal, of a job that none of 2 to 6 and 9 meets: 'exactly when'
 
--- 7 where no list of blocks sums to C, 8 where the ways are too many to count, and no other
+-- 7 where no list of blocks, or of labels, sums to C, 8 where the ways are too many to count, and no other
 unfoldable pub Late : Kind → Job → ℕ → Type 0
 Late (packing s) j r = ⊥
 Late subset-sums j r = ⊥
 Late fewest-blocks j r = (r ≡ 7) × ((q : List ℕ) → ¬ Makes j (labels j) (j .budget) q)
 Late block-ways j r = (r ≡ 8) × ((w : ℕ) × WaysFor j (labels j) (j .budget) w × (tooMany ≤ w))
 Late sharing j r = ⊥
+Late labels-behind j r = (r ≡ 7) × ((q : List ℕ) → ¬ Weighs j (labels j) (j .budget) q)
 
 -- 1 for a refusal, 0 for any other case
 unfoldable pub refusals : Which → ℕ
@@ -161,6 +177,7 @@ refusals is-sums = 0
 refusals is-blocks = 0
 refusals is-ways = 0
 refusals is-shares = 0
+refusals is-weight = 0
 
 -- no other case says what a refusal says
 pub not-said : (r : ℕ) (a : Answer) → refusals (answerNumbers a .case) ≡ 0 → ¬ (answerNumbers (Says.Refused r) ≡ answerNumbers a)
@@ -174,13 +191,15 @@ late-ways j w r ways true h e = absurd (not-said r (Says.Ways w) refl e)
 late-ways j w r ways false h e = (ap (λ (s : AnswerNumbers). s .refusal) e, (w, ways, omega (arith, ltb-false, h)))
 
 pub late : (k : Kind) (j : Job) (r : ℕ) (p : List ℕ) → Gives k j (answerNumbers (Says.Refused r)) p → Late k j r
-unfolding Gives Built waysAnswer Late answerNumbers refusals
+unfolding Gives Built Weighed waysAnswer Late answerNumbers refusals
 late (packing s) j r p g = not-said r (Says.Knapsack (total (j .values) p) (total (j .weights) p)) refl (g .numbers)
 late subset-sums j r p g = not-said r (Says.Sums (g .yes) (g .totals)) refl (g .numbers)
 late fewest-blocks j r p (a-sum makes laid e) = absurd (not-said r (Says.Blocks (sum p)) refl e)
 late fewest-blocks j r p (no-such-sum none e written) = (ap (λ (s : AnswerNumbers). s .refusal) e, none)
 late block-ways j r p g = late-ways j (g .ways) r (g .how-many) (ltb (g .ways) tooMany) refl (g .numbers)
 late sharing j r p g = not-said r (Says.Shares (spareOf j)) refl (g .numbers)
+late labels-behind j r p (a-sum weighs behind e) = absurd (not-said r (Says.Weight (total (j .weights) p)) refl e)
+late labels-behind j r p (no-such-sum none e written) = (ap (λ (s : AnswerNumbers). s .refusal) e, none)
 
 -- a refusal is told by its number
 pub numbered : (a : Answer) → ¬ (answerNumbers a .refusal ≡ 0) → (r : ℕ) × (a ≡ Says.Refused r)
@@ -191,3 +210,4 @@ numbered (Says.Sums y n) h = absurd (h refl)
 numbered (Says.Blocks b) h = absurd (h refl)
 numbered (Says.Ways w) h = absurd (h refl)
 numbered (Says.Shares x) h = absurd (h refl)
+numbered (Says.Weight w) h = absurd (h refl)

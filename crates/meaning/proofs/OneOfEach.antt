@@ -17,7 +17,8 @@ use Rattle.meaning.specs.Job.{Job, Knapsack, labels}
 use Rattle.meaning.specs.Lent.{cellCount}
 use Rattle.meaning.specs.Orders.{AgreeEarlier, Chosen, Earlier, NoWorse, Order, first-most, last-least, last-most}
 use Rattle.meaning.specs.Knapsacks.{BestValue, FullTable, OneRow, Best, BestPicks, orderOf}
-use Rattle.meaning.specs.Sums.{BitTable, Tells, bit, is-not, is-so, TotalCount, YesOrNo}
+use Rattle.meaning.specs.Sums.{Weighs, BitTable, Tells, bit, is-not, is-so, TotalCount, YesOrNo}
+use Rattle.meaning.specs.Behind.{Behind, totalOrder}
 use Rattle.meaning.specs.Blocks.{WaysFor, WaysShown, tooMany, Fewest, Laid, blockOrder}
 use Rattle.meaning.specs.Answers.{AnswerNumbers, answerNumbers}
 use Rattle.meaning.specs.Solved.{Packed, SumOrNone, Summed, WaysGiven, a-sum, no-such-sum, waysAnswer}
@@ -177,6 +178,11 @@ pub laid-unique : (j : Job) (a : ℕ) (p q : List ℕ) → Laid j a p → Laid j
 unfolding Laid
 laid-unique j a p q l l′ =
     chosen-unique blockOrder (labels j) (Fewest j (labels j) a) p q l l′ (l .one-of .makes .one-each) (l′ .one-of .makes .one-each)
+
+pub behind-unique : (j : Job) (i t : ℕ) (p q : List ℕ) → Behind j i t p → Behind j i t q → p ≡ q
+unfolding Behind
+behind-unique j i t p q b b′ =
+    chosen-unique totalOrder i (Weighs j i t) p q b b′ (b .one-of .selection .one-each) (b′ .one-of .selection .one-each)
 
 pub ways-given-unique : {j : Job} {s s′ : AnswerNumbers} {p p′ : List ℕ} → WaysGiven j s p → WaysGiven j s′ p′ → (p ≡ p′) × (s ≡ s′)
 ways-given-unique {j} a b = (

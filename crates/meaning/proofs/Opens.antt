@@ -9,6 +9,7 @@ use Rattle.meaning.specs.Refusals.{rulesOf, listsFit, boundsFit, numbers
 use Rattle.meaning.specs.Bytes.{numberAt, numbersIn, between, isNeeded, wholeSection, readSection, withSection}
 use Rattle.meaning.specs.Bytes.{atEnd, readJob, bytesOf, bytesOfAll, sectionBytes, jobBytes}
 use Rattle.meaning.specs.Knapsacks.{orderOf, cellNumber}
+use Rattle.meaning.specs.Behind.{totalOrder}
 use Rattle.meaning.specs.Blocks.{blockOrder, tooMany}
 use Rattle.meaning.specs.Shares.{startOf, remainderOf, spareOf, precedes, rankOf, shareOf, sharesOf}
 use Rattle.meaning.specs.Answers.{answerNumbers, verdictNumbers, writtenNumbers}
@@ -27,6 +28,7 @@ unfolding sum total every upTo if tally
     numberAt numbersIn between isNeeded wholeSection readSection withSection
     atEnd readJob bytesOf bytesOfAll sectionBytes jobBytes
     orderOf cellNumber
+    totalOrder
     blockOrder tooMany
     startOf remainderOf spareOf precedes rankOf shareOf sharesOf
     answerNumbers verdictNumbers writtenNumbers

@@ -28,7 +28,7 @@ unfolding jobOf
 F₂ = jobOf 4 (7 ∷ []) (3 ∷ 5 ∷ 9 ∷ []) [] []
 
 -- a trial of kind k whose answer is given
-goes : (k : Kind) {j : Job} {a : Answer} {p : List ℕ} → kindOf (j .kind-number) ≡ some k → kindRefusal (roomFor k j) k j (justEnough k j) ≡ 0
+pub goes : (k : Kind) {j : Job} {a : Answer} {p : List ℕ} → kindOf (j .kind-number) ≡ some k → kindRefusal (roomFor k j) k j (justEnough k j) ≡ 0
     → Gives k j (answerNumbers a) p → (k′ : Kind) × Means k′ j a p
 goes k e f g = (k, record { unrefused = record { of-kind = e; no-refusal = f }; answer = g })
 
@@ -52,7 +52,7 @@ sixteen =
     and goes subset-sums refl refl (record {
       yes = false;
       totals = 3;
-      tells = is-not (misses-out F₂ 7 (lit≤ tt) tt) refl;
+      tells = is-not (λ r. misses-out F₂ 3 7 (lit≤ tt) tt _ (r .weighs)) refl;
       how-many = totalled-out F₂ ((0 ∷ 0 ∷ 0 ∷ []) ∷ (1 ∷ 0 ∷ 0 ∷ []) ∷ (0 ∷ 1 ∷ 0 ∷ []) ∷ []) tt;
       numbers = refl;
       none-written = refl;

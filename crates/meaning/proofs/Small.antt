@@ -15,11 +15,13 @@ use Rattle.meaning.specs.Counting.{Counted, Distinct}
 use Rattle.meaning.specs.Job.{Job, labels, Knapsack, once, limited, free}
 use Rattle.meaning.specs.Orders.{Order, last-least, first-most, last-most, Earlier, NoWorse, AgreeEarlier}
 use Rattle.meaning.specs.Knapsacks.{MayPick, Selection, Fits, orderOf, BestPicks}
-use Rattle.meaning.specs.Sums.{Reached, ReachedWithin}
+use Rattle.meaning.specs.Sums.{Weighs, Reached, ReachedWithin}
+use Rattle.meaning.specs.Behind.{Behind, totalOrder}
 use Rattle.meaning.specs.Blocks.{Makes, Laid, WaysFor, blockOrder}
 use Rattle.meaning.proofs.Tests.{_implies_, implied, implies-intro, below, below-out, below-in}
 use Rattle.meaning.proofs.Tests.{Within, all, all-out, within-each, within-weight}
 use Rattle.meaning.proofs.Members.{every-out, member, member-out, no-repeats, no-repeats-out, same, same-out, same-refl}
+use Rattle.meaning.proofs.Reaching.{reached-as}
 
 -- ---- the orders of choice
 
@@ -225,27 +227,33 @@ module _ (k : Knapsack) (j : Job) (p : List ℕ) where
 
 -- ---- sums
 
-module _ (j : Job) where
-  -- the limits of a selection
-  abbrev pub once-limits : List ℕ
-  once-limits = limits once j (labels j) (j .budget)
+-- q sums to t
+abbrev pub exact : Job → ℕ → List ℕ → Bool
+exact j t q = eqb (total (j .weights) q) t
 
-  -- no selection weighs t
+module _ (j : Job) (i : ℕ) where
+  -- the limits of a selection of the first i labels
+  abbrev pub once-limits : List ℕ
+  once-limits = limits once j i (j .budget)
+
+  -- a selection that weighs at most C is within them
+  once-within : {t : ℕ} {q : List ℕ} → t ≤ j .budget → Weighs j i t q → Within once-limits q
+  unfolding limits-right
+  once-within {q = q} within d = limits-hold once j i (j .budget) q tt (d .selection) (omega (arith, d .weight))
+
+  -- none of them weighs t
   unfoldable pub misses : ℕ → Bool
   unfolding all limits
-  misses t = all once-limits (λ q. not (eqb (total (j .weights) q) t))
+  misses t = all once-limits (λ q. not (exact j t q))
 
-  pub misses-out : (t : ℕ) → t ≤ j .budget → T (misses t) → ¬ Reached j (labels j) t
-  unfolding misses limits-right
-  misses-out t within h o =
-      let q : List ℕ = o .picks in
-      let fits : total (j .weights) q ≤ j .budget = omega (arith, o .weight) in
-      eqb-no
-      (all-out once-limits (λ q′. not (eqb (total (j .weights) q′) t)) h q (limits-hold once j (labels j) (j .budget) q tt (o .selection) fits))
-      (o .weight)
+  pub misses-out : (t : ℕ) → t ≤ j .budget → T (misses t) → (q : List ℕ) → ¬ Weighs j i t q
+  unfolding misses
+  misses-out t within h q d = eqb-no (all-out once-limits (λ q′. not (exact j t q′)) h q (once-within within d)) (d .weight)
+
+module _ (j : Job) where
 
   pub reached-by : (p : List ℕ) (t : ℕ) → T (isSelection once j p) → total (j .weights) p ≡ t → Reached j (labels j) t
-  reached-by p t s e = record { picks = p; selection = selection-out once j p s; weight = e }
+  reached-by p t s e = reached-as p (selection-out once j p s) e
 
 -- ---- the number of totals
 
@@ -261,7 +269,7 @@ module _ (j : Job) (ps : List (List ℕ)) where
   -- each total within the budget is the weight of one of them, and no two weigh the same
   abbrev all-totals : Bool
   unfolding listsAll limits
-  all-totals = listsAll eqb weighs (once-limits j) (fitting j (j .budget)) (map weighs ps)
+  all-totals = listsAll eqb weighs (once-limits j (labels j)) (fitting j (j .budget)) (map weighs ps)
 
   -- the selections' weights are just the totals within the budget, each once
   unfoldable pub totalled : Bool
@@ -269,24 +277,52 @@ module _ (j : Job) (ps : List (List ℕ)) where
   totalled = every fits-once ps && all-totals
 
   pub totalled-out : T totalled → Counted (ReachedWithin j (labels j)) (length (map weighs ps))
-  unfolding totalled limits-right
+  unfolding totalled
   totalled-out h =
       let (a, l) = and-yes (every fits-once ps) all-totals h in
       record {
         those = map weighs ps;
-        distinct = names-distinct eqb weighs (once-limits j) (fitting j (j .budget)) (map weighs ps) eqb→eq eqb-refl l;
+        distinct = names-distinct eqb weighs (once-limits j (labels j)) (fitting j (j .budget)) (map weighs ps) eqb→eq eqb-refl l;
         no-others = λ t m.
             let (p, here, e) = Memᴰ·of-map weighs ps m in
             let (s, w) = and-yes (isSelection once j p) (fitting j (j .budget) p) (every-out fits-once ps a p here) in
             record { reached = reached-by j p t s e; within = subst (λ (z : ℕ). z ≤ j .budget) e (leb-yes w) };
         them-all = λ t r.
-            let e : weighs (r .reached .picks) ≡ t = r .reached .weight in
-            let fits : weighs (r .reached .picks) ≤ j .budget = omega (arith, r .within) in
-            subst (λ (z : ℕ). List·Memᴰ z (map weighs ps)) e
-            (named eqb weighs (once-limits j) (fitting j (j .budget)) (map weighs ps) eqb→eq eqb-refl l (r .reached .picks)
-            (limits-hold once j (labels j) (j .budget) (r .reached .picks) tt (r .reached .selection) fits) (yes-leb fits));
+            let d = r .reached .weighs in
+            subst (λ (z : ℕ). List·Memᴰ z (map weighs ps)) (d .weight)
+            (named eqb weighs (once-limits j (labels j)) (fitting j (j .budget)) (map weighs ps) eqb→eq eqb-refl l (r .reached .picks)
+            (once-within j (labels j) (r .within) d) (yes-leb {a = weighs (r .reached .picks)} {b = j .budget} (omega (arith, r .within, d .weight))));
         size = refl;
       }
+
+-- ---- the labels behind a total
+
+module _ (j : Job) (p : List ℕ) where
+  -- of the selections of total C none is better than another
+  abbrev behind-chosen : Bool
+  unfolding isChosen limits
+  behind-chosen = isChosen totalOrder (labels j) (once-limits j (labels j)) (exact j (j .budget)) (λ q r. true) p
+
+  -- p is the picks of the job
+  unfoldable pub isBehind : Bool
+  unfolding isSelection behind-chosen
+  isBehind = isSelection once j p && (exact j (j .budget) p && behind-chosen)
+
+  pub behind-out : T isBehind → Behind j (labels j) (j .budget) p
+  unfolding isBehind Behind behind-chosen
+  behind-out t =
+      let (s, t₁) = and-yes (isSelection once j p) (exact j (j .budget) p && behind-chosen) t in
+      let (e, c) = and-yes (exact j (j .budget) p) behind-chosen t₁ in
+      record {
+        one-of = record { selection = selection-out once j p s; weight = eqb-yes e };
+        settled =
+            λ m h q d. well-settled totalOrder (labels j) (once-limits j (labels j)) (exact j (j .budget)) (λ q′ r. true) p c q
+            (once-within j (labels j) (omega arith) d) (yes-eqb (d .weight)) tt m h;
+      }
+
+  pub behind-weighs : T isBehind → Weighs j (labels j) (j .budget) p
+  unfolding Behind
+  behind-weighs t = behind-out t .one-of
 
 -- ---- blocks, for an amount a
 
@@ -295,17 +331,13 @@ module _ (j : Job) (a : ℕ) where
   abbrev pub block-limits : List ℕ
   block-limits = limits free j (labels j) a
 
-  -- q sums to a
-  abbrev pub exact : List ℕ → Bool
-  exact q = eqb (total (j .weights) q) a
-
   -- `Makes` of all sizes as a test
   unfoldable pub isMaking : List ℕ → Bool
-  isMaking p = eqb (length p) (labels j) && exact p
+  isMaking p = eqb (length p) (labels j) && exact j a p
 
   pub makes-out : (p : List ℕ) → T (isMaking p) → Makes j (labels j) a p
   unfolding isMaking
-  makes-out p t = let (l, e) = and-yes (eqb (length p) (labels j)) (exact p) t in record { one-each = eqb-yes l; sums-to = eqb-yes e }
+  makes-out p t = let (l, e) = and-yes (eqb (length p) (labels j)) (exact j a p) t in record { one-each = eqb-yes l; sums-to = eqb-yes e }
 
   pub makes-within : (q : List ℕ) → T (limits-right free j (labels j)) → Makes j (labels j) a q → Within block-limits q
   unfolding MayPick
@@ -315,13 +347,13 @@ module _ (j : Job) (a : ℕ) where
   -- no list sums to a
   unfoldable pub unmade : Bool
   unfolding all limits-right limits
-  unmade = limits-right free j (labels j) && all block-limits (λ q. not (exact q))
+  unmade = limits-right free j (labels j) && all block-limits (λ q. not (exact j a q))
 
   pub unmade-out : T unmade → (q : List ℕ) → ¬ Makes j (labels j) a q
   unfolding unmade
   unmade-out t q m =
-      let (right, none) = and-yes (limits-right free j (labels j)) (all block-limits (λ q′. not (exact q′))) t in
-      eqb-no (all-out block-limits (λ q′. not (exact q′)) none q (makes-within q right m)) (m .sums-to)
+      let (right, none) = and-yes (limits-right free j (labels j)) (all block-limits (λ q′. not (exact j a q′))) t in
+      eqb-no (all-out block-limits (λ q′. not (exact j a q′)) none q (makes-within q right m)) (m .sums-to)
 
 -- p has no more blocks than q
 abbrev no-more-blocks : List ℕ → List ℕ → Bool

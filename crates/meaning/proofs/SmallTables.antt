@@ -107,24 +107,24 @@ module _ (j : Job) (words : List ℕ) where
 
   -- the bit of t is set, and t is reached and at most C
   abbrev isSet : ℕ → Bool
-  isSet t = eqb (bit words t) 1 && (leb t (j .budget) && some (once-limits j) (weighing t))
+  isSet t = eqb (bit words t) 1 && (leb t (j .budget) && some (once-limits j (labels j)) (weighing t))
 
   -- the bit of t isn't set, and t is above C or missed
   abbrev isUnset : ℕ → Bool
-  isUnset t = eqb (bit words t) 0 && (leb t (j .budget) implies misses j t)
+  isUnset t = eqb (bit words t) 0 && (leb t (j .budget) implies misses j (labels j) t)
 
   set-out : (t : ℕ) → T (isSet t) → Tells (ReachedWithin j (labels j) t) (bit words t)
   set-out t h =
-      let (e, h₁) = and-yes (eqb (bit words t) 1) (leb t (j .budget) && some (once-limits j) (weighing t)) h in
-      let (within, h₂) = and-yes (leb t (j .budget)) (some (once-limits j) (weighing t)) h₁ in
-      let (p, h₃) = some-out (once-limits j) (weighing t) h₂ in
+      let (e, h₁) = and-yes (eqb (bit words t) 1) (leb t (j .budget) && some (once-limits j (labels j)) (weighing t)) h in
+      let (within, h₂) = and-yes (leb t (j .budget)) (some (once-limits j (labels j)) (weighing t)) h₁ in
+      let (p, h₃) = some-out (once-limits j (labels j)) (weighing t) h₂ in
       let (s, w) = and-yes (isSelection once j p) (eqb (total (j .weights) p) t) h₃ in
       is-so (record { reached = reached-by j p t s (eqb-yes w); within = leb-yes within }) (eqb-yes e)
 
   unset-out : (t : ℕ) → T (isUnset t) → Tells (ReachedWithin j (labels j) t) (bit words t)
   unset-out t h =
-      let (e, miss) = and-yes (eqb (bit words t) 0) (leb t (j .budget) implies misses j t) h in
-      is-not (λ r. misses-out j t (r .within) (implied (leb t (j .budget)) (misses j t) miss (yes-leb (r .within))) (r .reached)) (eqb-yes e)
+      let (e, miss) = and-yes (eqb (bit words t) 0) (leb t (j .budget) implies misses j (labels j) t) h in
+      is-not (λ r. misses-out j (labels j) t (r .within) (implied (leb t (j .budget)) (misses j (labels j) t) miss (yes-leb (r .within))) _ (r .reached .weighs)) (eqb-yes e)
 
   -- `BitTable` as a test
   unfoldable pub isBitTable : Bool

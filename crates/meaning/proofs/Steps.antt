@@ -45,22 +45,24 @@ module _ (k : Knapsack) (j : Job) (i c : ℕ) where
         weight = omega (arith, f .weight, total-with (j .weights) p x i long);
       }
 
-  -- and every fitting selection of the first i + 1 labels is one of those
-  pub fits-less : (q : List ℕ) → Fits k j (suc i) c q
-      → (p : List ℕ) × (x : ℕ) × (q ≡ p ++ (x ∷ [])) × MayPick k (at (j .copies) i) x × (w * x ≤ c) × Fits k j i (c - w * x) p
-  fits-less q f =
+  -- a fitting selection of the first i + 1 labels, without those of label i
+  pub front-fits : (q : List ℕ) → Fits k j (suc i) c q → (w * at q i ≤ c) × Fits k j i (c - w * at q i) (take i q)
+  front-fits q f =
       let long : length q ≡ suc i = f .selection .one-each in
       let weight : total (j .weights) q ≡ total (j .weights) (take i q) + w * at q i = total-cut (j .weights) q i long in (
-        take i q,
-        at q i,
-        cut-last q i long,
-        f .selection .allowed i (le-refl (suc i)),
         omega (arith, f .weight),
         record {
           selection = record { one-each = front-long q i long; allowed = λ m h. rw (getD-take i q m 0 h) (f .selection .allowed m (omega arith)) };
           weight = omega (arith, f .weight);
         },
       )
+
+  -- so every one of them is one of those
+  pub fits-less : (q : List ℕ) → Fits k j (suc i) c q
+      → (p : List ℕ) × (x : ℕ) × (q ≡ p ++ (x ∷ [])) × MayPick k (at (j .copies) i) x × (w * x ≤ c) × Fits k j i (c - w * x) p
+  fits-less q f =
+      let (heavy, front) = front-fits q f in
+      (take i q, at q i, cut-last q i (f .selection .one-each), f .selection .allowed i (le-refl (suc i)), heavy, front)
 
   -- the rule of the table: with the best values of the first i labels in `row`, the best value of the first i + 1 is the greatest of
   -- row (c - w x) + v x over the allowed x that fit

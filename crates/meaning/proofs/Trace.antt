@@ -1,4 +1,4 @@
--- Kinds 1 and 2: the picks are read off the table from the last label to the first, each count the least that the best value leaves.
+-- Kinds 1, 2 and 8: the picks are read off the table from the last label to the first, each count the least that it can be.
 -- Assumes nothing.
 use mathlib.Core.Path.{_≡_, refl, sym, ap, _∙_, subst}
 use Prim.Native.Nat.{ℕ, suc, _+_, _-_, _*_, _≤_, _<_}
@@ -6,15 +6,45 @@ use native.Mathlib.Decide.{decLe}
 use native.Mathlib.Nat.{le-refl, le-trans, le-of-eq}
 use native.Mathlib.Omega.{arith}
 use mathlib.Core.List.{List, [], _∷_, _++_}
-use lib.ListN.{length, List·getD-append}
-use lib.Seq.{getD-at}
+use lib.ListN.{length, take, List·getD-append}
+use lib.Seq.{getD-at, getD-take}
 use Rattle.meaning.specs.Lists.{at, total}
 use Rattle.meaning.specs.Job.{Job, Knapsack}
 use Rattle.meaning.specs.Orders.{Order, last-least, Earlier, NoWorse, AgreeEarlier, Chosen}
 use Rattle.meaning.specs.Knapsacks.{MayPick, Fits, Best, BestValue, orderOf, BestPicks}
-use Rattle.meaning.proofs.Totals.{total-with, empty-of}
-use Rattle.meaning.proofs.Steps.{fits-more, fits-less, none-better, best-none, best-by}
+use Rattle.meaning.proofs.Totals.{total-cut, total-with, empty-of}
+use Rattle.meaning.proofs.Steps.{fits-more, front-fits, none-better, best-none, best-by}
 use Rattle.meaning.proofs.OneOfEach.{only-choice, best-value-unique}
+
+-- ---- one count more, the least that it can be
+
+-- of the lists with Q, the last count is x or more, and where it is x, those before it have P: then the chosen list of P, with x, is that of Q
+pub chosen-more : (i x : ℕ) (P Q : List ℕ → Type 0) (p : List ℕ) → length p ≡ i → Chosen last-least i P p → Q (p ++ (x ∷ []))
+    → ((q : List ℕ) → Q q → x ≤ at q i) → ((q : List ℕ) → Q q → at q i ≡ x → P (take i q)) → Chosen last-least (suc i) Q (p ++ (x ∷ []))
+unfolding AgreeEarlier Earlier NoWorse
+chosen-more i x P Q p long chosen has least others = record { one-of = has; settled = settled }
+  where
+    last : at (p ++ (x ∷ [])) i ≡ x
+    last = getD-at p x [] 0 i long
+
+    in-p : (n : ℕ) → n < i → at (p ++ (x ∷ [])) n ≡ at p n
+    in-p n h = List·getD-append p (x ∷ []) 0 n (omega arith)
+
+    settled : (m : ℕ) → m < suc i → (q : List ℕ) → Q q → AgreeEarlier last-least (suc i) m q (p ++ (x ∷ []))
+        → NoWorse last-least (at (p ++ (x ∷ [])) m) (at q m)
+    settled m h q has-q agree =
+        elim (decLe i m) [
+          | yes ge ↦
+              let here : m ≡ i = omega arith in
+              subst (λ (z : ℕ). at (p ++ (x ∷ [])) z ≤ at q z) (sym here) (omega (arith, last, least q has-q))
+          | no lt ↦
+              let m′ : m < i = omega arith in
+              let in-q : (n : ℕ) → n < i → at (take i q) n ≡ at q n = λ n hn. getD-take i q n 0 hn in
+              let same : at q i ≡ x = agree i (le-refl (suc i)) m′ ∙ last in
+              let under : at p m ≤ at (take i q) m =
+              chosen .settled m m′ (take i q) (others q has-q same) (λ n hn later. in-q n hn ∙ agree n (omega arith) later ∙ in-p n hn) in
+              omega (arith, in-p m m′, in-q m m′)
+        ]
 
 module _ (k : Knapsack) (least : orderOf k ≡ last-least) (j : Job) (i c : ℕ) where
   abbrev w : ℕ
@@ -30,14 +60,12 @@ module _ (k : Knapsack) (least : orderOf k ≡ last-least) (j : Job) (i c : ℕ)
       → ((y : ℕ) → y < x → MayPick k (at (j .copies) i) y → w * y ≤ c → (r : ℕ) → BestValue k j i (c - w * y) r → r + v * y < b)
       → ((y : ℕ) → w * y ≤ c → (r : ℕ) × BestValue k j i (c - w * y) r)
       → BestPicks k j (suc i) c (p ++ (x ∷ []))
-  unfolding BestPicks AgreeEarlier Earlier NoWorse
+  unfolding BestPicks
   trace-step b x p whole may heavy t e fewer row =
       subst (λ (r : Order). Chosen r (suc i) (Best k j (suc i) c) (p ++ (x ∷ []))) (sym least)
-      (record { one-of = best; settled = settled })
+      (chosen-more i x (Best k j i (c - w * x)) (Best k j (suc i) c) p long
+      (subst (λ (r : Order). Chosen r i (Best k j i (c - w * x)) p) least t) best no-fewer others)
     where
-      t′ : Chosen last-least i (Best k j i (c - w * x)) p
-      t′ = subst (λ (r : Order). Chosen r i (Best k j i (c - w * x)) p) least t
-
       long : length p ≡ i
       long = t .one-of .fits .selection .one-each
 
@@ -50,37 +78,35 @@ module _ (k : Knapsack) (least : orderOf k ≡ last-least) (j : Job) (i c : ℕ)
         greatest = λ q f. le-trans (none-better whole q f) (le-of-eq (sym worth));
       }
 
-      settled : (m : ℕ) → m < suc i → (q : List ℕ) → Best k j (suc i) c q → AgreeEarlier last-least (suc i) m q (p ++ (x ∷ []))
-          → NoWorse last-least (at (p ++ (x ∷ [])) m) (at q m)
-      settled m h q bq a =
-          let (p′, y, whole-q, mayq, heavyq, f′) = fits-less k j i c q (bq .fits) in
-          let short : length p′ ≡ i = f′ .selection .one-each in
-          let q-best : total (j .values) q ≡ b = omega (arith, worth, best .greatest q (bq .fits), bq .greatest (p ++ (x ∷ [])) (best .fits)) in
-          let q-worth : total (j .values) p′ + v * y ≡ b =
-          sym (total-with (j .values) p′ y i short) ∙ ap (total (j .values)) (sym whole-q) ∙ q-best in
-          let x-last : at (p ++ (x ∷ [])) i ≡ x = getD-at p x [] 0 i long in
-          let y-last : at q i ≡ y = ap (λ (l : List ℕ). at l i) whole-q ∙ getD-at p′ y [] 0 i short in
-          elim (decLe i m) [
-            | yes ge ↦
-                let here : m ≡ i = omega arith in
-                let (r, br) = row y heavyq in
-                let no-fewer : x ≤ y =
-                elim (decLe x y) [ yes le ↦ le | no gt ↦ absurd (omega (arith, none-better br p′ f′, fewer y (omega arith) mayq heavyq r br)) ] in
-                subst (λ (z : ℕ). at (p ++ (x ∷ [])) z ≤ at q z) (sym here) (omega arith)
-            | no lt ↦
-                let m′ : m < i = omega arith in
-                let same : y ≡ x = sym y-last ∙ a i (le-refl (suc i)) m′ ∙ x-last in
-                let f″ : Fits k j i (c - w * x) p′ = subst (λ (z : ℕ). Fits k j i (c - w * z) p′) same f′ in
-                let equal : total (j .values) p′ ≡ total (j .values) p = omega (arith, ap (λ (z : ℕ). v * z) same) in
-                let best′ : Best k j i (c - w * x) p′ =
-                record { fits = f″; greatest = λ q′ g. le-trans (t .one-of .greatest q′ g) (le-of-eq (sym equal)) } in
-                let in-q : (n : ℕ) → n < i → at q n ≡ at p′ n =
-                λ n hn. ap (λ (l : List ℕ). at l n) whole-q ∙ List·getD-append p′ (y ∷ []) 0 n (omega arith) in
-                let in-p : (n : ℕ) → n < i → at (p ++ (x ∷ [])) n ≡ at p n = λ n hn. List·getD-append p (x ∷ []) 0 n (omega (arith, long)) in
-                let agree : (n : ℕ) → n < i → m < n → at p′ n ≡ at p n = λ n hn later. sym (in-q n hn) ∙ a n (omega arith) later ∙ in-p n hn in
-                let under : at p m ≤ at p′ m = t′ .settled m m′ p′ best′ agree in
-                omega (arith, in-q m m′, in-p m m′)
+      -- what a best list is worth before its last count
+      front-worth : (q : List ℕ) → Best k j (suc i) c q → total (j .values) (take i q) + v * at q i ≡ b
+      front-worth q bq =
+          omega (
+            arith,
+            total-cut (j .values) q i (bq .fits .selection .one-each),
+            worth,
+            best .greatest q (bq .fits),
+            bq .greatest (p ++ (x ∷ [])) (best .fits),
+          )
+
+      no-fewer : (q : List ℕ) → Best k j (suc i) c q → x ≤ at q i
+      no-fewer q bq =
+          let (light, f) = front-fits k j i c q (bq .fits) in
+          let (r, br) = row (at q i) light in
+          elim (decLe x (at q i)) [
+            | yes le ↦ le
+            | no gt ↦
+                let most = fewer (at q i) (omega arith) (bq .fits .selection .allowed i (le-refl (suc i))) light r br in
+                absurd (omega (arith, none-better br (take i q) f, front-worth q bq))
           ]
+
+      others : (q : List ℕ) → Best k j (suc i) c q → at q i ≡ x → Best k j i (c - w * x) (take i q)
+      others q bq same =
+          let equal : total (j .values) (take i q) ≡ total (j .values) p = omega (arith, front-worth q bq, ap (λ (z : ℕ). v * z) same) in
+          record {
+            fits = subst (λ (z : ℕ). Fits k j i (c - w * z) (take i q)) same (front-fits k j i c q (bq .fits) .1);
+            greatest = λ r g. le-trans (t .one-of .greatest r g) (le-of-eq (sym equal));
+          }
 
 -- of no labels, the picks are none
 pub picks-none : (k : Knapsack) (j : Job) (c : ℕ) → BestPicks k j 0 c []

@@ -19,7 +19,7 @@ use Rattle.meaning.specs.Job.{Job, Kind, Knapsack, kindOf}
 use Rattle.meaning.specs.Lent.{Lent, Room, roomFor}
 use Rattle.meaning.specs.Refusals.{kindRefusal}
 use Rattle.meaning.specs.Bytes.{JobRead, readJob, readable, unreadable}
-use Rattle.meaning.specs.Answers.{Which, is-refusal, is-knapsack, is-sums, is-blocks, is-ways, is-shares}
+use Rattle.meaning.specs.Answers.{Which, is-refusal, is-knapsack, is-sums, is-blocks, is-ways, is-shares, is-weight}
 use Rattle.meaning.specs.Answers.{AnswerNumbers, answerNumbers, VerdictNumbers, verdictNumbers, WrittenNumbers, writtenNumbers}
 use Rattle.meaning.specs.Solved.{Answered, Outcome, Solved, SolvedAs, SolvedBytes, SolvedLists, SolvedRead, TableHolds, TurnedDown}
 use Rattle.meaning.specs.Told.{ToldBytes}
@@ -38,6 +38,7 @@ unsay is-sums s = Says.Sums (eqb (s .yes) 1) (s .totals)
 unsay is-blocks s = Says.Blocks (s .blocks)
 unsay is-ways s = Says.Ways (s .ways)
 unsay is-shares s = Says.Shares (s .spare)
+unsay is-weight s = Says.Weight (s .exact)
 
 unsaid : (a : Answer) → unsay (answerNumbers a .case) (answerNumbers a) ≡ a
 unfolding unsay answerNumbers if
@@ -48,6 +49,7 @@ unsaid (Says.Sums false n) = refl
 unsaid (Says.Blocks b) = refl
 unsaid (Says.Ways w) = refl
 unsaid (Says.Shares x) = refl
+unsaid (Says.Weight w) = refl
 
 -- an answer is settled by what it says
 pub answer-numbers-unique : {a b : Answer} → answerNumbers a ≡ answerNumbers b → a ≡ b

@@ -16,9 +16,9 @@ use Rattle.meaning.specs.Lists.{if}
 
 -- which case it is
 pub data Which : Type 0 where
-  is-refusal is-knapsack is-sums is-blocks is-ways is-shares : Which
+  is-refusal is-knapsack is-sums is-blocks is-ways is-shares is-weight : Which
 
--- what it says
+-- what it says. `exact` is kind 8's weight, which has no value beside it and comes first from C
 pub record AnswerNumbers : Type 0 where
   pub case : Which
   pub refusal : ℕ
@@ -29,15 +29,17 @@ pub record AnswerNumbers : Type 0 where
   pub blocks : ℕ
   pub ways : ℕ
   pub spare : ℕ
+  pub exact : ℕ
 
 -- what each case says
 unfoldable pub answerNumbers : Answer → AnswerNumbers
-answerNumbers (Says.Refused r) = record { case = is-refusal; refusal = r; value = 0; weight = 0; yes = 0; totals = 0; blocks = 0; ways = 0; spare = 0 }
-answerNumbers (Says.Knapsack v w) = record { case = is-knapsack; refusal = 0; value = v; weight = w; yes = 0; totals = 0; blocks = 0; ways = 0; spare = 0 }
-answerNumbers (Says.Sums y n) = record { case = is-sums; refusal = 0; value = 0; weight = 0; yes = if y 1 0; totals = n; blocks = 0; ways = 0; spare = 0 }
-answerNumbers (Says.Blocks b) = record { case = is-blocks; refusal = 0; value = 0; weight = 0; yes = 0; totals = 0; blocks = b; ways = 0; spare = 0 }
-answerNumbers (Says.Ways w) = record { case = is-ways; refusal = 0; value = 0; weight = 0; yes = 0; totals = 0; blocks = 0; ways = w; spare = 0 }
-answerNumbers (Says.Shares s) = record { case = is-shares; refusal = 0; value = 0; weight = 0; yes = 0; totals = 0; blocks = 0; ways = 0; spare = s }
+answerNumbers (Says.Refused r) = record { case = is-refusal; refusal = r; value = 0; weight = 0; yes = 0; totals = 0; blocks = 0; ways = 0; spare = 0; exact = 0 }
+answerNumbers (Says.Knapsack v w) = record { case = is-knapsack; refusal = 0; value = v; weight = w; yes = 0; totals = 0; blocks = 0; ways = 0; spare = 0; exact = 0 }
+answerNumbers (Says.Sums y n) = record { case = is-sums; refusal = 0; value = 0; weight = 0; yes = if y 1 0; totals = n; blocks = 0; ways = 0; spare = 0; exact = 0 }
+answerNumbers (Says.Blocks b) = record { case = is-blocks; refusal = 0; value = 0; weight = 0; yes = 0; totals = 0; blocks = b; ways = 0; spare = 0; exact = 0 }
+answerNumbers (Says.Ways w) = record { case = is-ways; refusal = 0; value = 0; weight = 0; yes = 0; totals = 0; blocks = 0; ways = w; spare = 0; exact = 0 }
+answerNumbers (Says.Shares s) = record { case = is-shares; refusal = 0; value = 0; weight = 0; yes = 0; totals = 0; blocks = 0; ways = 0; spare = s; exact = 0 }
+answerNumbers (Says.Weight w) = record { case = is-weight; refusal = 0; value = 0; weight = 0; yes = 0; totals = 0; blocks = 0; ways = 0; spare = 0; exact = w }
 
 -- ---- the checker's verdict
 

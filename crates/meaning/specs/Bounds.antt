@@ -2,7 +2,7 @@
 -- Assumes nothing.
 use Prim.Native.Nat.{ℕ}
 
--- n in kinds 1 to 4
+-- n in kinds 1 to 4 and 8
 unfoldable pub mostLabels : ℕ
 mostLabels = 1_024
 
@@ -14,7 +14,7 @@ mostSizes = 64
 unfoldable pub mostClaims : ℕ
 mostClaims = 1_024
 
--- C in kinds 1 to 6
+-- C in kinds 1 to 6 and 8
 unfoldable pub mostBudget : ℕ
 mostBudget = 65_535
 

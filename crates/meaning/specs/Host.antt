@@ -23,11 +23,11 @@ valueOrPlace v = verdictNumbers v .value + verdictNumbers v .place
 
 -- ---- the planner's entry
 
--- the value, yes, the blocks, the ways or the spare: an answer has one of them, and the others are 0
+-- the value, yes, the blocks, the ways, the spare or kind 8's weight: an answer has one of them, and the others are 0
 unfoldable pub firstNumber : AnswerNumbers → ℕ
-firstNumber s = s .value + s .yes + s .blocks + s .ways + s .spare
+firstNumber s = s .value + s .yes + s .blocks + s .ways + s .spare + s .exact
 
--- the weight or the totals: an answer has at most one of them
+-- the weight beside a value, or the totals: an answer has at most one of them
 unfoldable pub secondNumber : AnswerNumbers → ℕ
 secondNumber s = s .weight + s .totals
 

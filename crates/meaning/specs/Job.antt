@@ -36,14 +36,14 @@ labels j = length (j .weights)
 pub data Knapsack : Type 0 where
   once limited free : Knapsack
 
--- 1 to 3 are knapsacks, 4 sums, 5 and 6 blocks (the fewest, the ways), 7 shares
+-- 1 to 3 are knapsacks, 4 sums, 5 and 6 blocks (the fewest, the ways), 7 shares, 8 the labels behind a sum
 pub data Kind : Type 0 where
   packing : Knapsack → Kind
-  subset-sums fewest-blocks block-ways sharing : Kind
+  subset-sums fewest-blocks block-ways sharing labels-behind : Kind
 
--- kinds 1 to 7
+-- kinds 1 to 8
 unfoldable pub allKinds : List Kind
-allKinds = packing once ∷ packing limited ∷ packing free ∷ subset-sums ∷ fewest-blocks ∷ block-ways ∷ sharing ∷ []
+allKinds = packing once ∷ packing limited ∷ packing free ∷ subset-sums ∷ fewest-blocks ∷ block-ways ∷ sharing ∷ labels-behind ∷ []
 
 -- the kind of a number; 0, and every number above the last kind's, is no kind
 unfoldable pub kindOf : ℕ → Option Kind

@@ -2,7 +2,7 @@
 -- Assumes nothing.
 use Prim.Native.Nat.{ℕ, _+_, _*_, _/_}
 use mathlib.Core.List.{List}
-use Rattle.meaning.specs.Job.{Job, labels, once, limited, free, Kind, packing, subset-sums, fewest-blocks, block-ways, sharing}
+use Rattle.meaning.specs.Job.{Job, labels, once, limited, free, Kind, packing, subset-sums, fewest-blocks, block-ways, sharing, labels-behind}
 
 -- what the slices hold: a table of 32-bit cells, a table of 64-bit words, and picks
 pub record Lent : Type 0 where
@@ -28,7 +28,7 @@ roomOf cells words picks = record { cells = cells; words = words; picks = picks 
 unfoldable pub cellCount : Job → ℕ
 cellCount j = (labels j + 1) * (j .budget + 1)
 
--- the document's table of cells needed; picks need n places in kinds 1, 2, 3, 5 and 7, none in 4 and 6
+-- the document's table of cells needed; picks need n places in kinds 1, 2, 3, 5, 7 and 8, none in 4 and 6
 unfoldable pub roomFor : Kind → Job → Room
 roomFor (packing once) j = roomOf (cellCount j) 0 (labels j)
 roomFor (packing limited) j = roomOf (cellCount j) 0 (labels j)
@@ -37,3 +37,4 @@ roomFor subset-sums j = roomOf 0 (j .budget / 64 + 1) 0
 roomFor fewest-blocks j = roomOf (j .budget + 1) 0 (labels j)
 roomFor block-ways j = roomOf 0 (j .budget + 1) 0
 roomFor sharing j = roomOf 0 0 (labels j)
+roomFor labels-behind j = roomOf (j .budget + 1) 0 (labels j)

@@ -10,7 +10,7 @@ use lib.Dec.{leb, ltb, eqb}
 use lib.ListN.{length}
 use Rattle.meaning.specs.Bounds.{mostLabels, mostSizes, mostClaims, mostBudget, mostShared, mostValue, mostCopies, leastCopies}
 use Rattle.meaning.specs.Lists.{sum, every, if}
-use Rattle.meaning.specs.Job.{Job, labels, Knapsack, once, limited, free, Kind, packing, subset-sums, fewest-blocks, block-ways, sharing}
+use Rattle.meaning.specs.Job.{Job, labels, Knapsack, once, limited, free, Kind, packing, subset-sums, fewest-blocks, block-ways, sharing, labels-behind}
 use Rattle.meaning.specs.Lent.{Lent, Room}
 
 -- ---- rules on the numbers of a list
@@ -68,7 +68,7 @@ knapsackRules k = record {
   needs-sum = false;
 }
 
--- kinds 4 to 7 use weights alone
+-- kinds 4 to 8 use weights alone
 unfoldable pub weightRules : ℕ → ℕ → (List ℕ → Bool) → Bool → Rules
 weightRules label-bound budget-bound weight-rule needs-sum = record {
   uses-values = false;
@@ -87,6 +87,7 @@ rulesOf subset-sums = weightRules mostLabels mostBudget positive false
 rulesOf fewest-blocks = weightRules mostSizes mostBudget (ascendingFrom 1) false
 rulesOf block-ways = weightRules mostSizes mostBudget (ascendingFrom 1) false
 rulesOf sharing = weightRules mostClaims mostShared anything true
+rulesOf labels-behind = weightRules mostLabels mostBudget positive false
 
 -- ---- the tests, by refusal number
 

@@ -11,12 +11,14 @@ use Rattle.meaning.specs.declared.Answer.{Answer}
 use Rattle.meaning.specs.declared.Answer.the-variants as Says
 use Rattle.meaning.specs.Lists.{sum, total, if}
 use Rattle.meaning.specs.Slices.{Holds}
-use Rattle.meaning.specs.Job.{Job, labels, Knapsack, Kind, packing, subset-sums, fewest-blocks, block-ways, sharing, kindOf}
+use Rattle.meaning.specs.Job.{Job, labels, Knapsack, Kind, packing, subset-sums, fewest-blocks, block-ways, sharing, labels-behind}
+use Rattle.meaning.specs.Job.{kindOf}
 use Rattle.meaning.specs.Lent.{Lent, Room, roomFor}
 use Rattle.meaning.specs.Refusals.{kindRefusal}
 use Rattle.meaning.specs.Bytes.{JobRead, unreadable, readable, readJob}
 use Rattle.meaning.specs.Knapsacks.{BestPicks, ValueTable}
-use Rattle.meaning.specs.Sums.{YesOrNo, TotalCount, BitTable}
+use Rattle.meaning.specs.Sums.{Weighs, YesOrNo, TotalCount, BitTable}
+use Rattle.meaning.specs.Behind.{Behind, FirstRow}
 use Rattle.meaning.specs.Blocks.{Makes, Laid, FewestRow, WaysFor, WaysRow, tooMany}
 use Rattle.meaning.specs.Shares.{spareOf, sharesOf}
 use Rattle.meaning.specs.Answers.{AnswerNumbers, answerNumbers}
@@ -62,6 +64,11 @@ pub record Shared (j : Job) (s : AnswerNumbers) (p : List ℕ) : Type 0 where
   pub given : p ≡ sharesOf j
   pub numbers : s ≡ answerNumbers (Says.Shares (spareOf j))
 
+-- kind 8: the chosen labels that weigh exactly C, and their weight
+unfoldable pub Weighed : Job → AnswerNumbers → List ℕ → Type 0
+Weighed j s p =
+    SumOrNone (Weighs j (labels j) (j .budget)) (Behind j (labels j) (j .budget)) (λ q. Says.Weight (total (j .weights) q)) s p
+
 -- what a job of each kind is answered by
 unfoldable pub Gives : Kind → Job → AnswerNumbers → List ℕ → Type 0
 Gives (packing k) j s p = Packed k j s p
@@ -69,6 +76,7 @@ Gives subset-sums j s p = Summed j s p
 Gives fewest-blocks j s p = Built j s p
 Gives block-ways j s p = WaysGiven j s p
 Gives sharing j s p = Shared j s p
+Gives labels-behind j s p = Weighed j s p
 
 -- what the needed places of the table hold after the call
 unfoldable pub TableHolds : Kind → Job → Lent → Type 0
@@ -77,6 +85,7 @@ TableHolds subset-sums j content = BitTable j (content .words)
 TableHolds fewest-blocks j content = FewestRow j (content .cells)
 TableHolds block-ways j content = WaysRow j (content .words)
 TableHolds sharing j content = Unit
+TableHolds labels-behind j content = FirstRow j (content .cells)
 
 -- ---- what a call answers and leaves behind
 

@@ -7,7 +7,7 @@ use Rattle.meaning.specs.Job.{Job}
 use Rattle.meaning.specs.Lent.{lentOf}
 use Rattle.meaning.specs.Solved.{Solved}
 
--- kinds 1, 2, 3 and 5 use cells and picks
+-- kinds 1, 2, 3, 5 and 8 use cells and picks
 unfoldable pub SolvedInCells : Job → List ℕ → List ℕ → Answer → List ℕ → List ℕ → Type 0
 SolvedInCells j cells picks a cells-after picks-after = (words : List ℕ) → Solved j (lentOf cells words picks) a (lentOf cells-after words picks-after)
 

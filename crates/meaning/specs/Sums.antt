@@ -1,4 +1,4 @@
--- Kind 4: the totals that some labels weigh exactly.
+-- Kind 4: the totals that some labels weigh exactly. Behind has kind 8, which names the labels.
 -- Assumes nothing.
 use mathlib.Core.Path.{_≡_}
 use Prim.Native.Nat.{ℕ, _+_, _*_, _/_, _%_, _^_, _≤_, _<_}
@@ -8,11 +8,15 @@ use Rattle.meaning.specs.Counting.{Counted}
 use Rattle.meaning.specs.Job.{Job, labels, once}
 use Rattle.meaning.specs.Knapsacks.{Selection}
 
--- some selection of the first i labels, each at most once, weighs exactly t
+-- p is a selection of the first i labels, each at most once, and weighs exactly t
+pub record Weighs (j : Job) (i t : ℕ) (p : List ℕ) : Type 0 where
+  pub selection : Selection once j i p
+  pub weight : total (j .weights) p ≡ t
+
+-- some selection does
 pub record Reached (j : Job) (i t : ℕ) : Type 0 where
   pub picks : List ℕ
-  pub selection : Selection once j i picks
-  pub weight : total (j .weights) picks ≡ t
+  pub weighs : Weighs j i t picks
 
 -- reached, and not above C
 pub record ReachedWithin (j : Job) (i t : ℕ) : Type 0 where

@@ -9,6 +9,7 @@ pub enum Answer {
     Blocks(u32),
     Ways(u64),
     Shares(u32),
+    Weight(u32),
 }
 
 // What the checker answers: the value, or a refusal number and the place that it names (0 where it names none).
