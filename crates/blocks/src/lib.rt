@@ -17,9 +17,6 @@ ghost use Rattle.blocks.specs.BlocksDoor.{LetIn};
 
 // ---- kind 5: the fewest blocks
 
-// The mark for no way to make an amount (`noWay`): the greatest 32-bit number, which no number of blocks comes to.
-const NO_WAY: u32 = 4_294_967_295;
-
 // The fewest blocks for an amount, by those without a size and those for the rest. No sum passes 32 bits.
 fn fewer(without: u32, rest: u32) -> u32
     ensures { λ r. ⌜ r ≡ fewerOf without rest ⌝ }
@@ -72,9 +69,7 @@ fn fill_fewest(weights: &[u32], wbytes: &[u8], row: &mut [u32])
     requires { ⌜ Bounded (length (now row)) (listFrom (now weights) (now wbytes)) ⌝ }
     ensures { λ _. ⌜ FewestGrown (listFrom (now (weights .entry)) (now (wbytes .entry))) (length (now (row .entry))) (now (row .exit)) ⌝ }
 {
-    let width = row.len();
-    rows::set_all(row, width, NO_WAY);
-    row[0] = 0;
+    rows::mark_rest(row);
     let n = numbers::list_length(weights, wbytes);
     let mut i = 0;
     while i < n {
@@ -133,7 +128,7 @@ fn fewest(
     let width = budget as usize + 1;
     fill_fewest(weights, wbytes, &mut cells[..width]);
     let blocks = cells[width - 1];
-    if blocks == NO_WAY {
+    if rows::is_marked(blocks) {
         return Answer::Refused(7);
     }
     trace_down(weights, wbytes, &cells[..width], &mut picks[..n]);

@@ -40,7 +40,7 @@ fn answer_refusal(answer: Answer) -> u32
     }
 }
 
-// The value, yes as 1, the blocks, the ways or the spare.
+// The value, yes as 1, the blocks, the ways, the spare or kind 8's weight.
 fn first_number(answer: Answer) -> u64
     ensures { λ r. ⌜ r ≡ firstNumber (answerNumbers answer) ⌝ }
 {
@@ -51,10 +51,11 @@ fn first_number(answer: Answer) -> u64
         Answer::Blocks(blocks) => blocks as u64,
         Answer::Ways(ways) => ways,
         Answer::Shares(spare) => spare as u64,
+        Answer::Weight(weight) => weight as u64,
     }
 }
 
-// The weight, or the totals.
+// The weight beside a value, or the totals.
 fn second_number(answer: Answer) -> u64
     ensures { λ r. ⌜ r ≡ secondNumber (answerNumbers answer) ⌝ }
 {

@@ -13,6 +13,7 @@ pub mod Trace
 pub mod Free
 pub mod Greedy
 pub mod Reaching
+pub mod Behind
 pub mod Making
 -- kind 7: shares sum to C
 pub mod Tally

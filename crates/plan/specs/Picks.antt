@@ -12,3 +12,4 @@ picksWritten (Says.Sums y t) n = 0
 picksWritten (Says.Blocks b) n = n
 picksWritten (Says.Ways w) n = 0
 picksWritten (Says.Shares s) n = n
+picksWritten (Says.Weight w) n = n

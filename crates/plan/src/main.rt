@@ -31,7 +31,8 @@ fn picks_written(answer: Answer, n: usize) -> usize
             weight: _,
         }
         | Answer::Blocks(_)
-        | Answer::Shares(_) => n,
+        | Answer::Shares(_)
+        | Answer::Weight(_) => n,
         Answer::Sums { yes: _, totals: _ } | Answer::Ways(_) | Answer::Refused(_) => 0,
     }
 }

@@ -234,6 +234,45 @@ fn share(
     shares::solve(budget, weights, wbytes, picks)
 }
 
+// Kind 8.
+fn show(
+    budget: u32,
+    weights: &[u32],
+    wbytes: &[u8],
+    values: &[u32],
+    vbytes: &[u8],
+    copies: &[u32],
+    cbytes: &[u8],
+    cells: &mut [u32],
+    picks: &mut [u32],
+) -> Answer
+    ensures { λ r. ⌜ SolvedInCells (jobFrom 8 (budget ∷ []) (now (weights .entry)) (now (wbytes .entry))
+        (now (values .entry)) (now (vbytes .entry)) (now (copies .entry)) (now (cbytes .entry))) (now (cells .entry)) (now (picks .entry))
+        r (now (cells .exit)) (now (picks .exit)) ⌝ }
+{
+    let n = numbers::list_length(weights, wbytes);
+    let rules = rules::sums_rules();
+    let room = rules::row_room(n, budget);
+    let refused = refusal(
+        rules,
+        room,
+        budget,
+        weights,
+        wbytes,
+        values,
+        vbytes,
+        copies,
+        cbytes,
+        cells.len(),
+        0,
+        picks.len(),
+    );
+    if refused != 0 {
+        return Answer::Refused(refused);
+    }
+    behind::solve(budget, weights, wbytes, cells, picks)
+}
+
 // The one place where the kind decides.
 fn decide(
     kind: u32,
@@ -297,6 +336,17 @@ fn decide(
             vbytes,
             copies,
             cbytes,
+            picks,
+        ),
+        8 => show(
+            budget,
+            weights,
+            wbytes,
+            values,
+            vbytes,
+            copies,
+            cbytes,
+            cells,
             picks,
         ),
         _ => Answer::Refused(2),

@@ -63,7 +63,7 @@ sumsLines kind reached totals = headLines kind (ascii "yes") (if reached 1 0) ++
 abbrev pub waysLines : ℕ → ℕ → List ℕ
 waysLines kind ways = headLines kind (ascii "ways") ways
 
--- of blocks and of shares: one number under its name, and the picks
+-- of blocks, of shares and of a total: one number under its name, and the picks
 abbrev pub numberAndPicks : ℕ → List ℕ → ℕ → List ℕ → List ℕ
 numberAndPicks kind name x picks = headLines kind name x ++ picksLine picks
 
@@ -75,3 +75,4 @@ linesOf kind (Says.Sums reached totals) picks = sumsLines kind reached totals
 linesOf kind (Says.Blocks blocks) picks = numberAndPicks kind (ascii "blocks") blocks picks
 linesOf kind (Says.Ways ways) picks = waysLines kind ways
 linesOf kind (Says.Shares spare) picks = numberAndPicks kind (ascii "spare") spare picks
+linesOf kind (Says.Weight weight) picks = numberAndPicks kind (ascii "weight") weight picks

@@ -122,5 +122,6 @@ pub fn text(kind: u32, answer: Answer, picks: &[u32], out: &mut [u8]) -> usize
         Answer::Blocks(blocks) => put_number_and_picks(out, kind, b"blocks", blocks, picks),
         Answer::Ways(ways) => put_ways(out, kind, ways),
         Answer::Shares(spare) => put_number_and_picks(out, kind, b"spare", spare, picks),
+        Answer::Weight(weight) => put_number_and_picks(out, kind, b"weight", weight, picks),
     }
 }

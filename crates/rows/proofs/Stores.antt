@@ -1,7 +1,7 @@
 -- Cells that a loop stores one by one: what is stored so far, and the loop's invariants made of it.
 -- Assumes nothing.
 use mathlib.Core.Path.{_≡_, refl, sym, ap, ap₂, _∙_}
-use Prim.Native.Nat.{ℕ, suc, _+_, _-_, _*_, _≤_, _<_, max}
+use Prim.Native.Nat.{ℕ, suc, _+_, _-_, _*_, _≤_, _<_, max, min}
 use native.Mathlib.Decide.{decLt}
 use native.Mathlib.Nat.{zero-add}
 use native.Mathlib.Omega.{arith}
@@ -10,7 +10,7 @@ use lib.ListN.{length, set, drop, length-set}
 use lib.Seq.{getD-set-same, getD-set-other, drop-cons, drop-set-lt, lt-length-set}
 use Rattle.meaning.specs.Lists.{at}
 use Rattle.meaning.specs.Bounds.{mostValue}
-use Rattle.rows.specs.Rows.{Swept, Stored, FirstAlone, Capped}
+use Rattle.rows.specs.Rows.{Joined, Swept, Stored, FirstAlone, Capped}
 
 -- by cases, a below b or not; the numbers come first, so that what each case is handed is known
 pub by : {C : Type 0} (a b : ℕ) → (a < b → C) → (b ≤ a → C) → C
@@ -91,6 +91,39 @@ module _ (s : List ℕ) (to lo hi : ℕ) (rule : ℕ → ℕ) where
   -- all of them
   pub storing-all : (c : ℕ) (t : List ℕ) → hi ≤ c → Storing s to lo hi rule c t → Stored s t to lo hi rule
   storing-all c t h d = let end : c ≡ hi = omega (arith, d .within) in rw end at (d .stored)
+
+-- ---- a row in place, from the greatest budget down
+
+-- a loop that makes the cells of a row from the last down to cell w, each by a rule of what it held and of the old cell w places before it, has
+-- come to cell c. There may be none to make
+pub record Descending (rule : ℕ → ℕ → ℕ) (s : List ℕ) (w c : ℕ) (t : List ℕ) : Type 0 where
+  pub from : min w (length s) ≤ c
+  pub within : c ≤ length s
+  pub long : length t ≡ length s
+  pub stored : Stored s t 0 c (length s) (λ k. rule (at s k) (at s (k - w)))
+
+module _ (rule : ℕ → ℕ → ℕ) (s : List ℕ) (w : ℕ) where
+  pub descending-none : Descending rule s w (length s) s
+  descending-none = record { from = omega arith; within = omega arith; long = refl; stored = stored-none s 0 (length s) (length s) _ (omega arith) }
+
+  -- one cell more: those below it are still the old ones
+  pub descending-more : (c x : ℕ) (t : List ℕ) → w < c → Descending rule s w c t → x ≡ rule (at t (c - 1)) (at t (c - 1 - w))
+      → Descending rule s w (c - 1) (set t (c - 1) x)
+  descending-more c x t h d e = record {
+    from = omega (arith, d .from);
+    within = omega (arith, d .within);
+    long = simp length-set (d .long);
+    stored =
+        stored-down s 0 c (length s) _ t (c - 1) x (omega (arith, d .within, d .long)) (d .stored) (omega arith) (d .within) (omega arith)
+        (e ∙ ap₂ rule (d .stored .before (c - 1) (omega arith)) (d .stored .before (c - 1 - w) (omega arith)));
+  }
+
+  -- all of them
+  pub descending-all : (c : ℕ) (t : List ℕ) → c ≤ w → Descending rule s w c t → Joined rule (at s) (at s) (at t) w (length s)
+  descending-all c t h d = record {
+    short = λ k l m. d .stored .before k (omega (arith, d .from));
+    long = λ k l m. rw zero-add at (d .stored .cells k (omega arith) l);
+  }
 
 -- ---- a row in place, from small budgets up
 

@@ -35,7 +35,7 @@ module _ (n : ℕ) (t t′ : List ℕ) (long : length t ≡ n) (long′ : length
       rw here at (d .cells (k - to) (omega arith) (omega arith) ∙ sym (e .cells (k - to) (omega arith) (omega arith))))
       (d .before) (d .past) (e .before) (e .past)
 
-  -- `first_alone`
+  -- `first_alone` and `mark_rest`
   pub first-alone-unique : (one none : ℕ) → FirstAlone one none n t → FirstAlone one none n t′ → t ≡ t′
   first-alone-unique one none d e =
       same-places (λ k h. by 0 k

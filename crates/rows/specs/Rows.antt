@@ -39,11 +39,11 @@ pub record Least (f : ℕ → ℕ) (w v c b x : ℕ) : Type 0 where
   pub made : Worth f w v c x b
   pub fewer : (y : ℕ) → y < x → ¬ Worth f w v c y b
 
--- g is f with the label added to `less` wherever that is more, for budgets below `width`.
--- Where `less` is f, the label is added once; where it is g, as often as it may be
-pub record Raised (f less g : ℕ → ℕ) (w v width : ℕ) : Type 0 where
+-- g is f with a label of weight w joined to it, for budgets below `width`: a cell that holds the label is made by a rule of what it held and of
+-- `less` w places before it. Where `less` is f, the label is used once; where it is g, as often as it may be
+pub record Joined (rule : ℕ → ℕ → ℕ) (f less g : ℕ → ℕ) (w width : ℕ) : Type 0 where
   pub short : (c : ℕ) → c < width → c < w → g c ≡ f c
-  pub long : (c : ℕ) → c < width → w ≤ c → g c ≡ max (f c) (less (c - w) + v)
+  pub long : (c : ℕ) → c < width → w ≤ c → g c ≡ rule (f c) (less (c - w))
 
 -- t is s with the cells from lo to hi - 1 made one after another, each by a rule of what it held and of the new cell w places before it;
 -- the others are kept
@@ -55,6 +55,10 @@ pub record Swept (rule : ℕ → ℕ → ℕ) (s t : List ℕ) (w lo hi : ℕ) :
 -- the rule by which a label of value v is added wherever that is more
 abbrev pub raisedBy : ℕ → ℕ → ℕ → ℕ
 raisedBy v without less = max without (less + v)
+
+-- g is f with the label added by it
+abbrev pub Raised : (ℕ → ℕ) → (ℕ → ℕ) → (ℕ → ℕ) → ℕ → ℕ → ℕ → Type 0
+Raised f less g w v width = Joined (raisedBy v) f less g w width
 
 -- t is s with the places to + lo, .. to + hi - 1 written by a rule; all others are kept
 pub record Stored (s t : List ℕ) (to lo hi : ℕ) (rule : ℕ → ℕ) : Type 0 where

@@ -2,8 +2,10 @@
 // label's count. Nothing here knows of jobs.
 ghost use mathlib.Core.Path.{_≡_};
 ghost use Prim.Native.Nat.{ℕ, _+_, _-_, _*_, _/_, _≤_, _<_, max, min};
+ghost use lib.Dec.{eqb};
 ghost use lib.ListN.{length};
 ghost use Rattle.meaning.specs.Lists.{at};
+ghost use Rattle.meaning.specs.Cells.{noWay};
 ghost use Rattle.meaning.specs.Bounds.{mostBudget, mostValue};
 ghost use Rattle.rows.specs.Rows.{Stored, FirstAlone, Swept, raisedBy, Raised, Capped, Repeated, Bundled, NextRow};
 ghost use Rattle.rows.specs.Rows.{GreatestRow, AnyCount, SomeCount, Least, leadsOn};
@@ -45,6 +47,26 @@ pub fn first_alone(words: &mut [u64])
         m += 1;
     }
     words[0] = 1;
+}
+
+// The mark for no way to come to a total or an amount (`noWay`): the greatest 32-bit number, which no number of labels or blocks comes to.
+const NO_WAY: u32 = 4_294_967_295;
+
+// The cells of no labels: 0 in the first, for the empty list, and the mark for no way in the others.
+pub fn mark_rest(row: &mut [u32])
+    requires { ⌜ 0 < length (now row) ⌝ }
+    ensures { λ _. ⌜ FirstAlone 0 noWay (length (now (row .entry))) (now (row .exit)) ⌝ }
+{
+    let width = row.len();
+    set_all(row, width, NO_WAY);
+    row[0] = 0;
+}
+
+// Whether a cell shows the mark.
+pub fn is_marked(cell: u32) -> bool
+    ensures { λ r. ⌜ r ≡ eqb cell noWay ⌝ }
+{
+    cell == NO_WAY
 }
 
 // ---- a row made of the row before it, in a table

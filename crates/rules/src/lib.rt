@@ -4,7 +4,7 @@ ghost use mathlib.Core.Path.{_≡_};
 ghost use mathlib.Core.Option.{some};
 ghost use Prim.Native.Nat.{ℕ, _≤_, min};
 ghost use mathlib.Core.Bool.{Bool, true, false};
-ghost use Rattle.meaning.specs.Job.{Knapsack, packing, subset-sums, fewest-blocks, block-ways, sharing, kindOf};
+ghost use Rattle.meaning.specs.Job.{Knapsack, packing, subset-sums, fewest-blocks, block-ways, sharing, labels-behind, kindOf};
 ghost use Rattle.meaning.specs.Bounds.{mostLabels, mostBudget, mostValue, mostCopies, leastCopies, mostOfOne};
 ghost use Rattle.meaning.specs.Refusals.{rulesOf, weightRules};
 ghost use Rattle.rules.specs.Ruling.{rulesFrom, ruleFrom};
@@ -12,13 +12,13 @@ ghost use Rattle.rules.specs.Places.{NeededBy, hasRoom};
 
 // ---- the bounds
 
-// n in kinds 1 to 4.
+// n in kinds 1 to 4 and 8.
 const MOST_LABELS: usize = 1_024;
 // n in kinds 5 and 6.
 const MOST_SIZES: usize = 64;
 // n in kind 7.
 const MOST_CLAIMS: usize = 1_024;
-// C in kinds 1 to 6.
+// C in kinds 1 to 6 and 8.
 const MOST_BUDGET: u32 = 65_535;
 // C in kind 7: any number.
 const MOST_SHARED: u32 = 4_294_967_295;
@@ -80,9 +80,9 @@ fn weight_rules(labels: usize, budget: u32, weights: WeightRule) -> Rules
     }
 }
 
-// The rules of kind 4.
+// The rules of kinds 4 and 8.
 pub fn sums_rules() -> Rules
-    ensures { λ r. ⌜ rulesFrom r false ≡ rulesOf subset-sums ⌝ }
+    ensures { λ r. ⌜ (rulesFrom r false ≡ rulesOf subset-sums) × (rulesFrom r false ≡ rulesOf labels-behind) ⌝ }
 {
     weight_rules(MOST_LABELS, MOST_BUDGET, WeightRule::Positive)
 }
@@ -183,22 +183,28 @@ pub fn sums_room(budget: u32) -> Room
     }
 }
 
+// Kinds 5 and 8: a cell for each amount or total.
+pub fn row_room(n: usize, budget: u32) -> Room
+    ensures { λ r. ⌜ NeededBy fewest-blocks n budget r × NeededBy labels-behind n budget r ⌝ }
+{
+    Room {
+        cells: budget as usize + 1,
+        words: 0,
+        picks: n,
+    }
+}
+
 // Kinds 5 and 6: a cell or a word for each amount.
 pub fn blocks_room(kind: u32, n: usize, budget: u32) -> Room
     requires { ⌜ (5 ≤ kind) × (kind ≤ 6) ⌝ }
     ensures { λ r. ⌜ (kind ≡ 5 → NeededBy fewest-blocks n budget r) × (kind ≡ 6 → NeededBy block-ways n budget r) ⌝ }
 {
-    let width = budget as usize + 1;
     if kind == 5 {
-        return Room {
-            cells: width,
-            words: 0,
-            picks: n,
-        };
+        return row_room(n, budget);
     }
     Room {
         cells: 0,
-        words: width,
+        words: budget as usize + 1,
         picks: 0,
     }
 }

@@ -1,0 +1,2 @@
+-- The definitions that the contracts of this crate cite beside those of `meaning` and `rows`.
+pub mod Firsts
