@@ -143,7 +143,7 @@ module _ (j : Job) (i t : ℕ) (p : List ℕ) where
 
 -- labels more, none of which is needed
 pub behind-zeros : (j : Job) (i t : ℕ) (p : List ℕ) (more : ℕ) → Behind j i t p → Behind j (i + more) t (p ++ replicate more 0)
-behind-zeros j i t p zero b = rw (append-nil p) b
+behind-zeros j i t p zero b = let all : i ≡ i + 0 = omega arith in rw (append-nil p, ← all) b
 behind-zeros j i t p (suc more) b =
     let next : suc i + more ≡ i + suc more = omega arith in
     rw (← next, ← append-assoc p (0 ∷ []) (replicate more 0)) (behind-zeros j (suc i) t (p ++ (0 ∷ [])) more (behind-without j i t p b))
