@@ -12,7 +12,7 @@ use Rattle.meaning.specs.Bounds.{mostBudget}
 use Rattle.meaning.specs.Blocks.{MadeOf, WaysShown, tooMany}
 use Rattle.meaning.proofs.Making.{few-blocks, fewest-none, fewest-no-sizes, fewest-skip, fewest-more, ways-none, no-sizes, ways-skip, ways-more}
 use Rattle.rows.specs.Rows.{Swept, FirstAlone}
-use Rattle.rows.proofs.Stores.{by}
+use Rattle.rows.proofs.Stores.{by, alone-shows}
 use Rattle.rows.proofs.Rounds.{each-round, Rounds}
 use Rattle.blocks.specs.Sizes.{Bounded, fewerOf, waysOf, Grown}
 
@@ -39,13 +39,10 @@ module _ (rule : ℕ → ℕ → ℕ) (one none : ℕ) (sizes : List ℕ) (width
       (more i a (at row a) (at next (a - at sizes i)) inside l long (rows a l)
       (one-more-size i row next inside rows d n (a - at sizes i) (omega (arith, bounds .whole i inside)) (omega arith))))
 
-  alone : (l : List ℕ) → FirstAlone one none width l → (a : ℕ) → a < width → Shows 0 a (at l a)
-  alone l f zero h = subst (Shows 0 0) (sym (f .first)) first
-  alone l f (suc a) h = subst (Shows 0 (suc a)) (sym (f .others (suc a) (omega arith) h)) (others (suc a) (omega arith))
-
   grown-shows : (row : List ℕ) → Grown rule one none sizes width (length sizes) row → (a : ℕ) → a < width → Shows (length sizes) a (at row a)
   grown-shows row =
-      each-round _ _ (λ i s. (a : ℕ) → a < width → Shows i a (at s a)) (length sizes) alone
+      each-round _ _ (λ i s. (a : ℕ) → a < width → Shows i a (at s a)) (length sizes)
+      (alone-shows one none width (Shows 0) first others)
       (λ i s t inside rows up a h. one-more-size i s t inside rows up (suc a) a (omega arith) h)
       (length sizes) row (omega arith)
 

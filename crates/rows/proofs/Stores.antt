@@ -1,7 +1,7 @@
 -- Cells that a loop stores one by one: what is stored so far, and the loop's invariants made of it.
 -- Assumes nothing.
-use mathlib.Core.Path.{_≡_, refl, sym, ap, ap₂, _∙_}
-use Prim.Native.Nat.{ℕ, suc, _+_, _-_, _*_, _≤_, _<_, max, min}
+use mathlib.Core.Path.{_≡_, refl, sym, ap, ap₂, _∙_, subst}
+use Prim.Native.Nat.{ℕ, zero, suc, _+_, _-_, _*_, _≤_, _<_, max, min}
 use native.Mathlib.Decide.{decLt}
 use native.Mathlib.Nat.{zero-add}
 use native.Mathlib.Omega.{arith}
@@ -40,6 +40,13 @@ stored-each s t n rule d i h = ap (at t) (sym (zero-add i)) ∙ d .cells i (omeg
 -- `one` over the first of places that all hold `none`
 pub alone : (t : List ℕ) (one none count : ℕ) → 0 < length t → ((m : ℕ) → m < count → at t m ≡ none) → FirstAlone one none count (set t 0 one)
 alone t one none count some same = record { first = at-same t 0 one 0 some refl; others = λ m pos h. at-other t 0 one m (omega arith) ∙ same m h }
+
+-- so what is right for `one` in the first place, and for `none` in every other, is right for what they hold
+pub alone-shows : (one none count : ℕ) (Shows : ℕ → ℕ → Type 0) → Shows 0 one → ((m : ℕ) → 0 < m → Shows m none)
+    → (l : List ℕ) → FirstAlone one none count l → (m : ℕ) → m < count → Shows m (at l m)
+alone-shows one none count Shows first others l f zero h = subst (Shows 0) (sym (f .first)) first
+alone-shows one none count Shows first others l f (suc m) h =
+    subst (Shows (suc m)) (sym (f .others (suc m) (omega arith) h)) (others (suc m) (omega arith))
 
 module _ (s : List ℕ) (to lo hi : ℕ) (rule : ℕ → ℕ) where
   -- nothing stored yet

@@ -16,10 +16,10 @@ use Rattle.blocks.proofs.fill_fewest.Statement.{statement}
 use Rattle.blocks.proofs.fill_fewest.Tie as tie
 
 abbrev Inv-loop : tie.InvT-loop
-Inv-loop weights wbytes row₀ width n i₀ row i = Growing fewerOf 0 noWay (listFrom weights wbytes) n (length row₀) i row
+Inv-loop weights wbytes row₀ n i₀ row i = Growing fewerOf 0 noWay (listFrom weights wbytes) n (length row₀) i row
 
 abbrev μ-loop : tie.MeasureT-loop
-μ-loop weights wbytes row₀ width n i₀ row i = n - i
+μ-loop weights wbytes row₀ n i₀ row i = n - i
 
 -- the function's entry
 abbrev begun : tie.After-set-all-arg Inv-loop μ-loop → tie.Start Inv-loop μ-loop

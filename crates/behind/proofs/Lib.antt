@@ -1,0 +1,4 @@
+-- Laws of the definitions in specs/, from cells alone up to the door.
+pub mod Growing
+pub mod Tracing
+pub mod BehindDoor
