@@ -7,7 +7,7 @@ use lib.Dec.{leb}
 use borrow.Author.Tests.{le-leb, lt-leb}
 use native.Mathlib.Omega.{arith}
 use native.Mathlib.Nat.{mul-le-mul}
-use Rattle.meaning.specs.Job.{Knapsack, Kind, once, limited, free, packing, subset-sums, fewest-blocks, block-ways, sharing}
+use Rattle.meaning.specs.Job.{Knapsack, Kind, once, limited, free, packing, subset-sums, fewest-blocks, block-ways, sharing, labels-behind}
 use Rattle.meaning.specs.Lent.{cellCount, roomFor, roomOf}
 use Rattle.meaning.specs.Bounds.{mostLabels, mostBudget}
 use Rattle.meaning.proofs.Laws.{numberOf}
@@ -45,7 +45,7 @@ needed-within k n budget r h l needed =
     let same-budget : min budget mostBudget ≡ budget = omega arith in
     rw (same-n, same-budget) at needed
 
--- ---- kinds 4 to 7
+-- ---- kinds 4 to 8
 
 module _ (n budget : ℕ) where
   pub bits-needed : NeededBy subset-sums n budget (record { cells = 0; words = budget / 64 + 1; picks = 0 })
@@ -59,6 +59,10 @@ module _ (n budget : ℕ) where
   pub ways-needed : NeededBy block-ways n budget (record { cells = 0; words = budget + 1; picks = 0 })
   unfolding NeededBy roomFrom roomFor roomOf
   ways-needed j e f = rw f
+
+  pub behind-needed : NeededBy labels-behind n budget (record { cells = budget + 1; words = 0; picks = n })
+  unfolding NeededBy roomFrom roomFor roomOf
+  behind-needed j e f = rw (e, f)
 
   pub shares-needed : NeededBy sharing n budget (record { cells = 0; words = 0; picks = n })
   unfolding NeededBy roomFrom roomFor roomOf

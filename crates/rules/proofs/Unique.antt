@@ -9,7 +9,8 @@ use mathlib.Core.Bool.{Bool, true, false}
 use mathlib.Core.List.{List, [], _∷_}
 use lib.ListN.{length-replicate, replicate}
 use Rattle.meaning.specs.Lists.{every, if}
-use Rattle.meaning.specs.Job.{Knapsack, Kind, packing, subset-sums, fewest-blocks, block-ways, sharing, kindOf, jobOf, labels}
+use Rattle.meaning.specs.Job.{Knapsack, Kind, packing, subset-sums, fewest-blocks, block-ways, sharing, labels-behind}
+use Rattle.meaning.specs.Job.{kindOf, jobOf, labels}
 use Rattle.meaning.specs.Lent as lent
 use Rattle.meaning.specs.Refusals as meaning
 use Rattle.meaning.specs.Bounds.{mostLabels, mostBudget, mostValue, mostCopies, leastCopies}
@@ -64,8 +65,9 @@ knapsack-rules-unique kind r r′ h a b =
     rules-unique false (rulesOf (packing (s .knapsack))) r r′ (a (s .knapsack) (s .of-kind)) (b (s .knapsack) (s .of-kind))
 
 -- `sums_rules`
-pub sums-rules-unique : (r r′ : Rules) → rulesFrom r false ≡ rulesOf subset-sums → rulesFrom r′ false ≡ rulesOf subset-sums → r ≡ r′
-sums-rules-unique = rules-unique false (rulesOf subset-sums)
+pub sums-rules-unique : (r r′ : Rules) → (rulesFrom r false ≡ rulesOf subset-sums) × (rulesFrom r false ≡ rulesOf labels-behind)
+    → (rulesFrom r′ false ≡ rulesOf subset-sums) × (rulesFrom r′ false ≡ rulesOf labels-behind) → r ≡ r′
+sums-rules-unique r r′ a b = rules-unique false (rulesOf subset-sums) r r′ (a .0) (b .0)
 
 -- `blocks_rules`
 pub blocks-rules-unique : (r r′ : Rules) → (rulesFrom r false ≡ rulesOf fewest-blocks) × (rulesFrom r false ≡ rulesOf block-ways)
@@ -123,6 +125,11 @@ knapsack-room-unique kind n budget r r′ h a b =
 pub sums-room-unique : (budget : ℕ) (r r′ : Room) → ((n : ℕ) → NeededBy subset-sums n budget r) → ((n : ℕ) → NeededBy subset-sums n budget r′)
     → r ≡ r′
 sums-room-unique budget r r′ a b = needed-unique subset-sums 0 budget r r′ (a 0) (b 0)
+
+-- `row_room`
+pub row-room-unique : (n budget : ℕ) (r r′ : Room) → NeededBy fewest-blocks n budget r × NeededBy labels-behind n budget r
+    → NeededBy fewest-blocks n budget r′ × NeededBy labels-behind n budget r′ → r ≡ r′
+row-room-unique n budget r r′ a b = needed-unique fewest-blocks n budget r r′ (a .0) (b .0)
 
 -- `blocks_room`
 pub blocks-room-unique : (kind n budget : ℕ) (r r′ : Room) → (5 ≤ kind) × (kind ≤ 6)

@@ -7,6 +7,7 @@ use native.Mathlib.Omega.{arith}
 use mathlib.Core.List.{List, [], _∷_, _++_}
 use lib.ListN.{length, drop, take}
 use lib.Seq.{length-take-le}
+use borrow.Author.Tests.{eqb-true, eqb-false}
 use Rattle.meaning.specs.Lists.{at}
 use Rattle.meaning.specs.Cells.{noWay}
 use Rattle.meaning.specs.Job.{Job, jobOf, fewest-blocks, labels}
@@ -49,7 +50,7 @@ abbrev entry : tie.After-list-length → tie.Start
 entry c = c .before .before .before .before .before
 
 abbrev filled : tie.Else1 → tie.After-fill-fewest
-filled c = c .before .before .before .before
+filled c = c .before .before .before .before .before
 
 -- what the call of `fill_fewest` leaves
 module _ (f : tie.After-fill-fewest) where
@@ -111,16 +112,19 @@ mul-blocks c = search needs
 slice-read-blocks : tie.Need-slice-read-blocks
 slice-read-blocks c = omega (arith, room (c .before .before .before))
 
+is-marked-requires : tie.Need-is-marked-requires
+is-marked-requires c κs = search needs
+
 same-length : tie.Need-same-length
 same-length c = search needs
 
 returns : tie.Need-returns
-unfolding jobOf noWay
+unfolding jobOf
 returns c =
-    let f = c .before .before .before .before in
+    let f = c .before .before .before .before .before in
     let s = start f in
     no-blocks (job s) (s .args .cells .now) (s .args .picks .now) (row f) (s .pre) (ok s .bounds) (row-long f) (row-grown f)
-    _ (last f) (c .if1 .taken)
+    _ (last f) (eqb-true _ noWay (sym (c .before .is-marked .ensures) ∙ c .if1 .taken))
 
 slice-reshare-prefix-trace-down : tie.Need-slice-reshare-prefix-trace-down
 slice-reshare-prefix-trace-down c = room (filled c)
@@ -144,7 +148,7 @@ same-length-3 : tie.Need-same-length-3
 same-length-3 c = search needs
 
 returns-2 : tie.Need-returns-2
-unfolding jobOf labels noWay
+unfolding jobOf labels
 returns-2 c =
     let traced = c .before .before in
     let found = traced .trace-down .last .1 .1 .1 .0 in
@@ -154,7 +158,7 @@ returns-2 c =
     let trace : TraceDown (at (row f)) (sizes s) (s .args .budget) found =
     rw (row-front f, row-long f, add-sub-cancel) at (traced .trace-down .ensures) in
     blocks-laid (job s) (s .args .cells .now) (s .args .picks .now) (row f) (s .pre) (ok s .bounds) (row-long f) (row-grown f)
-    _ _ found (last f) (other .if1 .left) (counted f) trace
+    _ _ found (last f) (eqb-false _ noWay (sym (other .before .is-marked .ensures) ∙ other .if1 .left)) (counted f) trace
 
 pub fewest-spec : {M : Type 1} → statement M
 fewest-spec =
@@ -168,6 +172,7 @@ fewest-spec =
     sub-blocks
     mul-blocks
     slice-read-blocks
+    is-marked-requires
     same-length
     returns
     slice-reshare-prefix-trace-down

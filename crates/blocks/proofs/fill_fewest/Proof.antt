@@ -4,10 +4,9 @@ use mathlib.Core.Path.{_≡_, _∙_}
 use Prim.Native.Nat.{ℕ, _-_, _<_}
 use native.Mathlib.Omega.{arith}
 use mathlib.Core.List.{List}
-use lib.ListN.{length, length-set}
+use lib.ListN.{length}
 use Rattle.meaning.specs.Cells.{noWay}
 use Rattle.numbers.specs.TwoSlices.{listFrom}
-use Rattle.rows.proofs.Stores.{alone, stored-each}
 use Rattle.rows.proofs.Rounds.{rounds-none, rounds-more, rounds-all}
 use Rattle.blocks.specs.Sizes.{fewerOf}
 use Rattle.blocks.proofs.Growing.{Growing}
@@ -21,44 +20,32 @@ Inv-loop weights wbytes row₀ n i₀ row i = Growing fewerOf 0 noWay (listFrom 
 abbrev μ-loop : tie.MeasureT-loop
 μ-loop weights wbytes row₀ n i₀ row i = n - i
 
--- the function's entry
-abbrev begun : tie.After-set-all-arg Inv-loop μ-loop → tie.Start Inv-loop μ-loop
-begun c = c .before .before .before .before
-
--- the cells of no sizes, from the loop's head, and the entry from there
-abbrev cleared : tie.At-loop Inv-loop μ-loop → tie.After-set-all Inv-loop μ-loop
+-- the cells of no sizes, from the loop's head, and the function's entry
+abbrev cleared : tie.At-loop Inv-loop μ-loop → tie.After-mark-rest Inv-loop μ-loop
 cleared c = c .before .before .before .before
 
 abbrev entry : tie.At-loop Inv-loop μ-loop → tie.Start Inv-loop μ-loop
-entry c = begun (cleared c .before)
+entry c = cleared c .before .before .before .before .before
 
 -- the sizes that the function is handed
 abbrev sizes : tie.Start Inv-loop μ-loop → List ℕ
 sizes s = listFrom (s .args .weights .now) (s .args .wbytes .now)
 
 long : (c : tie.At-loop Inv-loop μ-loop) → length (c .loop .row) ≡ length (entry c .args .row .now)
-long c = c .loop .inv .long ∙ simp length-set (cleared c .set-all .kept .0)
+long c = c .loop .inv .long ∙ cleared c .mark-rest .kept .0
 
 -- size i is one of them
 inside : (c : tie.In-loop Inv-loop μ-loop) → c .before .loop .i < length (sizes (entry (c .before)))
 inside c = omega (arith, c .before .before .list-length .ensures)
 
-set-all-requires : tie.Need-set-all-requires Inv-loop μ-loop
-set-all-requires c κs = search needs
-
-slice-write-row : tie.Need-slice-write-row Inv-loop μ-loop
-slice-write-row c = search needs
+mark-rest-requires : tie.Need-mark-rest-requires Inv-loop μ-loop
+mark-rest-requires c κs = search (needs, c .before .before .before .before .pre .wide)
 
 list-length-requires : tie.Need-list-length-requires Inv-loop μ-loop
 list-length-requires c κs = search needs
 
 loop-holds : tie.Need-loop-holds Inv-loop μ-loop
-unfolding noWay
-loop-holds c =
-    let first = c .before .before .before in
-    let marks = first .set-all in
-    rounds-none (alone (marks .last .0) 0 noWay _ (omega (arith, marks .kept .0, begun (first .before) .pre .wide))
-    (λ a h. stored-each _ _ _ (λ k. noWay) (marks .ensures) a (omega (arith, marks .kept .0, simp length-set at h))))
+loop-holds c = let row = c .before .before .before .mark-rest in rounds-none (rw (row .kept .0) (row .ensures))
 
 item-requires : tie.Need-item-requires Inv-loop μ-loop
 item-requires c κs = inside (c .before)
@@ -95,8 +82,7 @@ fill-fewest-spec =
     (tie.spec
     Inv-loop
     μ-loop
-    set-all-requires
-    slice-write-row
+    mark-rest-requires
     list-length-requires
     loop-holds
     item-requires

@@ -3,6 +3,7 @@
 use mathlib.Core.List.{[], _∷_}
 use mathlib.Core.Path.{_≡_}
 use mathlib.Core.Logic.{inl, inr}
+use Prim.Native.Nat.{ℕ, suc, _≤_}
 use native.Mathlib.Omega.{arith}
 use Rattle.meaning.specs.Job.{Job, jobOf, allKinds}
 use Rattle.meaning.specs.Lent.{Lent, lentOf}
@@ -27,15 +28,25 @@ module _ (s : tie.Start) where
 abbrev entry : tie.After-slice-known3 → tie.Start
 entry c = c .before .before .before .before .before .before .before .before .before
 
--- where it decided for kinds 1 to 3, from their end
-abbrev packed : tie.After-slice-known7 → tie.After-pack
+-- where it decided for kind 8, and for kinds 1 to 3, from their ends
+abbrev shown : tie.After-slice-known7 → tie.After-show
+shown c = c .before .before .before .before
+
+abbrev packed : tie.After-slice-known9 → tie.After-pack
 packed c = c .before .before .before .before
+
+-- a number that is m at least, and not m, is above it
+above : (m k : ℕ) → m ≤ k → ¬ (k ≡ m) → suc m ≤ k
+above m k h other = omega arith
 
 reach-requires : tie.Need-reach-requires
 reach-requires c κs = search needs
 
 share-requires : tie.Need-share-requires
 share-requires c κs = search needs
+
+show-requires : tie.Need-show-requires
+show-requires c κs = search needs
 
 pack-requires : tie.Need-pack-requires
 pack-requires c κs = search needs
@@ -76,8 +87,10 @@ same-length-4 c = search needs
 returns-3 : tie.Need-returns-3
 unfolding SolvedInCells
 returns-3 c =
-    let else1 = packed c .before .before .before .before in
-    packed c .pack .ensures (entry (else1 .before .before) .args .words .now)
+    let arm = shown c .before .before .before in
+    let s = entry (arm .before) in
+    let eight : s .args .kind ≡ 8 = arm .match .keys3 in
+    rw eight (shown c .show .ensures (s .args .words .now))
 
 same-length-5 : tie.Need-same-length-5
 same-length-5 c = search needs
@@ -85,24 +98,38 @@ same-length-5 c = search needs
 same-length-6 : tie.Need-same-length-6
 same-length-6 c = search needs
 
+returns-4 : tie.Need-returns-4
+unfolding SolvedInCells
+returns-4 c =
+    let else1 = packed c .before .before .before .before in
+    packed c .pack .ensures (entry (else1 .before .before) .args .words .now)
+
 same-length-7 : tie.Need-same-length-7
 same-length-7 c = search needs
 
-returns-4 : tie.Need-returns-4
-returns-4 c = search needs
+same-length-8 : tie.Need-same-length-8
+same-length-8 c = search needs
+
+same-length-9 : tie.Need-same-length-9
+same-length-9 c = search needs
 
 returns-5 : tie.Need-returns-5
+returns-5 c = search needs
+
+returns-6 : tie.Need-returns-6
 unfolding jobOf
-returns-5 c =
+returns-6 c =
     let s = entry (c .before .before) in
     solved-no-kind (job s) (lent s) (no-kind (s .args .kind) (inl (omega arith)))
 
-returns-6 : tie.Need-returns-6
+returns-7 : tie.Need-returns-7
 unfolding jobOf allKinds
-returns-6 c =
+returns-7 c =
     let rest = c .before .before .before in
     let s = entry (rest .before) in
-    solved-no-kind (job s) (lent s) (no-kind (s .args .kind) (inr (omega (arith, rest .match .rest .1))))
+    let others = rest .match .rest in
+    let k = s .args .kind in
+    solved-no-kind (job s) (lent s) (no-kind k (inr (above 8 k (above 7 k (c .if3 .left) (others .0 .1)) (others .1))))
 
 pub decide-spec : {M : Type 1} → statement M
 decide-spec =
@@ -110,6 +137,7 @@ decide-spec =
     (tie.spec
     reach-requires
     share-requires
+    show-requires
     pack-requires
     lay-requires
     same-length
@@ -121,7 +149,10 @@ decide-spec =
     returns-3
     same-length-5
     same-length-6
-    same-length-7
     returns-4
+    same-length-7
+    same-length-8
+    same-length-9
     returns-5
-    returns-6)
+    returns-6
+    returns-7)

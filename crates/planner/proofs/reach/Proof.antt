@@ -47,7 +47,7 @@ lowest c cells picks =
     asked subset-sums (job s) (lent s cells picks) _ false (c .before .sums-room .result) 0 _ 0 (c .refusal .result)
     (record {
       of-kind = refl;
-      its-rules = chosen c .sums-rules .ensures;
+      its-rules = chosen c .sums-rules .ensures .0;
       its-room = λ few small. c .before .sums-room .ensures (labels (job s));
       in-cells = unneeded 0 0 (length cells) refl;
       in-words = refl;

@@ -13,7 +13,7 @@ weight-rules-requires c κs = search needs
 
 returns : tie.Need-returns
 unfolding rulesOf ruleFrom mostLabels mostBudget
-returns c = c .weight-rules .ensures false
+returns c = let its = c .weight-rules .ensures false in (its, its)
 
 pub sums-rules-spec : {M : Type 1} → statement M
 sums-rules-spec = tie.close (tie.spec weight-rules-requires returns)
