@@ -251,7 +251,6 @@ module _ (j : Job) (i : ℕ) where
   misses-out t within h q d = eqb-no (all-out once-limits (λ q′. not (exact j t q′)) h q (once-within within d)) (d .weight)
 
 module _ (j : Job) where
-
   pub reached-by : (p : List ℕ) (t : ℕ) → T (isSelection once j p) → total (j .weights) p ≡ t → Reached j (labels j) t
   reached-by p t s e = reached-as p (selection-out once j p s) e
 

@@ -11,7 +11,7 @@ use lib.ListN.{length}
 use Rattle.meaning.specs.declared.Answer.{Answer}
 use Rattle.meaning.specs.declared.Answer.the-variants as Says
 use Rattle.meaning.specs.Lists.{if}
-use Rattle.meaning.specs.Job.{Job, labels, Kind, once, limited, free, packing, subset-sums, fewest-blocks, block-ways, sharing, kindOf}
+use Rattle.meaning.specs.Job.{Job, labels, Kind, once, limited, free, packing, subset-sums, fewest-blocks, block-ways, sharing, labels-behind, kindOf}
 use Rattle.meaning.specs.Lent.{Lent, roomFor, roomOf}
 use Rattle.meaning.specs.Refusals.{kindRefusal}
 use Rattle.meaning.specs.Bytes.{JobRead, readJob, readable, unreadable}
@@ -32,6 +32,7 @@ at-most (Says.Sums y t) n = omega arith
 at-most (Says.Blocks b) n = omega arith
 at-most (Says.Ways w) n = omega arith
 at-most (Says.Shares s) n = omega arith
+at-most (Says.Weight w) n = omega arith
 
 -- an answer that says what one without picks says has none
 as-without : (a b : Answer) (n m : ℕ) → answerNumbers a ≡ answerNumbers b → picksWritten b n ≡ 0 → picksWritten a n ≤ m
@@ -61,6 +62,7 @@ module _ (j : Job) (before after : Lent) (a : Answer) where
   by-answer block-ways p ok g =
       as-without a (waysAnswer (g .ways)) (labels j) (length (before .picks)) (g .numbers) (ways-without (ltb (g .ways) tooMany) (g .ways) (labels j))
   by-answer sharing p ok g = one-each sharing refl ok
+  by-answer labels-behind p ok g = one-each labels-behind refl ok
 
   by-refusal : (k : Kind) (r : ℕ) → kindOf (j .kind-number) ≡ some k → kindRefusal (roomFor k j) k j before ≡ r
       → Outcome r (roomFor k j) (TableHolds k j) k j before (answerNumbers a) after → picksWritten a (labels j) ≤ length (before .picks)

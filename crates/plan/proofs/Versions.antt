@@ -13,7 +13,7 @@ use lib.ListN.{length, length-replicate, replicate, take}
 use Rattle.meaning.specs.declared.Answer.{Answer}
 use Rattle.meaning.specs.declared.Answer.the-variants as Says
 use Rattle.meaning.specs.Lists.{at, if}
-use Rattle.meaning.specs.Job.{Job, Kind, block-ways, fewest-blocks, free, jobOf, kindOf, labels, limited, once, packing, sharing, subset-sums}
+use Rattle.meaning.specs.Job.{Job, Kind, block-ways, fewest-blocks, free, jobOf, kindOf, labels, limited, once, packing, sharing, labels-behind, subset-sums}
 use Rattle.meaning.specs.Lent.{Lent, roomFor}
 use Rattle.meaning.specs.Refusals.{kindRefusal}
 use Rattle.meaning.specs.Bytes.{jobBytes, readJob, readable}
@@ -52,6 +52,7 @@ firstName subset-sums = ascii "yes"
 firstName fewest-blocks = ascii "blocks"
 firstName block-ways = ascii "ways"
 firstName sharing = ascii "spare"
+firstName labels-behind = ascii "weight"
 
 -- lines that start with the kind, and 0 for its first number
 abbrev pub Says0 : Kind → List ℕ → Type 0
@@ -95,6 +96,7 @@ refusal-shown kind r (Says.Sums y n) picks e = let k : _≡_ {A = ℕ} 107 114 =
 refusal-shown kind r (Says.Blocks b) picks e = let k : _≡_ {A = ℕ} 107 114 = ap (λ (l : List ℕ). at l 0) e in absurd (omega arith)
 refusal-shown kind r (Says.Ways w) picks e = let k : _≡_ {A = ℕ} 107 114 = ap (λ (l : List ℕ). at l 0) e in absurd (omega arith)
 refusal-shown kind r (Says.Shares x) picks e = let k : _≡_ {A = ℕ} 107 114 = ap (λ (l : List ℕ). at l 0) e in absurd (omega arith)
+refusal-shown kind r (Says.Weight w) picks e = let k : _≡_ {A = ℕ} 107 114 = ap (λ (l : List ℕ). at l 0) e in absurd (omega arith)
 
 -- the first number of no trial's answer is 0: here at its first digit
 first-digit : (k : Kind) (picks rest : List ℕ)
@@ -107,6 +109,7 @@ first-digit subset-sums picks rest e = let d : _≡_ {A = ℕ} 49 48 = ap (λ (l
 first-digit fewest-blocks picks rest e = let d : _≡_ {A = ℕ} 50 48 = ap (λ (l : List ℕ). at l 14) e in omega arith
 first-digit block-ways picks rest e = let d : _≡_ {A = ℕ} 52 48 = ap (λ (l : List ℕ). at l 12) e in omega arith
 first-digit sharing picks rest e = let d : _≡_ {A = ℕ} 49 48 = ap (λ (l : List ℕ). at l 13) e in omega arith
+first-digit labels-behind picks rest e = let d : _≡_ {A = ℕ} 56 48 = ap (λ (l : List ℕ). at l 14) e in omega arith
 
 not-0-shown : (k : Kind) (g : List ℕ × ℕ) (left : Lent) → Shown (tried k .job) g (tried k .answer) left
     → ¬ (RefusalLine (written g) ⊎ Says0 k (written g))
@@ -132,6 +135,7 @@ ready subset-sums = ready-by subset-sums (lit≤ tt) refl refl
 ready fewest-blocks = ready-by fewest-blocks (lit≤ tt) refl refl
 ready block-ways = ready-by block-ways (lit≤ tt) refl refl
 ready sharing = ready-by sharing (lit≤ tt) refl refl
+ready labels-behind = ready-by labels-behind (lit≤ tt) refl refl
 
 -- a slice with just the room
 blank : List ℕ

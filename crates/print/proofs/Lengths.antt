@@ -123,3 +123,5 @@ lines-room kind (Says.Blocks blocks) ps =
 lines-room kind (Says.Ways ways) ps = omega (arith, head-room kind (ascii "ways") ways)
 lines-room kind (Says.Shares spare) ps =
     omega (arith, number-and-picks-long kind (ascii "spare") spare ps, head-room kind (ascii "spare") spare, picks-room ps)
+lines-room kind (Says.Weight weight) ps =
+    omega (arith, number-and-picks-long kind (ascii "weight") weight ps, head-room kind (ascii "weight") weight, picks-room ps)

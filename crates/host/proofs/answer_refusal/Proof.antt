@@ -13,14 +13,15 @@ use Rattle.host.proofs.answer_refusal.Statement.{statement}
 use Rattle.host.proofs.answer_refusal.Tie as tie
 
 -- every other case
-others : (a : Answer) → OneOf (1 ∷ 2 ∷ 3 ∷ 4 ∷ 5 ∷ []) (tagOf the-type a) → 0 ≡ answerNumbers a .refusal
+others : (a : Answer) → OneOf (1 ∷ 2 ∷ 3 ∷ 4 ∷ 5 ∷ 6 ∷ []) (tagOf the-type a) → 0 ≡ answerNumbers a .refusal
 unfolding answerNumbers
-others (Says.Refused r) tag = absurd (miss (1 ∷ 2 ∷ 3 ∷ 4 ∷ 5 ∷ []) 0 tt tag)
+others (Says.Refused r) tag = absurd (miss (1 ∷ 2 ∷ 3 ∷ 4 ∷ 5 ∷ 6 ∷ []) 0 tt tag)
 others (Says.Knapsack v w) tag = refl
 others (Says.Sums y n) tag = refl
 others (Says.Blocks b) tag = refl
 others (Says.Ways w) tag = refl
 others (Says.Shares x) tag = refl
+others (Says.Weight w) tag = refl
 
 enum-known-answer : tie.Need-enum-known-answer
 enum-known-answer c = search needs

@@ -38,6 +38,12 @@ enum-known-answer-5 c = search needs
 cast-result-4 : tie.Need-cast-result-4
 cast-result-4 c = search needs
 
+enum-known-answer-6 : tie.Need-enum-known-answer-6
+enum-known-answer-6 c = search needs
+
+cast-result-5 : tie.Need-cast-result-5
+cast-result-5 c = search needs
+
 returns : tie.Need-returns
 unfolding firstNumber answerNumbers
 returns c = rw (c .enum-told .given .1)
@@ -62,6 +68,10 @@ returns-6 : tie.Need-returns-6
 unfolding firstNumber answerNumbers
 returns-6 c = rw (c .before .answer5 .given .1) (omega arith)
 
+returns-7 : tie.Need-returns-7
+unfolding firstNumber answerNumbers
+returns-7 c = rw (c .before .answer6 .given .1) (omega arith)
+
 pub first-number-spec : {M : Type 1} → statement M
 first-number-spec =
     tie.close
@@ -76,9 +86,12 @@ first-number-spec =
     enum-known-answer-4
     enum-known-answer-5
     cast-result-4
+    enum-known-answer-6
+    cast-result-5
     returns
     returns-2
     returns-3
     returns-4
     returns-5
-    returns-6)
+    returns-6
+    returns-7)

@@ -15,14 +15,15 @@ use Rattle.host.proofs.second_number.Statement.{statement}
 use Rattle.host.proofs.second_number.Tie as tie
 
 -- every other case
-others : (a : Answer) → OneOf (0 ∷ 3 ∷ 4 ∷ 5 ∷ []) (tagOf the-type a) → 0 ≡ secondNumber (answerNumbers a)
+others : (a : Answer) → OneOf (0 ∷ 3 ∷ 4 ∷ 5 ∷ 6 ∷ []) (tagOf the-type a) → 0 ≡ secondNumber (answerNumbers a)
 unfolding secondNumber answerNumbers
 others (Says.Refused r) tag = refl
-others (Says.Knapsack v w) tag = absurd (miss (0 ∷ 3 ∷ 4 ∷ 5 ∷ []) 1 tt tag)
-others (Says.Sums y n) tag = absurd (miss (0 ∷ 3 ∷ 4 ∷ 5 ∷ []) 2 tt tag)
+others (Says.Knapsack v w) tag = absurd (miss (0 ∷ 3 ∷ 4 ∷ 5 ∷ 6 ∷ []) 1 tt tag)
+others (Says.Sums y n) tag = absurd (miss (0 ∷ 3 ∷ 4 ∷ 5 ∷ 6 ∷ []) 2 tt tag)
 others (Says.Blocks b) tag = refl
 others (Says.Ways w) tag = refl
 others (Says.Shares x) tag = refl
+others (Says.Weight w) tag = refl
 
 enum-known-answer : tie.Need-enum-known-answer
 enum-known-answer c = search needs

@@ -159,6 +159,30 @@ returns-6 c =
     let known = put .before .before .before .before in
     whole (known .before .before) (known .answer6 .given .1) (put .put-number-and-picks2 .ensures)
 
+-- ---- the weight of kind 8
+
+enum-known-answer-7 : tie.Need-enum-known-answer-7
+enum-known-answer-7 c = search needs
+
+slice-aggregate-put-number-and-picks-3 : tie.Need-slice-aggregate-put-number-and-picks-3
+slice-aggregate-put-number-and-picks-3 c = search needs
+
+put-number-and-picks-requires-3 : tie.Need-put-number-and-picks-requires-3
+unfolding ascii linesOf
+put-number-and-picks-requires-3 c κs =
+    let known = c .before .before .before in
+    room (known .before .before) (known .answer7 .given .1)
+
+same-length-7 : tie.Need-same-length-7
+same-length-7 c = search needs
+
+returns-7 : tie.Need-returns-7
+unfolding ascii linesOf
+returns-7 c =
+    let put = c .before .before in
+    let known = put .before .before .before .before in
+    whole (known .before .before) (known .answer7 .given .1) (put .put-number-and-picks3 .ensures)
+
 pub text-spec : {M : Type 1} → statement M
 text-spec =
     tie.close
@@ -177,6 +201,9 @@ text-spec =
     enum-known-answer-6
     slice-aggregate-put-number-and-picks-2
     put-number-and-picks-requires-2
+    enum-known-answer-7
+    slice-aggregate-put-number-and-picks-3
+    put-number-and-picks-requires-3
     same-length
     returns
     same-length-2
@@ -188,4 +215,6 @@ text-spec =
     same-length-5
     returns-5
     same-length-6
-    returns-6)
+    returns-6
+    same-length-7
+    returns-7)
