@@ -35,22 +35,28 @@ struct behind_case {
 };
 
 static const struct behind_case cases[] = {
-    {8, 3, {3, 5, 9}, 0, {1, 1, 0}, {0, NO, NO, 1, NO, 2, NO, NO, 2}}, /* case F */
+    /* case F's labels */
+    {8, 3, {3, 5, 9}, 0, {1, 1, 0}, {0, NO, NO, 1, NO, 2, NO, NO, 2}},
     {7, 3, {3, 5, 9}, 7, {0}, {0, NO, NO, 1, NO, 2, NO, NO}},
     {8, 2, {4, 4}, 0, {1, 1}, {0, NO, NO, NO, 1, NO, NO, NO, 2}},
-    {3, 3, {1, 2, 3}, 0, {1, 1, 0}, {0, 1, 2, 2}}, /* two labels go before the one that comes after them */
+    /* ties: a label is left out where those before it will do */
+    {3, 3, {1, 2, 3}, 0, {1, 1, 0}, {0, 1, 2, 2}},
     {2, 3, {2, 1, 1}, 0, {1, 0, 0}, {0, 2, 1}},
     {3, 3, {2, 1, 3}, 0, {1, 1, 0}, {0, 2, 1, 2}},
-    {4, 1, {2}, 7, {0}, {0, NO, 1, NO, NO}}, /* a label is used once */
+    /* a label is used once, and like labels are several */
+    {4, 1, {2}, 7, {0}, {0, NO, 1, NO, NO}},
     {6, 2, {3, 3}, 0, {1, 1}, {0, NO, NO, 1, NO, NO, 2}},
     {6, 3, {2, 2, 2}, 0, {1, 1, 1}, {0, NO, 1, NO, 2, NO, 3}},
-    {10, 4, {1, 2, 3, 4}, 0, {1, 1, 1, 1}, {0, 1, 2, 2, 3, 3, 3, 4, 4, 4, 4}}, /* no label can be spared */
-    {0, 0, {0}, 0, {0}, {0}},                                                  /* no labels, or none needed */
+    {10, 4, {1, 2, 3, 4}, 0, {1, 1, 1, 1}, {0, 1, 2, 2, 3, 3, 3, 4, 4, 4, 4}},
+    /* no labels, or none that is needed */
+    {0, 0, {0}, 0, {0}, {0}},
     {5, 0, {0}, 7, {0}, {0, NO, NO, NO, NO, NO}},
     {0, 2, {1, 7}, 0, {0, 0}, {0}},
-    {3, 3, {4, 3, UINT32_MAX}, 0, {0, 1, 0}, {0, NO, NO, 2}}, /* weights above C, one of which fits if it is cut to 16 bits */
+    /* weights above C, of which one fits if it is cut to 16 bits */
+    {3, 3, {4, 3, UINT32_MAX}, 0, {0, 1, 0}, {0, NO, NO, 2}},
     {3, 2, {CUT_TO + 3, 4}, 7, {0}, {0, NO, NO, NO}},
-    {1, 2, {1, 1}, 0, {1, 0}, {0, 1}}, /* on these two the slip below goes wrong */
+    /* the two on which the slip below goes wrong */
+    {1, 2, {1, 1}, 0, {1, 0}, {0, 1}},
     {2, 2, {2, 1}, 0, {1, 0}, {0, 2, 1}},
 };
 
