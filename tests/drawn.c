@@ -7,7 +7,7 @@
 #include <stdio.h>
 #include <string.h>
 
-enum { JOBS = 240000, DAMAGED_IN = 3 };
+enum { JOBS = 210000, DAMAGED_IN = 3 };
 
 /* How large a small job is, by kind, so that all its selections can be tried for each place of its table. */
 static const struct {
@@ -24,14 +24,14 @@ static const struct tally least = {.came = {[0] = {[1] = 40000, [2] = 5000},
                                             [KIND_FEWEST] = {[0] = 8000, [3] = 1000, [4] = 900, [5] = 2000, [6] = 1700, [7] = 3000},
                                             [KIND_WAYS] = {[0] = 12000, [3] = 1000, [4] = 900, [5] = 2000, [6] = 1000},
                                             [KIND_SHARES] = {[0] = 15000, [3] = 1000, [4] = 80, [6] = 900, [9] = 500},
-                                            [KIND_LABELS_BEHIND] = {[0] = 7500, [3] = 1000, [4] = 900, [5] = 900, [6] = 1800, [7] = 4500}},
+                                            [KIND_LABELS_BEHIND] = {[0] = 7000, [3] = 900, [4] = 850, [5] = 900, [6] = 1700, [7] = 4200}},
                                    .ties = {[KIND_ONCE] = {4500, 2000, 4500, 2800},
                                             [KIND_COPIES] = {3500, 2000, 3500, 1800},
                                             [KIND_ANY] = {4000, 4000, 4000, 250},
                                             [KIND_FEWEST] = {2500, 50, 2500, 2400},
                                             [KIND_SHARES] = {3500},
-                                            [KIND_LABELS_BEHIND] = {2800, 2500, 2800, 450}},
-                                   .tried = 85000};
+                                            [KIND_LABELS_BEHIND] = {2600, 2300, 2600, 430}},
+                                   .tried = 75000};
 
 static struct tally tally;
 static struct job job;
@@ -45,15 +45,15 @@ static struct thing things[THINGS] = {
     [DAMAGED] = {"damaged", JOBS / DAMAGED_IN, 0},
     [JUDGED] = {"damaged, and refused with 2 or more", 9000, 0},
     [ANSWERED] = {"damaged, and answered", 5500, 0},
-    [BEHIND] = {"damaged, and answered as kind 8, or refused with 7", 800, 0},
+    [BEHIND] = {"damaged, and answered as kind 8, or refused with 7", 750, 0},
     [NO_LABELS] = {"no labels, and answered", 5000, 0},
     [NO_BUDGET] = {"budget 0, and answered", 2500, 0},
     [CUT] = {"labels, answered, with a weight that fits if it is cut to 16 bits", 4500, 0},
     [FEW_CELLS] = {"refused with 6 for its cells alone", 4000, 0},
     [FEW_WORDS] = {"refused with 6 for its words alone", 2000, 0},
     [FEW_PICKS] = {"refused with 6 for its picks alone", 3000, 0},
-    [REACHED] = {"kinds 4 and 8, asked the same: C is reached", 10000, 0},
-    [MISSED] = {"kinds 4 and 8, asked the same: C isn't reached", 16000, 0},
+    [REACHED] = {"kinds 4 and 8, asked the same: C is reached", 9500, 0},
+    [MISSED] = {"kinds 4 and 8, asked the same: C isn't reached", 15000, 0},
 };
 
 static int has_cut_weight(const struct plain_job *read) {

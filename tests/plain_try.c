@@ -160,9 +160,15 @@ static void try_answer(const struct plain_job *job, struct plain_answer *answer)
     for (k = 0; k < answer->filled.picks; k++) answer->picks[k] = all.best.counts[k];
 }
 
+/* How often at least one selection is tried: for each place once, or in kind 8, where none reaches it, for each number of labels. */
+static uint64_t fewest_tried(const struct plain_job *job, const struct plain_answer *answer) {
+    uint64_t places = answer->filled.cells + answer->filled.words;
+    return job->kind == KIND_LABELS_BEHIND ? places * (job->weights.count + 1) : places;
+}
+
 int plain_try(const struct plain_job *job, struct plain_answer *answer) {
     plain_start(answer, job, 0);
-    if (job->kind == KIND_SHARES || job->weights.count > LABELS || answer->filled.cells + answer->filled.words > SELECTIONS) return 0;
+    if (job->kind == KIND_SHARES || job->weights.count > LABELS || fewest_tried(job, answer) > SELECTIONS) return 0;
     left = SELECTIONS;
     try_places(job, answer);
     try_answer(job, answer);
