@@ -46,7 +46,7 @@ int other_rule_tells(const struct plain_job *job, int other, const uint32_t *pic
 /* Whether the bytes are a job of kind 4 or 8 that isn't refused with 3 to 5, and so can be asked as both. */
 int asks_for_a_total(const struct bytes *job);
 
-/* Asked as both it is answered alike: each total is reached or isn't, they are as many, and so is C. Answers whether C is reached. */
+/* Asked as both it is answered alike: of each total up to C, of how many are reached, and of C. Answers whether C is reached. */
 int agree_on_totals(const struct bytes *job);
 
 /* ---- the writer */

@@ -106,6 +106,19 @@ static int has_every(const struct plain_answer *answer) {
     return m > STRETCH && m == answer->filled.words;
 }
 
+/* Kind 6: the first amount that is full, or C. */
+static uint32_t first_full(const struct plain_answer *answer) {
+    uint32_t a = 0;
+    while (a < job.budget && answer->words[a] != FULL) a++;
+    return a;
+}
+
+static int has_product(void) {
+    uint32_t i = 0;
+    while (i < job.weights.count && (uint64_t)job.budget * job.weights.at[i] <= UINT32_MAX) i++;
+    return i < job.weights.count;
+}
+
 /* Kind 8: whether the cells above a weight, which its pass goes over, are several stretches, for NEAR and FAR, or whole ones, for EVEN. */
 static int has_pass(int which) {
     uint32_t i;
@@ -123,19 +136,6 @@ static uint32_t picked(const struct plain_answer *answer) {
     uint32_t i, count = 0;
     for (i = 0; i < answer->filled.picks; i++) count += answer->picks[i] > 0;
     return count;
-}
-
-/* Kind 6: the first amount that is full, or C. */
-static uint32_t first_full(const struct plain_answer *answer) {
-    uint32_t a = 0;
-    while (a < job.budget && answer->words[a] != FULL) a++;
-    return a;
-}
-
-static int has_product(void) {
-    uint32_t i = 0;
-    while (i < job.weights.count && (uint64_t)job.budget * job.weights.at[i] <= UINT32_MAX) i++;
-    return i < job.weights.count;
 }
 
 static void count_loops(const struct plain_answer *answer) {
