@@ -1,4 +1,4 @@
-//! What document 01 says in numbers, each once: the kinds, their bounds and the room that each needs. Rust's own, as tests/bounds.h is C's.
+//! What the documents say in numbers, each once: the kinds, their bounds and the room that each needs. Rust's own, as tests/bounds.h is C's.
 
 pub const ONCE: u32 = 1;
 pub const COPIES: u32 = 2;
@@ -7,16 +7,17 @@ pub const SUMS: u32 = 4;
 pub const FEWEST: u32 = 5;
 pub const WAYS: u32 = 6;
 pub const SHARES: u32 = 7;
+pub const LABELS_BEHIND: u32 = 8;
 /// The kinds to solve are 1 to this one.
-pub const LAST_KIND: u32 = SHARES;
+pub const LAST_KIND: u32 = LABELS_BEHIND;
 /// Those with certificates are 1 to this one.
 pub const LAST_CHECKED_KIND: u32 = ANY;
 
-/// n in kinds 1 to 4, in 5 and 6, and in 7: three rules, though two of the numbers are equal.
+/// n in kinds 1 to 4 and 8, in 5 and 6, and in 7: three rules, though two of the numbers are equal.
 pub const MOST_LABELS: usize = 1_024;
 pub const MOST_SIZES: usize = 64;
 pub const MOST_CLAIMS: usize = 1_024;
-/// C in kinds 1 to 6; in kind 7 it is any number.
+/// C in all kinds but 7, where it is any number.
 pub const MOST_BUDGET: u32 = 65_535;
 pub const LEAST_VALUE: u32 = 0;
 /// In kind 3.
@@ -28,8 +29,9 @@ pub const MOST_COPIES: u32 = 65_535;
 pub const MOST_PICKED_ONCE: u32 = 1;
 pub const MOST_PICKED_ANY: u32 = 65_535;
 
-/// A cell of kind 5 for which there is no way, and a word of kind 6 for so many ways or more.
+/// A cell of kind 5 for which there is no way, one of kind 8 that isn't reached, and a word of kind 6 for so many ways or more.
 pub const NO_WAY: u32 = u32::MAX;
+pub const NOT_REACHED: u32 = u32::MAX;
 pub const FULL: u64 = u64::MAX;
 
 /// The certificate's own refusals are from this one to the last.
@@ -38,7 +40,7 @@ pub const LAST_REFUSAL: usize = 15;
 
 /// Whether a kind's weights are labels, and no sizes or claims.
 pub fn are_labels(kind: u32) -> bool {
-    matches!(kind, ONCE | COPIES | ANY | SUMS)
+    matches!(kind, ONCE | COPIES | ANY | SUMS | LABELS_BEHIND)
 }
 
 pub fn are_sizes(kind: u32) -> bool {
@@ -93,7 +95,7 @@ pub fn full_table(n: usize, budget: u32) -> usize {
 pub fn room(kind: u32, n: usize, budget: u32) -> [usize; 3] {
     match kind {
         ONCE | COPIES => [full_table(n, budget), 0, n],
-        ANY | FEWEST => [row(budget), 0, n],
+        ANY | FEWEST | LABELS_BEHIND => [row(budget), 0, n],
         SUMS => [0, words_of_bits(budget), 0],
         WAYS => [0, row(budget), 0],
         _ => [0, 0, n],

@@ -70,7 +70,7 @@ impl Job {
     }
 }
 
-/// Kinds 1 to 4: labels of weight 1 to `heaviest`.
+/// Kinds 1 to 4 and 8: labels of weight 1 to `heaviest`.
 pub fn labels(kind: u32, n: usize, budget: u32, heaviest: u32) -> Job {
     let mut draw = Draw::new(0x5eed_1a8e_15ca_1e5d);
     let weights = draw.list(n, 1, heaviest);

@@ -10,7 +10,7 @@ mod request;
 mod strong;
 mod timing;
 
-use bounds::{ANY, COPIES, FEWEST, LAST_CHECKED_KIND, LAST_KIND, MOST_BUDGET, MOST_COPIES, MOST_SIZES, ONCE, SUMS, WAYS};
+use bounds::{ANY, COPIES, FEWEST, LABELS_BEHIND, LAST_CHECKED_KIND, LAST_KIND, MOST_BUDGET, MOST_COPIES, MOST_SIZES, ONCE, SUMS, WAYS};
 use certificates::Case;
 use checker::{Plain, Strong};
 use jobs::{said, Job};
@@ -58,7 +58,7 @@ fn ratios(part: Option<&str>) {
     println!("\n{above} of {} ratios to plain Rust are above {GOAL}.", ratios.len());
 }
 
-/// The two sizes of kinds 1 to 4.
+/// The two sizes of kinds 1 to 4 and 8.
 fn labels_jobs(kind: u32) -> Vec<Job> {
     vec![jobs::labels(kind, 1_000, 60_000, 3_000), jobs::labels(kind, 50, 500, 100)]
 }
@@ -68,6 +68,11 @@ fn jobs_of(kind: u32) -> Vec<Job> {
         ANY => labels_jobs(ANY).into_iter().chain([jobs::labels(ANY, 1_000, 60_000, 16), jobs::labels(ANY, 50, 500, 16)]).collect(),
         // with so few labels the count of the totals is a large part of the call
         SUMS => labels_jobs(SUMS).into_iter().chain([jobs::labels(SUMS, 2, 60_000, 3_000)]).collect(),
+        // light labels leave most of the row as it was filled, and with so few that filling is a large part of the call
+        LABELS_BEHIND => {
+            let more = [jobs::labels(LABELS_BEHIND, 1_000, 60_000, 16), jobs::labels(LABELS_BEHIND, 2, 60_000, 3_000)];
+            labels_jobs(LABELS_BEHIND).into_iter().chain(more).collect()
+        }
         ONCE | COPIES => labels_jobs(kind),
         FEWEST | WAYS => jobs::sizes(kind, MOST_SIZES, 60_000, 3_000).into_iter().chain(jobs::sizes(kind, MOST_SIZES, 500, 400)).collect(),
         _ => jobs::claims(1_000).into_iter().chain(jobs::claims(50)).collect(),
@@ -140,7 +145,7 @@ fn growth() {
     let alone = |job: &Job| time(solved(job, 1).best[0]);
     let judged = |job: &Job| time(checked(&Case::of_answer(job), 1).best[0]);
     let row = |name: &str, times: [String; 4]| println!("| {name} | {} |", times.join(" | "));
-    for kind in [ONCE, COPIES, ANY, SUMS] {
+    for kind in [ONCE, COPIES, ANY, SUMS, LABELS_BEHIND] {
         row(&format!("kind {kind}, to 1,000 labels and C 60,000"), sizes.map(|(n, c)| alone(&jobs::labels(kind, 500 * n, 30_000 * c, 3_000))));
     }
     for kind in [FEWEST, WAYS] {

@@ -1,5 +1,5 @@
 //! The planner in plain Rust, from job bytes to answer, with the contract of include/quabnester.h.
-use crate::bounds::{words_of_bits, ANY, COPIES, FEWEST, FULL, LAST_KIND, NO_WAY, ONCE, SHARES, SUMS, WAYS};
+use crate::bounds::{words_of_bits, ANY, COPIES, FEWEST, FULL, LABELS_BEHIND, LAST_KIND, NOT_REACHED, NO_WAY, ONCE, SHARES, SUMS, WAYS};
 use crate::request::{answered, refused, Answer, Job, Lent};
 use std::cmp::Reverse;
 use std::iter::zip;
@@ -20,6 +20,7 @@ pub fn solve(bytes: &[u8], lent: Lent, scratch: &mut Scratch) -> Answer {
         SUMS => totals(&scratch.job, lent.words),
         FEWEST => fewest_blocks(&scratch.job, lent),
         WAYS => ways(&scratch.job, lent.words),
+        LABELS_BEHIND => labels_behind(&scratch.job, lent, reach),
         _ => shares(scratch, lent.picks, |order, remainders, _| {
             order.sort_unstable_by_key(|&i| (Reverse(remainders[i as usize]), i));
         }),
@@ -266,4 +267,41 @@ pub fn shares(scratch: &mut Scratch, picks: &mut [u32], arrange: impl Fn(&mut [u
         picks[i as usize] += 1;
     }
     answered(0, spare.into(), 0)
+}
+
+/// Kind 8: one row, in which the pass that is given marks what each label is the first to reach.
+pub fn labels_behind(job: &Job, lent: Lent, reach: impl Fn(&mut [u32], usize, u32)) -> Answer {
+    let row = &mut lent.cells[..job.width()];
+    row.fill(NOT_REACHED);
+    row[0] = 0;
+    for (&w, labels) in zip(&job.weights, 1..) {
+        if w <= job.budget {
+            reach(row, w as usize, labels);
+        }
+    }
+    behind_back(job, row, lent.picks)
+}
+
+/// What the last of so many labels is the first to reach, from the greatest total down, so that it is used once.
+fn reach(row: &mut [u32], w: usize, labels: u32) {
+    for t in (w..row.len()).rev() {
+        if row[t] == NOT_REACHED && row[t - w] != NOT_REACHED {
+            row[t] = labels;
+        }
+    }
+}
+
+/// The picks of kind 8: the label that was the first to reach what is left, until nothing is.
+fn behind_back(job: &Job, row: &[u32], picks: &mut [u32]) -> Answer {
+    let mut t = row.len() - 1;
+    if row[t] == NOT_REACHED {
+        return refused(7);
+    }
+    picks[..job.weights.len()].fill(0);
+    while t > 0 {
+        let label = row[t] as usize - 1;
+        picks[label] = 1;
+        t -= job.weights[label] as usize;
+    }
+    answered(0, job.budget.into(), 0)
 }

@@ -1,14 +1,14 @@
-//! Kinds 2, 3 and 5 in Rust that is written for vectors, as the proved code is, so that a ratio doesn't speak of a missed vector loop; and kind 7
+//! Kinds 2, 3, 5 and 8 in Rust that is written for vectors, as the proved code is, so that a ratio doesn't speak of a missed vector loop; and kind 7
 //! by a selection in place of a sort.
-use crate::bounds::{ANY, COPIES, FEWEST, NO_WAY, SHARES};
-use crate::plain::{any_along, blocks_back, copies, shares, unless_refused, Scratch};
+use crate::bounds::{ANY, COPIES, FEWEST, LABELS_BEHIND, NOT_REACHED, NO_WAY, SHARES};
+use crate::plain::{any_along, blocks_back, copies, labels_behind, shares, unless_refused, Scratch};
 use crate::request::{Answer, Job, Lent};
 use std::cell::Cell;
 use std::cmp::Reverse;
 use std::iter::zip;
 
 /// The kinds that have a second Rust.
-pub const KINDS: [u32; 4] = [COPIES, ANY, FEWEST, SHARES];
+pub const KINDS: [u32; 5] = [COPIES, ANY, FEWEST, SHARES, LABELS_BEHIND];
 
 /// One of these kinds.
 pub fn solve(bytes: &[u8], lent: Lent, scratch: &mut Scratch) -> Answer {
@@ -16,6 +16,7 @@ pub fn solve(bytes: &[u8], lent: Lent, scratch: &mut Scratch) -> Answer {
         COPIES => copies(&scratch.job, lent, |row, w, v| add_one(row, w as u16, v)),
         ANY => any_number(&scratch.job, lent),
         FEWEST => fewest_blocks(&scratch.job, lent),
+        LABELS_BEHIND => labels_behind(&scratch.job, lent, |row, w, labels| reach(row, w as u16, labels)),
         _ => shares(scratch, lent.picks, |order, remainders, spare| {
             if spare > 0 {
                 order.select_nth_unstable_by_key(spare - 1, |&i| (Reverse(remainders[i as usize]), i));
@@ -76,4 +77,14 @@ fn fewest_blocks(job: &Job, lent: Lent) -> Answer {
         }
     }
     blocks_back(job, row, lent.picks)
+}
+
+/// What the last of so many labels is the first to reach, by the same means as `add_one`: every cell is stored, and none asks.
+fn reach(row: &mut [u32], w: u16, labels: u32) {
+    let row = Cell::from_mut(row).as_slice_of_cells();
+    let Some(high) = row.get(usize::from(w)..) else { return };
+    for (cell, with) in zip(high, row).rev() {
+        let first = (cell.get() == NOT_REACHED) & (with.get() != NOT_REACHED);
+        cell.set(if first { labels } else { cell.get() });
+    }
 }

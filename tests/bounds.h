@@ -1,30 +1,32 @@
-/* What document 01 and request K1 say in numbers, each in one place: a request that moves a bound changes it here alone. Written from these
- * and not from include/quabnester.h; header.c holds that to these. Buffers and loops of the tests take their sizes from here. */
+/* What document 01 and the requests K1 and K3 say in numbers, each in one place: a request that moves a bound changes it here alone.
+ * Written from these and not from include/quabnester.h; header.c holds that to these. Buffers and loops of the tests take their sizes from
+ * here. */
 #ifndef BOUNDS_H
 #define BOUNDS_H
 
 #include <stdint.h>
 
 enum {
-    KIND_ONCE = 1,               /* each label at most once */
-    KIND_COPIES,                 /* label i at most copies[i] times */
-    KIND_ANY,                    /* any number of each */
-    KIND_SUMS,                   /* can some labels weigh exactly C? */
-    KIND_FEWEST,                 /* fewest blocks that sum to exactly C */
-    KIND_WAYS,                   /* ways to make exactly C */
-    KIND_SHARES,                 /* share C by claims */
-    LAST_KIND = KIND_SHARES,     /* the solver's kinds are 1 to this one */
-    LAST_CHECKED_KIND = KIND_ANY /* those of the checker and the writer (K1) */
+    KIND_ONCE = 1,                  /* each label at most once */
+    KIND_COPIES,                    /* label i at most copies[i] times */
+    KIND_ANY,                       /* any number of each */
+    KIND_SUMS,                      /* can some labels weigh exactly C? */
+    KIND_FEWEST,                    /* fewest blocks that sum to exactly C */
+    KIND_WAYS,                      /* ways to make exactly C */
+    KIND_SHARES,                    /* share C by claims */
+    KIND_LABELS_BEHIND,             /* which labels weigh exactly C? (K3) */
+    LAST_KIND = KIND_LABELS_BEHIND, /* the solver's kinds are 1 to this one */
+    LAST_CHECKED_KIND = KIND_ANY    /* those of the checker and the writer (K1) */
 };
 
 /* ---- bounds on the numbers; weights, sizes and claims have no greatest one */
 
 enum {
-    MOST_LABELS = 1024,  /* n in kinds 1 to 4 */
+    MOST_LABELS = 1024,  /* n in kinds 1 to 4 and 8 */
     MOST_SIZES = 64,     /* n in kinds 5 and 6 */
     MOST_CLAIMS = 1024,  /* n in kind 7: another rule, though the number is that of the labels */
-    MOST_BUDGET = 65535, /* C in kinds 1 to 6 */
-    LEAST_WEIGHT = 1,    /* in kinds 1 to 4 */
+    MOST_BUDGET = 65535, /* C in kinds 1 to 6 and 8 */
+    LEAST_WEIGHT = 1,    /* in kinds 1 to 4 and 8 */
     LEAST_SIZE = 1,      /* in kinds 5 and 6 */
     LEAST_VALUE = 0,     /* in kinds 1 and 2 */
     LEAST_VALUE_ANY = 1, /* in kind 3 */
@@ -37,10 +39,11 @@ enum {
 
 /* ---- the lent table */
 
-enum { WORD_BITS = 64 };     /* in a word of kind 4 */
-#define NO_WAY UINT32_MAX    /* a cell of kind 5: there is no way */
-#define FULL UINT64_MAX      /* a cell of kind 6: so many ways or more */
-#define MOST_WAYS (FULL - 1) /* that are still exact */
+enum { WORD_BITS = 64 };       /* in a word of kind 4 */
+#define NO_WAY UINT32_MAX      /* a cell of kind 5: there is no way */
+#define NOT_REACHED UINT32_MAX /* a cell of kind 8 (K3): no labels reach it. Another rule, though the number is that of no way */
+#define FULL UINT64_MAX        /* a cell of kind 6: so many ways or more */
+#define MOST_WAYS (FULL - 1)   /* that are still exact */
 
 /* Rooms that have to be known when this is compiled: plain_room of plain.c has those of every kind. */
 #define ROW(budget) ((budget) + 1)

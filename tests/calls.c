@@ -139,6 +139,58 @@ int other_rule_tells(const struct plain_job *job, int other, const uint32_t *pic
     return memcmp(others, picks, job->weights.count * sizeof picks[0]) != 0;
 }
 
+/* ---- kinds 4 and 8, asked the same */
+
+int asks_for_a_total(const struct bytes *job) {
+    struct plain_job read;
+    if (!plain_read(job->at, job->length, &read) || plain_job_refusal(&read, LAST_KIND) != 0) return 0;
+    return read.kind == KIND_SUMS || read.kind == KIND_LABELS_BEHIND;
+}
+
+/* Long enough for any job of both kinds; they hold what the job before left there. */
+static struct {
+    uint32_t cells[ROW(MOST_BUDGET)], picks[MOST_LABELS], refused;
+    uint64_t words[MOST_BUDGET / WORD_BITS + 1], first, second;
+} both;
+
+/* The job with another number for its kind, which stands after the first count. */
+static void solve_as(uint32_t kind, const struct bytes *job) {
+    static struct bytes other;
+    other.length = job->length;
+    memcpy(other.at, job->at, job->length);
+    put_at(other.at + 4, kind);
+    both.refused = quabnester_solve(other.at, other.length, both.cells, ROW(MOST_BUDGET), both.words, MOST_BUDGET / WORD_BITS + 1,
+                                    both.picks, MOST_LABELS, &both.first, &both.second);
+}
+
+/* Up to which total the bits and the cells say the same, and how many of these are reached. */
+static uint32_t alike_up_to(uint32_t budget, uint32_t *reached) {
+    uint32_t t, is_reached;
+    *reached = 0;
+    for (t = 0; t <= budget; t++) {
+        is_reached = both.cells[t] != NOT_REACHED;
+        if (is_reached != (both.words[t / WORD_BITS] >> t % WORD_BITS & 1)) break;
+        *reached += is_reached;
+    }
+    return t;
+}
+
+int agree_on_totals(const struct bytes *job) {
+    struct plain_job read;
+    uint32_t reached, yes;
+    uint64_t totals;
+    read_back(job, &read);
+    solve_as(KIND_SUMS, job);
+    same("kind 4's refusal", 0, both.refused);
+    yes = both.first != 0;
+    totals = both.second;
+    solve_as(KIND_LABELS_BEHIND, job);
+    same("kind 8's refusal, where kind 4 says yes or no", yes ? 0 : 7, both.refused);
+    same("the totals of which kinds 4 and 8 say the same", ROW(read.budget), alike_up_to(read.budget, &reached));
+    same("those that are reached", totals, reached);
+    return yes != 0;
+}
+
 /* ---- the writer */
 
 void write_out(struct written *written, const struct bytes *job, const uint32_t *picks, size_t picks_len, const uint32_t *cells,

@@ -41,6 +41,14 @@ const struct plain_answer *try_job(const struct bytes *job, const struct plain_r
 enum { RULES = 4 };
 int other_rule_tells(const struct plain_job *job, int other, const uint32_t *picks);
 
+/* ---- kinds 4 and 8, asked the same */
+
+/* Whether the bytes are a job of kind 4 or 8 that isn't refused with 3 to 5, and so can be asked as both. */
+int asks_for_a_total(const struct bytes *job);
+
+/* Asked as both it is answered alike: of each total up to C, of how many are reached, and of C. Answers whether C is reached. */
+int agree_on_totals(const struct bytes *job);
+
 /* ---- the writer */
 
 struct written {

@@ -34,6 +34,9 @@ void put_in_order(struct list *sizes);
 void draw_values(struct draw *draw, struct job *job);
 void draw_claims(struct draw *draw, struct list *claims);
 
+/* Lets one of the labels weigh what some of the others leave of C, so that C is reached. */
+void reach_budget(struct draw *draw, struct job *job);
+
 /* ---- what is wrong with them (faults.c) */
 
 /* Something that breaks a rule, or just doesn't: another kind, a list too long or too short, a number at its bound or past it. */

@@ -47,7 +47,7 @@ static void draw_weights(struct draw *draw, struct job *job) {
     }
 }
 
-/* ---- kinds 1 to 4 */
+/* ---- kinds 1 to 4 and 8 */
 
 /* About as dear as they are heavy, so that many are worth keeping. */
 static void dear_values(struct draw *draw, struct job *job) {
@@ -87,6 +87,17 @@ static void sums(struct draw *draw, struct job *job) {
     job->weights.count = drawn(draw, 1, chance(draw, 4) ? MOST_LABELS : 14);
     job->budget = chance(draw, 8) ? drawn(draw, 200, many - 1) : drawn(draw, many, chance(draw, 2) ? 9999 : MOST_BUDGET);
     draw_weights(draw, job);
+}
+
+/* Few labels, or in some jobs many. Half of the rows are as long as a vector's cells or several, or one less or more; C is often reached.
+ */
+static void labels_behind(struct draw *draw, struct job *job) {
+    static const uint32_t units[] = {4, 8, STRETCH, WORD_BITS};
+    uint32_t unit = units[drawn(draw, 0, 3)];
+    job->weights.count = drawn(draw, 1, chance(draw, 9) ? MOST_LABELS : 14);
+    job->budget = chance(draw, 2) ? about_multiple(draw, unit, STRETCH, MOST_BUDGET / WORD_BITS) - 1 : draw_budget(draw);
+    draw_weights(draw, job);
+    if (!chance(draw, 4)) reach_budget(draw, job);
 }
 
 /* ---- kinds 5 and 6 */
@@ -144,6 +155,7 @@ void draw_large(struct draw *draw, uint32_t kind, struct job *job) {
     case KIND_FEWEST: fewest(draw, job); break;
     case KIND_WAYS: ways(draw, job); break;
     case KIND_SHARES: shares(draw, job); break;
+    case KIND_LABELS_BEHIND: labels_behind(draw, job); break;
     default: knapsack(draw, job); break;
     }
 }

@@ -12,8 +12,8 @@ enum { JOBS = 210000, DAMAGED_IN = 3 };
 /* How large a small job is, by kind, so that all its selections can be tried for each place of its table. */
 static const struct {
     uint32_t labels, budget;
-} most[LAST_KIND + 1] = {[KIND_ONCE] = {6, 20},   [KIND_COPIES] = {4, 16}, [KIND_ANY] = {5, 18},   [KIND_SUMS] = {5, 140},
-                         [KIND_FEWEST] = {5, 50}, [KIND_WAYS] = {5, 36},   [KIND_SHARES] = {9, 99}};
+} most[LAST_KIND + 1] = {[KIND_ONCE] = {6, 20},   [KIND_COPIES] = {4, 16}, [KIND_ANY] = {5, 18},    [KIND_SUMS] = {5, 140},
+                         [KIND_FEWEST] = {5, 50}, [KIND_WAYS] = {5, 36},   [KIND_SHARES] = {9, 99}, [KIND_LABELS_BEHIND] = {5, 40}};
 
 /* At least so often, by kind: answered, [0], and refused with 1 to 9; ties, and those that tell the rule from another; by trying. */
 static const struct tally least = {.came = {[0] = {[1] = 40000, [2] = 5000},
@@ -23,12 +23,14 @@ static const struct tally least = {.came = {[0] = {[1] = 40000, [2] = 5000},
                                             [KIND_SUMS] = {[0] = 13000, [3] = 1000, [4] = 900, [5] = 1000, [6] = 1100},
                                             [KIND_FEWEST] = {[0] = 8000, [3] = 1000, [4] = 900, [5] = 2000, [6] = 1700, [7] = 3000},
                                             [KIND_WAYS] = {[0] = 12000, [3] = 1000, [4] = 900, [5] = 2000, [6] = 1000},
-                                            [KIND_SHARES] = {[0] = 15000, [3] = 1000, [4] = 80, [6] = 900, [9] = 500}},
+                                            [KIND_SHARES] = {[0] = 15000, [3] = 1000, [4] = 80, [6] = 900, [9] = 500},
+                                            [KIND_LABELS_BEHIND] = {[0] = 7000, [3] = 900, [4] = 850, [5] = 900, [6] = 1700, [7] = 4200}},
                                    .ties = {[KIND_ONCE] = {4500, 2000, 4500, 2800},
                                             [KIND_COPIES] = {3500, 2000, 3500, 1800},
                                             [KIND_ANY] = {4000, 4000, 4000, 250},
                                             [KIND_FEWEST] = {2500, 50, 2500, 2400},
-                                            [KIND_SHARES] = {3500}},
+                                            [KIND_SHARES] = {3500},
+                                            [KIND_LABELS_BEHIND] = {2600, 2300, 2600, 430}},
                                    .tried = 75000};
 
 static struct tally tally;
@@ -37,18 +39,21 @@ static struct bytes bytes, whole;
 
 /* ---- what else has to come up */
 
-enum { DAMAGED, JUDGED, ANSWERED, NO_LABELS, NO_BUDGET, CUT, FEW_CELLS, FEW_WORDS, FEW_PICKS, THINGS };
+enum { DAMAGED, JUDGED, ANSWERED, BEHIND, NO_LABELS, NO_BUDGET, CUT, FEW_CELLS, FEW_WORDS, FEW_PICKS, REACHED, MISSED, THINGS };
 
 static struct thing things[THINGS] = {
     [DAMAGED] = {"damaged", JOBS / DAMAGED_IN, 0},
     [JUDGED] = {"damaged, and refused with 2 or more", 9000, 0},
     [ANSWERED] = {"damaged, and answered", 5500, 0},
+    [BEHIND] = {"damaged, and answered as kind 8, or refused with 7", 750, 0},
     [NO_LABELS] = {"no labels, and answered", 5000, 0},
     [NO_BUDGET] = {"budget 0, and answered", 2500, 0},
     [CUT] = {"labels, answered, with a weight that fits if it is cut to 16 bits", 4500, 0},
     [FEW_CELLS] = {"refused with 6 for its cells alone", 4000, 0},
     [FEW_WORDS] = {"refused with 6 for its words alone", 2000, 0},
     [FEW_PICKS] = {"refused with 6 for its picks alone", 3000, 0},
+    [REACHED] = {"kinds 4 and 8, asked the same: C is reached", 9500, 0},
+    [MISSED] = {"kinds 4 and 8, asked the same: C isn't reached", 15000, 0},
 };
 
 static int has_cut_weight(const struct plain_job *read) {
@@ -61,11 +66,13 @@ static int has_cut_weight(const struct plain_job *read) {
 }
 
 static void count_damage(const struct plain_answer *answer) {
+    struct plain_job read;
     put_job(&whole, &job);
     if (bytes.length == whole.length && memcmp(bytes.at, whole.at, bytes.length) == 0) return;
     things[DAMAGED].came++;
     things[JUDGED].came += answer->refused >= 2;
     things[ANSWERED].came += answer->refused == 0;
+    things[BEHIND].came += answer->filled.cells > 0 && plain_read(bytes.at, bytes.length, &read) && read.kind == KIND_LABELS_BEHIND;
 }
 
 static void count_things(const struct plain_answer *answer, const struct plain_room *lengths) {
@@ -108,6 +115,7 @@ static void try_number(uint64_t number) {
     count_in(&tally, &bytes, answer);
     count_damage(answer);
     count_things(answer, &lengths);
+    if (asks_for_a_total(&bytes)) things[agree_on_totals(&bytes) ? REACHED : MISSED].came++;
 }
 
 void part_drawn(void) {

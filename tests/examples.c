@@ -34,9 +34,9 @@ static void say_picks(struct bytes *text, const uint32_t *picks, uint32_t n) {
 static const struct {
     const char *first, *second;
 } words[LAST_KIND + 1] = {
-    [KIND_ONCE] = {"value", "weight"}, [KIND_COPIES] = {"value", "weight"}, [KIND_ANY] = {"value", "weight"},
-    [KIND_SUMS] = {"yes", "totals"},   [KIND_FEWEST] = {"blocks", NULL},    [KIND_WAYS] = {"ways", NULL},
-    [KIND_SHARES] = {"spare", NULL},
+    [KIND_ONCE] = {"value", "weight"}, [KIND_COPIES] = {"value", "weight"},     [KIND_ANY] = {"value", "weight"},
+    [KIND_SUMS] = {"yes", "totals"},   [KIND_FEWEST] = {"blocks", NULL},        [KIND_WAYS] = {"ways", NULL},
+    [KIND_SHARES] = {"spare", NULL},   [KIND_LABELS_BEHIND] = {"weight", NULL},
 };
 
 /* An answer as document 01 has the program print it. */

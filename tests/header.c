@@ -1,6 +1,7 @@
 /* What include/quabnester.h says by itself, its constants and its functions, held to the library and to bounds.h: needed lengths are enough
  * and one place less isn't, each bound and one past it, the bytes of jobs and certificates, the marks, and each refusal by its name. */
 #include "calls.h"
+#include "draw.h"
 #include "parts.h"
 #include "tell.h"
 #include <stdio.h>
@@ -25,6 +26,7 @@ static const struct constant constants[] = {
     {"fewest blocks", KIND_FEWEST, QUABNESTER_KIND_FEWEST},
     {"ways", KIND_WAYS, QUABNESTER_KIND_WAYS},
     {"shares", KIND_SHARES, QUABNESTER_KIND_SHARES},
+    {"labels behind a total", KIND_LABELS_BEHIND, QUABNESTER_KIND_LABELS_BEHIND},
     {"the last kind", LAST_KIND, QUABNESTER_LAST_KIND},
     {"the last kind with certificates", LAST_CHECKED_KIND, QUABNESTER_LAST_CERTIFICATE_KIND},
     {"the most labels", MOST_LABELS, QUABNESTER_MOST_LABELS},
@@ -120,6 +122,7 @@ static void valid_job(uint32_t kind, uint32_t n, uint32_t budget) {
         values[i] = QUABNESTER_LEAST_VALUE_ANY + i % 5;
         copies[i] = QUABNESTER_LEAST_COPIES + 1 + i % 3;
     }
+    if (kind == QUABNESTER_KIND_LABELS_BEHIND && budget > 0) weights[n - 1] = budget; /* since each label is used once */
     set_job(&job, kind, budget, n, weights, values, copies);
 }
 
@@ -157,7 +160,8 @@ static void least_and_most(uint32_t *number, uint32_t least, uint32_t most) {
 
 static void numbers_of_labels(void) {
     uint32_t kind;
-    for (kind = QUABNESTER_KIND_ONCE; kind <= QUABNESTER_KIND_SUMS; kind++) {
+    for (kind = 1; kind <= LAST_KIND; kind++) {
+        if (!has_labels(kind)) continue;
         valid_job(kind, 3, 9);
         least_and_most(&job.weights.at[0], QUABNESTER_LEAST_WEIGHT, UINT32_MAX);
     }
@@ -249,11 +253,14 @@ static void leaves(uint32_t number, uint64_t mark) {
     give_back_solved(&solved);
 }
 
-/* No budget but 0 can be made of a size that is greater. */
+/* No budget but 0 can be made of a size, or reached by a label, that is greater. */
 static void marks(void) {
     valid_job(QUABNESTER_KIND_FEWEST, 1, 3);
     job.weights.at[0] = job.budget + 1;
     leaves(QUABNESTER_REFUSED_NO_SUM, QUABNESTER_NO_WAY);
+    valid_job(QUABNESTER_KIND_LABELS_BEHIND, 1, 3);
+    job.weights.at[0] = job.budget + 1;
+    leaves(QUABNESTER_REFUSED_NO_SUM, NOT_REACHED);
     valid_job(QUABNESTER_KIND_WAYS, QUABNESTER_MOST_SIZES, QUABNESTER_MOST_BUDGET);
     leaves(QUABNESTER_REFUSED_TOO_MANY, QUABNESTER_TOO_MANY_WAYS);
 }

@@ -16,9 +16,11 @@ static const struct tally least = {
              [KIND_SUMS] = {[0] = EACH},
              [KIND_FEWEST] = {[0] = 110, [7] = 40},
              [KIND_WAYS] = {[0] = 100, [8] = 60},
-             [KIND_SHARES] = {[0] = EACH}},
-    .ties = {[KIND_ONCE] = {9}, [KIND_COPIES] = {5}, [KIND_ANY] = {1}, [KIND_FEWEST] = {1}, [KIND_SHARES] = {70}},
-    .tried = 300};
+             [KIND_SHARES] = {[0] = EACH},
+             [KIND_LABELS_BEHIND] = {[0] = 130, [7] = 28}},
+    .ties =
+        {[KIND_ONCE] = {9}, [KIND_COPIES] = {5}, [KIND_ANY] = {1}, [KIND_FEWEST] = {1}, [KIND_SHARES] = {70}, [KIND_LABELS_BEHIND] = {8}},
+    .tried = 340};
 
 static struct tally tally;
 static struct job job;
@@ -27,7 +29,30 @@ static struct plain_job read;
 
 /* ---- which loops they ran */
 
-enum { LIGHT, HEAVY, BITS, CROSSING, WHOLE, EVERY, SMALL, BLOCKS, COUNTED, PASSED, PRODUCT, SUM, MANY, BOUND, LOOPS };
+enum {
+    LIGHT,
+    HEAVY,
+    BITS,
+    CROSSING,
+    WHOLE,
+    EVERY,
+    SMALL,
+    BLOCKS,
+    COUNTED,
+    PASSED,
+    PRODUCT,
+    SUM,
+    NEAR,
+    FAR,
+    EVEN,
+    TAKEN,
+    LATE,
+    REACHED,
+    MISSED,
+    MANY,
+    BOUND,
+    LOOPS
+};
 
 static struct thing loops[LOOPS] = {
     [LIGHT] = {"kind 3, a weight below a stretch that fits so many times", 50, 0},
@@ -36,12 +61,19 @@ static struct thing loops[LOOPS] = {
     [CROSSING] = {"kind 4, more words than a stretch above a weight of words and bits", 110, 0},
     [WHOLE] = {"kind 4, more words than a stretch above a weight of whole words", 80, 0},
     [EVERY] = {"kind 4, a total in each of more words than a stretch", 30, 0},
-    [SMALL] = {"kind 5, a size below a stretch that fits so many times", 35, 0},
+    [SMALL] = {"kind 5, a size below a stretch that fits so many times", 25, 0},
     [BLOCKS] = {"kind 5, a size of a stretch or more that fits 4 times", 90, 0},
     [COUNTED] = {"kind 6, 2^62 ways or more, counted", 15, 0},
     [PASSED] = {"kind 6, counted, though an amount before it is full", 40, 0},
     [PRODUCT] = {"kind 7, a product beyond 32 bits", 120, 0},
     [SUM] = {"kind 7, claims that sum beyond 32 bits", 25, 0},
+    [NEAR] = {"kind 8, cells of 4 stretches or more above a weight below a stretch", 65, 0},
+    [FAR] = {"kind 8, cells of 4 stretches or more above a weight of a stretch or more", 130, 0},
+    [EVEN] = {"kind 8, cells of whole stretches above a weight", 70, 0},
+    [TAKEN] = {"kind 8, six labels or more behind C", 20, 0},
+    [LATE] = {"kind 8, C reached with the last of three labels or more", 20, 0},
+    [REACHED] = {"kinds 4 and 8, asked the same: C is reached", 170, 0},
+    [MISSED] = {"kinds 4 and 8, asked the same: C isn't reached", 130, 0},
     [MANY] = {"labels, a fifth of the most or more", 110, 0},
     [BOUND] = {"the greatest budget, in all kinds but 7", 35, 0},
 };
@@ -87,6 +119,25 @@ static int has_product(void) {
     return i < job.weights.count;
 }
 
+/* Kind 8: whether the cells above a weight, which its pass goes over, are several stretches, for NEAR and FAR, or whole ones, for EVEN. */
+static int has_pass(int which) {
+    uint32_t i;
+    for (i = 0; i < job.weights.count; i++) {
+        uint32_t weight = job.weights.at[i], above = ROW(job.budget) - weight;
+        if (weight > job.budget) continue;
+        if (which == EVEN && above % STRETCH == 0) return 1;
+        if (above >= 4 * STRETCH && which == (weight < STRETCH ? NEAR : FAR)) return 1;
+    }
+    return 0;
+}
+
+/* How many labels are picked. */
+static uint32_t picked(const struct plain_answer *answer) {
+    uint32_t i, count = 0;
+    for (i = 0; i < answer->filled.picks; i++) count += answer->picks[i] > 0;
+    return count;
+}
+
 static void count_loops(const struct plain_answer *answer) {
     uint32_t kind = answer->refused == 0 ? job.kind : 0;
     int which;
@@ -100,6 +151,9 @@ static void count_loops(const struct plain_answer *answer) {
     loops[PASSED].came += kind == KIND_WAYS && first_full(answer) < job.budget;
     loops[PRODUCT].came += kind == KIND_SHARES && has_product();
     loops[SUM].came += kind == KIND_SHARES && plain_sum(read.weights) > UINT32_MAX;
+    for (which = NEAR; which <= EVEN; which++) loops[which].came += job.kind == KIND_LABELS_BEHIND && has_pass(which);
+    loops[TAKEN].came += kind == KIND_LABELS_BEHIND && picked(answer) >= 6;
+    loops[LATE].came += kind == KIND_LABELS_BEHIND && job.weights.count >= 3 && answer->cells[job.budget] == job.weights.count;
     loops[MANY].came += kind != 0 && has_labels(kind) && job.weights.count >= MOST_LABELS / 5;
     loops[BOUND].came += kind != 0 && kind != KIND_SHARES && job.budget == MOST_BUDGET;
 }
@@ -132,6 +186,7 @@ static void try_number(uint64_t number) {
     answer = try_job(&bytes, &lengths, number);
     count_in(&tally, &bytes, answer);
     count_loops(answer);
+    if (asks_for_a_total(&bytes)) loops[agree_on_totals(&bytes) ? REACHED : MISSED].came++;
 }
 
 void part_large(void) {

@@ -11,7 +11,7 @@ enum { KIND, BUDGET, WEIGHTS, VALUES, COPIES, LENT, FIELDS };
 enum { CELLS_LENT, WORDS_LENT, PICKS_LENT, LENGTHS };
 enum { MOST_TEXT = 65536 };      /* of the file: no bound of document 01 */
 enum { MORE = 20 };              /* places that are lent beyond the needed ones, where the list says nothing of them */
-enum { JOBS = 100, TRIED = 40 }; /* at least so many have to be listed, and answered by trying too */
+enum { JOBS = 125, TRIED = 55 }; /* at least so many have to be listed, and answered by trying too */
 
 static char text[MOST_TEXT + 1];
 static unsigned long jobs, tried;

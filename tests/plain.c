@@ -1,6 +1,6 @@
-/* Document 01's second program: job bytes, refusals and the room that is needed. All files plain*.c were written from document 01, request
- * K1 and include/quabnester.h, without sight of the planner's sources: that is what makes them a second opinion, and whoever changes them
- * should keep it so. They allocate nothing and keep nothing between calls. */
+/* Document 01's second program: job bytes, refusals and the room that is needed. All files plain*.c were written from document 01, the
+ * requests K1 and K3 and include/quabnester.h, without sight of the planner's sources: that is what makes them a second opinion, and
+ * whoever changes them should keep it so. They allocate nothing and keep nothing between calls. */
 #include "plain.h"
 
 /* ---- job bytes */
@@ -59,6 +59,7 @@ static const struct plain_kind kinds[LAST_KIND + 1] = {
     [KIND_FEWEST] = {OF_SIZES, .picks = 1},
     [KIND_WAYS] = {OF_SIZES},
     [KIND_SHARES] = {OF_CLAIMS, .picks = 1},
+    [KIND_LABELS_BEHIND] = {OF_LABELS, .picks = 1},
 };
 
 const struct plain_kind *plain_kind(uint32_t kind) {
@@ -73,7 +74,8 @@ struct plain_room plain_room(const struct plain_job *job) {
     case KIND_ONCE:
     case KIND_COPIES: room.cells = FULL_TABLE(n, C); break;
     case KIND_ANY:
-    case KIND_FEWEST: room.cells = ROW(C); break;
+    case KIND_FEWEST:
+    case KIND_LABELS_BEHIND: room.cells = ROW(C); break;
     case KIND_SUMS: room.words = C / WORD_BITS + 1; break;
     case KIND_WAYS: room.words = ROW(C); break;
     default: break;
@@ -176,7 +178,11 @@ void plain_start(struct plain_answer *answer, const struct plain_job *job, uint3
 }
 
 uint64_t plain_most(const struct plain_job *job, uint32_t k) {
-    if (job->kind == KIND_ONCE || job->kind == KIND_SUMS) return 1;
-    if (job->kind == KIND_COPIES) return plain_item(job->copies, k);
-    return UINT64_MAX;
+    switch (job->kind) {
+    case KIND_ONCE:
+    case KIND_SUMS:
+    case KIND_LABELS_BEHIND: return 1;
+    case KIND_COPIES: return plain_item(job->copies, k);
+    default: return UINT64_MAX;
+    }
 }

@@ -1,5 +1,5 @@
 /* Document 01's second program: what the entries have to answer and to leave in the lent slices, for every kind, as simple as can be.
- * It was written from the document and include/quabnester.h, and not from the planner's sources. */
+ * It was written from the documents and include/quabnester.h, and not from the planner's sources. */
 #ifndef PLAIN_H
 #define PLAIN_H
 
@@ -91,7 +91,7 @@ void plain_start(struct plain_answer *answer, const struct plain_job *job, uint3
 /* How often label k may be taken. */
 uint64_t plain_most(const struct plain_job *job, uint32_t k);
 
-/* Kinds 1 to 6 by trying every selection (plain_try.c), each place of the table as a small job of its own. Answers 0 where there are too
+/* All kinds but 7 by trying every selection (plain_try.c), each place of the table as a small job of its own. Answers 0 where there are too
  * many selections, and then the answer says nothing. */
 int plain_try(const struct plain_job *job, struct plain_answer *answer);
 
@@ -104,7 +104,7 @@ struct plain_rule {
 struct plain_rule plain_rule(uint32_t kind);
 void plain_picks(const struct plain_job *job, struct plain_rule rule, uint32_t *picks);
 
-/* Kinds 1 to 6 by plain tables (plain_table.c), and whether there is room for them. */
+/* All kinds but 7 by plain tables (plain_table.c), and whether there is room for them. */
 int plain_has_room(const struct plain_job *job);
 void plain_table(const struct plain_job *job, struct plain_answer *answer);
 

@@ -1,5 +1,5 @@
-/* Document 01's second program: kinds 1 to 6 by plain tables, for jobs with too many selections to try. Where a small job is answered both
- * ways the tests compare the two, so that trying holds these tables. See the head of plain.c. */
+/* Document 01's second program: all kinds but 7 by plain tables, for jobs with too many selections to try. Where a small job is answered
+ * both ways the tests compare the two, so that trying holds these tables. See the head of plain.c. */
 #include "plain.h"
 
 /* Row i of a table by budget, and a table for rows that aren't handed over. */
@@ -9,11 +9,16 @@ static uint32_t *row_of(uint32_t *table, const struct plain_job *job, uint32_t i
     return table + (size_t)i * ROW(job->budget);
 }
 
-/* Kinds 4, 6 and 7 have no rows; the others have one for each number of labels, handed over or not. */
+/* Kinds 1, 2, 3 and 5 have a row for each number of labels, handed over or not; the others have one or none. */
 int plain_has_room(const struct plain_job *job) {
     uint64_t n = job->weights.count, C = job->budget;
-    if (job->kind == KIND_SUMS || job->kind == KIND_WAYS || job->kind == KIND_SHARES) return 1;
-    return FULL_TABLE(n, C) <= PLAIN_CELLS;
+    switch (job->kind) {
+    case KIND_SUMS:
+    case KIND_WAYS:
+    case KIND_SHARES:
+    case KIND_LABELS_BEHIND: return 1;
+    default: return FULL_TABLE(n, C) <= PLAIN_CELLS;
+    }
 }
 
 static void fill(uint32_t *row, uint32_t budget, uint32_t number) {
@@ -184,6 +189,37 @@ static void ways(const struct plain_job *job, struct plain_answer *answer) {
     answer->first = 0;
 }
 
+/* ---- kind 8 */
+
+/* Each total gets the number of labels with which it is reached for the first time. */
+static void first_labels(const struct plain_job *job, uint32_t *cells) {
+    uint32_t i, t;
+    fill(cells, job->budget, NOT_REACHED);
+    cells[0] = 0;
+    for (i = 0; i < job->weights.count; i++) {
+        uint32_t weight = plain_item(job->weights, i);
+        for (t = job->budget; t >= weight; t--) { /* from above, so that no label is used twice */
+            if (cells[t] == NOT_REACHED && cells[t - weight] != NOT_REACHED) cells[t] = i + 1;
+        }
+    }
+}
+
+/* Label i, from the last to the first, is taken where the i labels before it don't reach what is left. */
+static void labels_behind(const struct plain_job *job, struct plain_answer *answer) {
+    uint32_t i, left = job->budget;
+    first_labels(job, answer->cells);
+    if (answer->cells[left] == NOT_REACHED) {
+        answer->refused = 7;
+        answer->filled.picks = 0;
+        return;
+    }
+    for (i = job->weights.count; i-- > 0;) {
+        answer->picks[i] = answer->cells[left] > i;
+        if (answer->picks[i]) left -= plain_item(job->weights, i);
+    }
+    answer->first = job->budget - left;
+}
+
 void plain_table(const struct plain_job *job, struct plain_answer *answer) {
     plain_start(answer, job, 0);
     switch (job->kind) {
@@ -191,6 +227,7 @@ void plain_table(const struct plain_job *job, struct plain_answer *answer) {
     case KIND_SUMS: sums(job, answer); break;
     case KIND_FEWEST: blocks(job, answer); break;
     case KIND_WAYS: ways(job, answer); break;
+    case KIND_LABELS_BEHIND: labels_behind(job, answer); break;
     default: limited(job, answer); break;
     }
 }

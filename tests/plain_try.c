@@ -1,12 +1,12 @@
-/* Document 01's second program: kinds 1 to 6 by trying every selection of a small job, one by one. Each place of the table is a small job
- * of its own, of the first i labels with budget c, for which all is tried again. See the head of plain.c. */
+/* Document 01's second program: all kinds but 7 by trying every selection of a small job, one by one. Each place of the table is a small
+ * job of its own, of the first i labels with budget c, for which all is tried again. See the head of plain.c. */
 #include "plain.h"
 
 enum { LABELS = 12, SELECTIONS = 300000 }; /* no more than these are tried for a job; document 01 has no number for it */
 
 static uint32_t left; /* how many selections may still be tried */
 
-/* Kinds 1 to 3 ask for value within the budget; 4 to 6 ask for what weighs exactly so much. */
+/* Kinds 1 to 3 ask for value within the budget; 4 to 6 and 8 ask for what weighs exactly so much. */
 static int is_knapsack(uint32_t kind) {
     return kind == KIND_ONCE || kind == KIND_COPIES || kind == KIND_ANY;
 }
@@ -56,7 +56,7 @@ static int counts_for(const struct plain_job *job, const struct selection *s, ui
     return is_knapsack(job->kind) || s->weight == c;
 }
 
-/* Above 0 if a is better than b, 0 if they are equally good: more value, or fewer blocks. Kinds 4 and 6 don't choose. */
+/* Above 0 if a is better than b, 0 if they are equally good: more value, or fewer blocks. Kinds 4, 6 and 8 don't choose. */
 static int compared(const struct plain_job *job, const struct selection *a, const struct selection *b) {
     if (is_knapsack(job->kind)) return (a->value > b->value) - (a->value < b->value);
     if (job->kind == KIND_FEWEST) return (a->blocks < b->blocks) - (a->blocks > b->blocks);
@@ -66,7 +66,7 @@ static int compared(const struct plain_job *job, const struct selection *a, cons
 struct plain_rule plain_rule(uint32_t kind) {
     struct plain_rule rule;
     rule.from_last = kind != KIND_ANY;
-    rule.small = kind == KIND_ONCE || kind == KIND_COPIES;
+    rule.small = kind == KIND_ONCE || kind == KIND_COPIES || kind == KIND_LABELS_BEHIND;
     return rule;
 }
 
@@ -103,19 +103,32 @@ void plain_picks(const struct plain_job *job, struct plain_rule rule, uint32_t *
 
 /* ---- the table and the answer */
 
-/* The number that is asked for: a value, whether c is reached, fewest blocks or ways. */
+/* The number that is asked for: a value, whether c is reached, fewest blocks, ways or a weight. */
 static uint64_t number_of(const struct plain_job *job, const struct outcome *all) {
     switch (job->kind) {
     case KIND_SUMS: return all->asked > 0;
     case KIND_FEWEST: return all->asked > 0 ? all->best.blocks : NO_WAY;
     case KIND_WAYS: return all->asked;
+    case KIND_LABELS_BEHIND: return all->best.weight;
     default: return all->best.value;
     }
 }
 
-/* What the table says of the first i labels and c. */
+/* Kind 8: the least i such that the first i labels reach c. */
+static uint64_t first_to_reach(const struct plain_job *job, uint32_t c) {
+    uint32_t i;
+    for (i = 0; i <= job->weights.count; i++) {
+        if (try_all(job, i, c, plain_rule(job->kind)).asked > 0) return i;
+    }
+    return NOT_REACHED;
+}
+
+/* What the table says of the first i labels and c. Once too many were tried the table says nothing, and no more is. */
 static uint64_t place(const struct plain_job *job, uint32_t i, uint32_t c) {
-    struct outcome all = try_all(job, i, c, plain_rule(job->kind));
+    struct outcome all;
+    if (left == 0) return 0;
+    if (job->kind == KIND_LABELS_BEHIND) return first_to_reach(job, c);
+    all = try_all(job, i, c, plain_rule(job->kind));
     return number_of(job, &all);
 }
 
@@ -132,11 +145,11 @@ static void try_places(const struct plain_job *job, struct plain_answer *answer)
     }
 }
 
-/* Kind 5 and no list at all is refusal 7. So few selections are never too many ways. */
+/* Kind 5 or 8 and no list at all is refusal 7. So few selections are never too many ways. */
 static void try_answer(const struct plain_job *job, struct plain_answer *answer) {
     struct outcome all = try_all(job, job->weights.count, job->budget, plain_rule(job->kind));
     uint32_t k;
-    if (job->kind == KIND_FEWEST && all.asked == 0) {
+    if ((job->kind == KIND_FEWEST || job->kind == KIND_LABELS_BEHIND) && all.asked == 0) {
         answer->refused = 7;
         answer->filled.picks = 0;
         return;
@@ -147,9 +160,15 @@ static void try_answer(const struct plain_job *job, struct plain_answer *answer)
     for (k = 0; k < answer->filled.picks; k++) answer->picks[k] = all.best.counts[k];
 }
 
+/* How often at least one selection is tried: for each place once, or in kind 8, where none reaches it, for each number of labels. */
+static uint64_t fewest_tried(const struct plain_job *job, const struct plain_answer *answer) {
+    uint64_t places = answer->filled.cells + answer->filled.words;
+    return job->kind == KIND_LABELS_BEHIND ? places * (job->weights.count + 1) : places;
+}
+
 int plain_try(const struct plain_job *job, struct plain_answer *answer) {
     plain_start(answer, job, 0);
-    if (job->kind == KIND_SHARES || job->weights.count > LABELS || answer->filled.cells + answer->filled.words > SELECTIONS) return 0;
+    if (job->kind == KIND_SHARES || job->weights.count > LABELS || fewest_tried(job, answer) > SELECTIONS) return 0;
     left = SELECTIONS;
     try_places(job, answer);
     try_answer(job, answer);

@@ -80,13 +80,13 @@ static void try_faults(uint32_t kind, unsigned mask) {
 
 /* ---- each bound */
 
-/* A job with as many slices' places as it needs, and then with one too few of each that it needs. */
+/* A job with as many slices' places as it needs, and then with one too few of each that it needs: 6 goes before 7. */
 static void try_bound(const struct job *job, uint32_t number) {
     static struct bytes bytes;
     struct plain_room room = room_of(job), less;
     put_job(&bytes, job);
     is_refused(&bytes, &room, number);
-    if (number != 0) return;
+    if (number != 0 && number != 7) return;
     less = room;
     if (less.cells-- > 0) is_refused(&bytes, &less, 6);
     less = room;
@@ -110,17 +110,18 @@ static void job_of(struct job *job, uint32_t kind, uint32_t n, uint32_t budget) 
     }
 }
 
+/* Kind 8 is refused with 7 where two or three labels, each used once, don't reach so great a budget. */
 static void try_sizes(uint32_t kind) {
     static struct job job;
-    uint32_t most = plain_kind(kind)->most_labels, most_budget = plain_kind(kind)->most_budget;
-    job_of(&job, kind, most, kind == KIND_FEWEST ? 3 : 0);
+    uint32_t most = plain_kind(kind)->most_labels, most_budget = plain_kind(kind)->most_budget, great = kind == KIND_LABELS_BEHIND ? 7 : 0;
+    job_of(&job, kind, most, kind == KIND_FEWEST || kind == KIND_LABELS_BEHIND ? 3 : 0);
     try_bound(&job, 0);
     job_of(&job, kind, most + 1, 0);
     try_bound(&job, 4);
     job_of(&job, kind, 2, MOST_BUDGET);
-    try_bound(&job, 0);
+    try_bound(&job, great);
     job_of(&job, kind, 3, most_budget);
-    try_bound(&job, 0);
+    try_bound(&job, great);
     job_of(&job, kind, 2, MOST_BUDGET + 1);
     try_bound(&job, most_budget == MOST_BUDGET ? 4 : 0);
     job_of(&job, kind, 0, 0);
@@ -142,21 +143,23 @@ static void try_most(struct job *job, uint32_t *number, uint32_t most) {
     try_bound(job, 0);
 }
 
+/* The budget is one that the first two labels reach, where each is used once. */
 static void try_numbers(uint32_t kind) {
     static struct job job;
     const struct plain_kind *rules = plain_kind(kind);
-    job_of(&job, kind, 3, 8);
+    uint32_t budget = kind == KIND_LABELS_BEHIND ? 3 : 8;
+    job_of(&job, kind, 3, budget);
     job.weights.at[2] = UINT32_MAX;
     try_bound(&job, 0);
-    job_of(&job, kind, 3, 8);
+    job_of(&job, kind, 3, budget);
     try_least(&job, &job.weights.at[0], rules->least_weight);
-    job_of(&job, kind, 3, 8);
+    job_of(&job, kind, 3, budget);
     job.weights.at[1] = job.weights.at[0];
     try_bound(&job, rules->ascending ? 5 : 0);
-    job_of(&job, kind, 3, 8);
+    job_of(&job, kind, 3, budget);
     if (rules->values) try_least(&job, &job.values.at[2], rules->least_value);
     if (rules->values) try_most(&job, &job.values.at[2], MOST_VALUE);
-    job_of(&job, kind, 3, 8);
+    job_of(&job, kind, 3, budget);
     if (rules->copies) try_least(&job, &job.copies.at[2], LEAST_COPIES);
     if (rules->copies) try_most(&job, &job.copies.at[2], MOST_COPIES);
 }
