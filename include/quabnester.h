@@ -43,10 +43,10 @@ extern "C" {
  * the third where no promise has changed. */
 
 #define QUABNESTER_VERSION_MAJOR 1
-#define QUABNESTER_VERSION_MINOR 1
+#define QUABNESTER_VERSION_MINOR 2
 #define QUABNESTER_VERSION_PATCH 0
 
-/* As one number, which grows with each version, and as text: "1.1.0" and the like. */
+/* As one number, which grows with each version, and as text: "1.2.0" and the like. */
 #define QUABNESTER_VERSION_NUMBER                                                                                          \
     (QUABNESTER_VERSION_MAJOR * 1000000 + QUABNESTER_VERSION_MINOR * 1000 + QUABNESTER_VERSION_PATCH)
 #define QUABNESTER_VERSION_STRING                                                                                          \
@@ -57,26 +57,27 @@ extern "C" {
 
 /* ---- KINDS of job. What each answers is said at quabnester_solve. */
 
-#define QUABNESTER_KIND_ONCE 1   /* each label at most once */
-#define QUABNESTER_KIND_COPIES 2 /* label i at most copies[i] times */
-#define QUABNESTER_KIND_ANY 3    /* any number of each */
-#define QUABNESTER_KIND_SUMS 4   /* can some labels weigh exactly C? */
-#define QUABNESTER_KIND_FEWEST 5 /* fewest blocks that sum to C */
-#define QUABNESTER_KIND_WAYS 6   /* ways to sum to C */
-#define QUABNESTER_KIND_SHARES 7 /* C shared by claims */
+#define QUABNESTER_KIND_ONCE 1          /* each label at most once */
+#define QUABNESTER_KIND_COPIES 2        /* label i at most copies[i] times */
+#define QUABNESTER_KIND_ANY 3           /* any number of each */
+#define QUABNESTER_KIND_SUMS 4          /* can some labels weigh exactly C? */
+#define QUABNESTER_KIND_FEWEST 5        /* fewest blocks that sum to C */
+#define QUABNESTER_KIND_WAYS 6          /* ways to sum to C */
+#define QUABNESTER_KIND_SHARES 7        /* C shared by claims */
+#define QUABNESTER_KIND_LABELS_BEHIND 8 /* which labels weigh exactly C? */
 
-#define QUABNESTER_LAST_KIND QUABNESTER_KIND_SHARES          /* the kinds to solve are 1 to this one */
+#define QUABNESTER_LAST_KIND QUABNESTER_KIND_LABELS_BEHIND   /* the kinds to solve are 1 to this one */
 #define QUABNESTER_LAST_CERTIFICATE_KIND QUABNESTER_KIND_ANY /* those with certificates are 1 to this one */
 
 /* ---- BOUNDS. n and C may be 0, save that the claims of kind 7 have to sum to more. A weight, a size or a claim may be as
  * great as 32 bits allow, and a claim may be 0. Two bounds that are equal today are still two rules. */
 
-#define QUABNESTER_MOST_LABELS 1024        /* n in kinds 1 to 4 */
+#define QUABNESTER_MOST_LABELS 1024        /* n in kinds 1 to 4 and 8 */
 #define QUABNESTER_MOST_SIZES 64           /* n in kinds 5 and 6 */
 #define QUABNESTER_MOST_CLAIMS 1024        /* n in kind 7 */
-#define QUABNESTER_MOST_BUDGET 65535       /* C in kinds 1 to 6 */
+#define QUABNESTER_MOST_BUDGET 65535       /* C in kinds 1 to 6 and 8 */
 #define QUABNESTER_MOST_SHARED 4294967295u /* C in kind 7: any 32-bit number */
-#define QUABNESTER_LEAST_WEIGHT 1          /* in kinds 1 to 4 */
+#define QUABNESTER_LEAST_WEIGHT 1          /* in kinds 1 to 4 and 8 */
 #define QUABNESTER_LEAST_SIZE 1            /* in kinds 5 and 6; each size is greater than the one before it */
 #define QUABNESTER_LEAST_VALUE 0           /* in kinds 1 and 2 */
 #define QUABNESTER_LEAST_VALUE_ANY 1       /* in kind 3 */
@@ -87,7 +88,7 @@ extern "C" {
 
 /* ---- MARKS in a table that was left. */
 
-#define QUABNESTER_NO_WAY 4294967295u           /* a cell of kind 5: there is no way */
+#define QUABNESTER_NO_WAY 4294967295u           /* a cell of kinds 5 and 8: there is no way */
 #define QUABNESTER_TOO_MANY_WAYS (~(uint64_t)0) /* a word of kind 6: so many ways, 2^64 - 1, or more */
 
 /* ---- REFUSAL NUMBERS. An entry returns 0, or the lowest number that applies. 0 is returned exactly where none does. */
@@ -108,7 +109,7 @@ extern "C" {
 #define QUABNESTER_REFUSED_RULE 5
 /* a slice that is needed is too short */
 #define QUABNESTER_REFUSED_ROOM 6
-/* kind 5: no list of blocks sums to C */
+/* kind 5: no list of blocks sums to C; kind 8: no labels weigh exactly C */
 #define QUABNESTER_REFUSED_NO_SUM 7
 /* kind 6: there are 2^64 - 1 ways or more */
 #define QUABNESTER_REFUSED_TOO_MANY 8
@@ -142,7 +143,8 @@ static inline uint32_t quabnester_most_labels(uint32_t kind) {
     case QUABNESTER_KIND_ONCE:
     case QUABNESTER_KIND_COPIES:
     case QUABNESTER_KIND_ANY:
-    case QUABNESTER_KIND_SUMS: return QUABNESTER_MOST_LABELS;
+    case QUABNESTER_KIND_SUMS:
+    case QUABNESTER_KIND_LABELS_BEHIND: return QUABNESTER_MOST_LABELS;
     case QUABNESTER_KIND_FEWEST:
     case QUABNESTER_KIND_WAYS: return QUABNESTER_MOST_SIZES;
     case QUABNESTER_KIND_SHARES: return QUABNESTER_MOST_CLAIMS;
@@ -170,7 +172,8 @@ static inline uint64_t quabnester_cells_needed(uint32_t kind, uint64_t n, uint64
     case QUABNESTER_KIND_ONCE:
     case QUABNESTER_KIND_COPIES: return (n + 1) * (budget + 1);
     case QUABNESTER_KIND_ANY:
-    case QUABNESTER_KIND_FEWEST: return budget + 1;
+    case QUABNESTER_KIND_FEWEST:
+    case QUABNESTER_KIND_LABELS_BEHIND: return budget + 1;
     default: return 0;
     }
 }
@@ -214,14 +217,15 @@ static inline uint64_t quabnester_job_bytes(uint64_t weights, uint64_t values, u
  *   5  fewest blocks that sum to C              weights as sizes   blocks   0        n
  *   6  ways to sum to C                         weights as sizes   ways     0        none
  *   7  C shared by claims                       weights as claims  spare    0        n, the shares
+ *   8  which labels weigh exactly C?            weights            weight   0        n
  *
- * value is the greatest of all selections that weigh at most C, and weight is what the picks weigh. totals is how many
- * totals from 0 to C some labels weigh, each used at most once. spare is what is left of C after each share is rounded
- * down; the shares, with the spare units given out, sum to C.
- * The picks are the one list that the tie rule names among the best. Kinds 1, 2: label n-1's count is as small as it can
- * be, then n-2's given that, and so on. Kind 3: label 0's count is as great as it can be, then label 1's. Kind 5: the
- * last size's count is as great as it can be, then the one before it. Kind 7: spare units go one each to the largest
- * remainders, of equal ones to the lower label first.
+ * value is the greatest of all selections that weigh at most C, and weight is what the picks weigh, which in kind 8 is C.
+ * totals is how many totals from 0 to C some labels weigh; in kinds 4 and 8 each label is used at most once. spare is what
+ * is left of C after each share is rounded down; the shares, with the spare units given out, sum to C.
+ * The picks are the one list that the tie rule names among the best, and in kind 8 among those that weigh exactly C. Kinds
+ * 1, 2, 8: label n-1's count is as small as it can be, then n-2's given that, and so on. Kind 3: label 0's count is as
+ * great as it can be, then label 1's. Kind 5: the last size's count is as great as it can be, then the one before it.
+ * Kind 7: spare units go one each to the largest remainders, of equal ones to the lower label first.
  *
  *   kind  what the table holds after the call, in as many places as are needed (ROOM)
  *   1, 2  cell i(C+1)+c: the best value of the first i labels with budget c
@@ -230,6 +234,8 @@ static inline uint64_t quabnester_job_bytes(uint64_t weights, uint64_t values, u
  *   5     cell a: the fewest blocks for a, or QUABNESTER_NO_WAY
  *   6     word a: the ways for a, but at most QUABNESTER_TOO_MANY_WAYS
  *   7     there is none
+ *   8     cell t: the least i such that the first i labels reach total t, or QUABNESTER_NO_WAY. So it isn't that mark
+ *         exactly where kind 4 sets the bit of t, for the same weights and C
  *
  * What stood in the slices before has no influence. Slices may be longer; places past the needed ones, and slices that
  * the kind doesn't use, keep what they held. On a refusal *first and *second are 0, and no slice is written; save that 7

@@ -43,6 +43,7 @@ static const struct constant constants[] = {
     {"the most copies", MOST_COPIES, QUABNESTER_MOST_COPIES},
     {"the greatest pick of kind 3", MOST_PICK_ANY, QUABNESTER_MOST_PICK_ANY},
     {"no way", NO_WAY, QUABNESTER_NO_WAY},
+    {"not reached", NOT_REACHED, QUABNESTER_NO_WAY},
     {"too many ways", FULL, QUABNESTER_TOO_MANY_WAYS},
 };
 
@@ -260,7 +261,7 @@ static void marks(void) {
     leaves(QUABNESTER_REFUSED_NO_SUM, QUABNESTER_NO_WAY);
     valid_job(QUABNESTER_KIND_LABELS_BEHIND, 1, 3);
     job.weights.at[0] = job.budget + 1;
-    leaves(QUABNESTER_REFUSED_NO_SUM, NOT_REACHED);
+    leaves(QUABNESTER_REFUSED_NO_SUM, QUABNESTER_NO_WAY);
     valid_job(QUABNESTER_KIND_WAYS, QUABNESTER_MOST_SIZES, QUABNESTER_MOST_BUDGET);
     leaves(QUABNESTER_REFUSED_TOO_MANY, QUABNESTER_TOO_MANY_WAYS);
 }
