@@ -22,7 +22,7 @@ bounds : Computes (λ (x : ℕ). x) (
 unfolding opens
 bounds = refl
 
--- n in kinds 1 to 4, and C; a job within the bounds gets on to 6, for nothing is lent
+-- n in kinds 1 to 4 and 8, and C; a job within the bounds gets on to 6, for nothing is lent
 refusal-4-labels : Computes refusalOf (
     (plain 1 mostBudget (replicate mostLabels 1) (replicate mostLabels 0) [], nothing) gives 6  -- kind 1: n and C at their bounds
     ∷ (plain 1 0 (replicate (suc mostLabels) 1) (replicate (suc mostLabels) 0) [], nothing) gives 4  -- one label more
@@ -36,6 +36,9 @@ refusal-4-labels : Computes refusalOf (
     ∷ (plain 4 mostBudget (replicate mostLabels 1) [] [], nothing) gives 6  -- kind 4
     ∷ (plain 4 0 (replicate (suc mostLabels) 1) [] [], nothing) gives 4  -- one label more
     ∷ (plain 4 (suc mostBudget) [] [] [], nothing) gives 4  -- one unit more
+    ∷ (plain 8 mostBudget (replicate mostLabels 1) [] [], nothing) gives 6  -- kind 8
+    ∷ (plain 8 0 (replicate (suc mostLabels) 1) [] [], nothing) gives 4  -- one label more
+    ∷ (plain 8 (suc mostBudget) [] [] [], nothing) gives 4  -- one unit more
     ∷ []
     )
 unfolding opens

@@ -38,6 +38,8 @@ refusal-3 : Computes refusalOf (
     ∷ (plain 6 1 (1 ∷ []) [] (1 ∷ []), plenty) gives 3  -- kind 6 has no copies
     ∷ (plain 7 1 (1 ∷ []) (1 ∷ []) [], plenty) gives 3  -- kind 7 has no values
     ∷ (plain 7 1 (1 ∷ []) [] (1 ∷ []), plenty) gives 3  -- kind 7 has no copies
+    ∷ (plain 8 1 (1 ∷ []) (1 ∷ []) [], plenty) gives 3  -- kind 8 has no values
+    ∷ (plain 8 1 (1 ∷ []) [] (1 ∷ []), plenty) gives 3  -- kind 8 has no copies
     ∷ []
     )
 unfolding opens

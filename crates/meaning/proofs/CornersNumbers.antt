@@ -43,6 +43,8 @@ refusal-5 : Computes refusalOf (
     ∷ (plain 6 1 (3 ∷ 2 ∷ []) [] [], nothing) gives 5  -- falling sizes
     ∷ (plain 6 1 (0 ∷ 1 ∷ []) [] [], plenty) gives 5  -- size 0
     ∷ (plain 7 1 (4_294_967_295 ∷ 0 ∷ []) [] [], nothing) gives 6  -- kind 7: any claims
+    ∷ (plain 8 1 (4_294_967_295 ∷ 1 ∷ []) [] [], nothing) gives 6  -- kind 8: the greatest and the least
+    ∷ (plain 8 1 (1 ∷ 0 ∷ []) [] [], plenty) gives 5  -- weight 0
     ∷ []
     )
 unfolding opens

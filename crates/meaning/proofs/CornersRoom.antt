@@ -32,6 +32,10 @@ refusal-6 : Computes refusalOf (
     ∷ (plain 6 0 [] [] [], room 0 1 0) gives 0  -- no sizes
     ∷ (plain 7 3 (1 ∷ 1 ∷ []) [] [], room 0 0 2) gives 0  -- kind 7: just enough
     ∷ (plain 7 3 (1 ∷ 1 ∷ []) [] [], room 99 99 1) gives 6  -- one pick short
+    ∷ (plain 8 3 (1 ∷ 1 ∷ []) [] [], room 4 0 2) gives 0  -- kind 8: just enough
+    ∷ (plain 8 3 (1 ∷ 1 ∷ []) [] [], room 3 9 9) gives 6  -- one cell short
+    ∷ (plain 8 3 (1 ∷ 1 ∷ []) [] [], room 99 9 1) gives 6  -- one pick short
+    ∷ (plain 8 0 [] [] [], room 1 0 0) gives 0  -- no labels
     ∷ []
     )
 unfolding opens

@@ -3,8 +3,9 @@
 use mathlib.Core.List.{[], _∷_}
 use Rattle.meaning.specs.Job.{once, free, limited}
 use Rattle.meaning.specs.Knapsacks.{BestPicks}
+use Rattle.meaning.specs.Behind.{Behind}
 use Rattle.meaning.specs.Blocks.{Laid}
-use Rattle.meaning.proofs.Small.{isLaid, laid-out, picked, picked-out}
+use Rattle.meaning.proofs.Small.{behind-out, isBehind, isLaid, laid-out, picked, picked-out}
 use Rattle.meaning.proofs.Opens.{opens}
 use Rattle.meaning.proofs.Cases.{plain}
 
@@ -37,3 +38,17 @@ tie-blocks = laid-out _ _ tt
 no-blocks : Laid (plain 5 0 (5 ∷ 10 ∷ []) [] []) 0 (0 ∷ 0 ∷ [])
 unfolding opens isLaid
 no-blocks = laid-out _ _ tt
+
+-- the last of five labels weighs C alone, and so do the first and the fourth
+tie-behind : Behind (plain 8 5 (1 ∷ 2 ∷ 3 ∷ 4 ∷ 5 ∷ []) [] []) 5 5 (0 ∷ 1 ∷ 1 ∷ 0 ∷ 0 ∷ [])
+unfolding opens isBehind
+tie-behind = behind-out _ _ tt
+
+-- total 0 takes no labels, of some or of none
+none-behind : Behind (plain 8 0 (1 ∷ 2 ∷ []) [] []) 2 0 (0 ∷ 0 ∷ [])
+unfolding opens isBehind
+none-behind = behind-out _ _ tt
+
+none-of-none : Behind (plain 8 0 [] [] []) 0 0 []
+unfolding opens isBehind
+none-of-none = behind-out _ _ tt

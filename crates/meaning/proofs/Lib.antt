@@ -39,6 +39,8 @@ pub mod Certified
 pub mod Ours
 pub mod Ring
 pub mod Entries
+-- kinds 4 and 8 agree
+pub mod Agreement
 -- trials, and wrong versions
 pub mod Small
 pub mod SmallTables

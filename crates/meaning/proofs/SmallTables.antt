@@ -3,6 +3,8 @@
 use mathlib.Core.Path.{subst}
 use mathlib.Core.Logic.{inl, inr}
 use Prim.Native.Nat.{_*_, _+_, _/_, _^_, _≤_, min, suc, suc-le-suc, zero, ℕ}
+use native.Mathlib.Decide.{decLe}
+use native.Mathlib.Omega.{arith}
 use mathlib.Core.Bool.{Bool, _&&_, _||_}
 use mathlib.Core.List.{List, [], _∷_}
 use lib.Dec.{T, eqb, leb, ltb}
@@ -13,10 +15,12 @@ use Rattle.meaning.specs.Cells.{LeastShown, noWay, none-shown, shown}
 use Rattle.meaning.specs.Job.{Job, Knapsack, free, labels, once}
 use Rattle.meaning.specs.Knapsacks.{BestValue, FullTable, OneRow, cellNumber}
 use Rattle.meaning.specs.Sums.{BitTable, ReachedWithin, Tells, bit, is-not, is-so}
+use Rattle.meaning.specs.Behind.{FirstRow, ReachedBy}
 use Rattle.meaning.specs.Blocks.{FewestRow, MadeOf, WaysRow, tooMany}
 use Rattle.meaning.specs.Certificates.{someOf}
 use Rattle.meaning.proofs.Tests.{_implies_, all, all-out, below, below-out, implied}
 use Rattle.meaning.proofs.Steps.{best-by}
+use Rattle.meaning.proofs.Reaching.{reached-as, reached-more}
 use Rattle.meaning.proofs.Small.{areWays, block-limits, exact, fitting, isMaking, isSelection, limits-hold}
 use Rattle.meaning.proofs.Small.{limits-right, makes-out, makes-within, misses, misses-out, once-limits, reached-by}
 use Rattle.meaning.proofs.Small.{selects, selects-out, unmade, unmade-out, ways-out, limits}
@@ -214,3 +218,51 @@ module _ (j : Job) (words : List ℕ) (lists : List (List (List ℕ))) where
       and-yes (areWays j a (ways-of a)) (eqb (at words a) (min (length (ways-of a)) tooMany))
       (below-out (suc (j .budget)) isWaysCell t a (suc-le-suc h)) in
       record { many = length (ways-of a); how-many = ways-out j a (ways-of a) w; lesser = eqb-yes e }
+
+-- ---- kind 8
+
+module _ (j : Job) (t cell : ℕ) where
+  -- p is a selection of the first x labels that weighs t
+  abbrev reaching : ℕ → List ℕ → Bool
+  reaching x p = selects once j x p && exact j t p
+
+  -- so many of the first labels reach t, and no fewer do
+  abbrev isFirst : Bool
+  isFirst = leb cell (labels j) && (some (once-limits j cell) (reaching cell) && below cell (λ x. misses j x t))
+
+  -- no labels reach t, and the cell says so
+  abbrev isUnreached : Bool
+  isUnreached = misses j (labels j) t && eqb cell noWay
+
+  first-out : t ≤ j .budget → T isFirst → LeastShown (ReachedBy j (labels j) t) cell
+  first-out within h =
+      let (few, h₁) = and-yes (leb cell (labels j)) (some (once-limits j cell) (reaching cell) && below cell (λ x. misses j x t)) h in
+      let (one, fewer) = and-yes (some (once-limits j cell) (reaching cell)) (below cell (λ x. misses j x t)) h₁ in
+      let (p, h₂) = some-out (once-limits j cell) (reaching cell) one in
+      let (s, e) = and-yes (selects once j cell p) (exact j t p) h₂ in
+      shown (record { among = leb-yes few; reached = reached-as p (selects-out once j cell p s) (eqb-yes e) })
+      (λ x d.
+      elim (decLe cell x) [
+        | yes le ↦ le
+        | no gt ↦ absurd (misses-out j x t within (below-out cell (λ y. misses j y t) fewer x (omega arith)) _ (d .reached .weighs))
+      ])
+
+  unreached-out : t ≤ j .budget → T isUnreached → LeastShown (ReachedBy j (labels j) t) cell
+  unreached-out within h =
+      let (missed, e) = and-yes (misses j (labels j) t) (eqb cell noWay) h in
+      none-shown
+      (λ x d. misses-out j (labels j) t within missed _ (reached-more j x (labels j) t (d .among) (d .reached) .weighs))
+      (eqb-yes e)
+
+module _ (j : Job) (cells : List ℕ) where
+  -- `FirstRow` as a test
+  unfoldable pub isFirstRow : Bool
+  unfolding below some selects limits misses noWay
+  isFirstRow = below (suc (j .budget)) (λ t. isFirst j t (at cells t) || isUnreached j t (at cells t))
+
+  pub first-row-out : T isFirstRow → FirstRow j cells
+  unfolding isFirstRow FirstRow
+  first-row-out h t within =
+      elim (or-yes (isFirst j t (at cells t)) (isUnreached j t (at cells t))
+      (below-out (suc (j .budget)) (λ t′. isFirst j t′ (at cells t′) || isUnreached j t′ (at cells t′)) h t (suc-le-suc within)))
+      [ inl s ↦ first-out j t (at cells t) within s | inr n ↦ unreached-out j t (at cells t) within n ]

@@ -4,23 +4,26 @@
 use mathlib.Core.Path.{_≡_, refl}
 use Prim.Native.Nat.{suc, ℕ}
 use mathlib.Core.Bool.{true}
-use mathlib.Core.List.{List, [], _∷_}
+use mathlib.Core.List.{List, [], _∷_, _++_}
+use lib.Dec.{lit≤}
 use lib.ListN.{getD, length}
 use Rattle.meaning.specs.declared.Answer.the-variants as Says
 use Rattle.meaning.specs.Slices.{Holds}
-use Rattle.meaning.specs.Job.{Job, Kind, allKinds, block-ways, fewest-blocks, free, jobOf, labels, limited, once, packing, sharing, subset-sums}
+use Rattle.meaning.specs.Job.{Job, Kind, allKinds, block-ways, fewest-blocks, free, jobOf, labels, labels-behind}
+use Rattle.meaning.specs.Job.{limited, once, packing, sharing, subset-sums}
 use Rattle.meaning.specs.Lent.{Lent, lentOf, roomFor}
 use Rattle.meaning.specs.Bytes.{jobBytes}
 use Rattle.meaning.specs.Knapsacks.{FullTable, OneRow, ValueTable}
 use Rattle.meaning.specs.Sums.{BitTable, ReachedWithin, TotalCount, YesOrNo, is-so}
+use Rattle.meaning.specs.Behind.{FirstRow}
 use Rattle.meaning.specs.Blocks.{FewestRow, WaysFor, WaysRow, WaysShown}
 use Rattle.meaning.specs.Answers.{AnswerNumbers, answerNumbers}
 use Rattle.meaning.specs.Solved.{Answered, Built, Gives, Outcome, Solved, SolvedAs}
-use Rattle.meaning.specs.Solved.{SolvedBytes, SolvedLists, SolvedRead, TableHolds, a-sum, no-such-sum}
+use Rattle.meaning.specs.Solved.{SolvedBytes, SolvedLists, SolvedRead, TableHolds, Weighed, a-sum, no-such-sum}
 use Rattle.meaning.proofs.Reaching.{no-labels}
-use Rattle.meaning.proofs.Small.{counted-out, isCounted, isLaid, isSelection, laid-makes, laid-out, picked}
+use Rattle.meaning.proofs.Small.{behind-out, behind-weighs, counted-out, isBehind, isCounted, isLaid, isSelection, laid-makes, laid-out, misses, misses-out, picked}
 use Rattle.meaning.proofs.Small.{picked-out, reached-by, totalled, totalled-out, unmade, unmade-out}
-use Rattle.meaning.proofs.SmallTables.{bit-table-out, fewest-row-out, full-table-out, isBitTable, isFewestRow}
+use Rattle.meaning.proofs.SmallTables.{bit-table-out, fewest-row-out, first-row-out, full-table-out, isBitTable, isFewestRow, isFirstRow}
 use Rattle.meaning.proofs.SmallTables.{isFullTable, isRow, isWaysRow, row-out, ways-row-out}
 use Rattle.meaning.proofs.Opens.{opens}
 use Rattle.meaning.proofs.Cases.{caseJ}
@@ -249,6 +252,55 @@ call₇ : Solved job₇
     (lentOf (8 ∷ []) (7 ∷ []) (4 ∷ 3 ∷ 3 ∷ 6 ∷ []))
 unfolding call
 call₇ = leaves sharing job₇ (lentOf [] [] (4 ∷ 3 ∷ 3 ∷ [])) (record { given = refl; numbers = refl }) tt refl refl refl refl refl
+
+-- ---- kind 8: F's jobs, the first with its labels, the second with none
+
+abbrev three-behind : ℕ → Job
+three-behind budget = jobOf 8 (budget ∷ []) (3 ∷ 5 ∷ 9 ∷ []) [] []
+
+-- 3 by the first label, 5 and 8 by the first two, 0 by none
+abbrev cells₈ : List ℕ
+cells₈ = 0 ∷ 4_294_967_295 ∷ 4_294_967_295 ∷ 1 ∷ 4_294_967_295 ∷ 2 ∷ 4_294_967_295 ∷ 4_294_967_295 ∷ 2 ∷ []
+
+row₈ : FirstRow (three-behind 8) cells₈
+unfolding opens isFirstRow
+row₈ = first-row-out (three-behind 8) cells₈ tt
+
+call₈ : Solved (three-behind 8)
+    (lentOf (9 ∷ 9 ∷ 9 ∷ 9 ∷ 9 ∷ 9 ∷ 9 ∷ 9 ∷ 9 ∷ 7 ∷ []) (8 ∷ []) (9 ∷ 9 ∷ 9 ∷ 6 ∷ []))
+    (Says.Weight 8)
+    (lentOf (cells₈ ++ (7 ∷ [])) (8 ∷ []) (1 ∷ 1 ∷ 0 ∷ 6 ∷ []))
+unfolding call Weighed isBehind
+call₈ =
+    leaves labels-behind (three-behind 8) (lentOf cells₈ [] (1 ∷ 1 ∷ 0 ∷ []))
+    (a-sum (behind-weighs (three-behind 8) (1 ∷ 1 ∷ 0 ∷ []) tt) (behind-out (three-behind 8) (1 ∷ 1 ∷ 0 ∷ []) tt) refl) row₈ refl refl refl refl refl
+
+-- the same without the last cell: the table is complete, and the picks are as they were
+abbrev unreached-cells : List ℕ
+unreached-cells = 0 ∷ 4_294_967_295 ∷ 4_294_967_295 ∷ 1 ∷ 4_294_967_295 ∷ 2 ∷ 4_294_967_295 ∷ 4_294_967_295 ∷ []
+
+unreached-row : FirstRow (three-behind 7) unreached-cells
+unfolding opens isFirstRow
+unreached-row = first-row-out (three-behind 7) unreached-cells tt
+
+unreached-call : Solved (three-behind 7)
+    (lentOf (9 ∷ 9 ∷ 9 ∷ 9 ∷ 9 ∷ 9 ∷ 9 ∷ 9 ∷ 7 ∷ []) (8 ∷ []) (6 ∷ 6 ∷ 6 ∷ []))
+    (Says.Refused 7)
+    (lentOf (unreached-cells ++ (7 ∷ [])) (8 ∷ []) (6 ∷ 6 ∷ 6 ∷ []))
+unfolding call Weighed misses
+unreached-call =
+    leaves labels-behind (three-behind 7) (lentOf unreached-cells [] [])
+    (no-such-sum (misses-out (three-behind 7) 3 7 (lit≤ tt) tt) refl refl) unreached-row refl refl refl refl refl
+
+-- two of three labels do as well as the last: the table names the earlier ones
+tied-row : FirstRow (jobOf 8 (3 ∷ []) (1 ∷ 2 ∷ 3 ∷ []) [] []) (0 ∷ 1 ∷ 2 ∷ 2 ∷ [])
+unfolding opens isFirstRow
+tied-row = first-row-out _ _ tt
+
+-- a label is used once: 4 isn't reached by two of it
+once-row : FirstRow (jobOf 8 (4 ∷ []) (2 ∷ []) [] []) (0 ∷ 4_294_967_295 ∷ 1 ∷ 4_294_967_295 ∷ 4_294_967_295 ∷ [])
+unfolding opens isFirstRow
+once-row = first-row-out _ _ tt
 
 -- ---- refused calls: nothing written
 

@@ -19,6 +19,7 @@ pub mod Shares
 pub mod Answers
 pub mod Solved
 pub mod SolvedIn
+pub mod Agreement
 pub mod Told
 pub mod Certificates
 pub mod Writer
