@@ -22,7 +22,7 @@ bounds : Computes (λ (x : ℕ). x) (
 unfolding opens
 bounds = refl
 
--- n in kinds 1 to 4 and 8, and C; a job within the bounds gets on to 6, for nothing is lent
+-- n in kinds 1 to 4, and C; a job within the bounds gets on to 6, for nothing is lent
 refusal-4-labels : Computes refusalOf (
     (plain 1 mostBudget (replicate mostLabels 1) (replicate mostLabels 0) [], nothing) gives 6  -- kind 1: n and C at their bounds
     ∷ (plain 1 0 (replicate (suc mostLabels) 1) (replicate (suc mostLabels) 0) [], nothing) gives 4  -- one label more
@@ -36,13 +36,20 @@ refusal-4-labels : Computes refusalOf (
     ∷ (plain 4 mostBudget (replicate mostLabels 1) [] [], nothing) gives 6  -- kind 4
     ∷ (plain 4 0 (replicate (suc mostLabels) 1) [] [], nothing) gives 4  -- one label more
     ∷ (plain 4 (suc mostBudget) [] [] [], nothing) gives 4  -- one unit more
-    ∷ (plain 8 mostBudget (replicate mostLabels 1) [] [], nothing) gives 6  -- kind 8
+    ∷ []
+    )
+unfolding opens
+refusal-4-labels = refl
+
+-- those of kind 8, which are kind 4's
+refusal-4-behind : Computes refusalOf (
+    (plain 8 mostBudget (replicate mostLabels 1) [] [], nothing) gives 6  -- at the bounds
     ∷ (plain 8 0 (replicate (suc mostLabels) 1) [] [], nothing) gives 4  -- one label more
     ∷ (plain 8 (suc mostBudget) [] [] [], nothing) gives 4  -- one unit more
     ∷ []
     )
 unfolding opens
-refusal-4-labels = refl
+refusal-4-behind = refl
 
 -- n in kinds 5 and 6, and C
 refusal-4-sizes : Computes refusalOf (

@@ -12,7 +12,7 @@ use Rattle.meaning.specs.declared.Answer.{Answer}
 use Rattle.meaning.specs.declared.Answer.the-variants as Says
 use Rattle.meaning.specs.Lists.{at, if, total}
 use Rattle.meaning.specs.Slices.{Holds}
-use Rattle.meaning.specs.Job.{Job, Kind, Knapsack, block-ways, labels, once, packing, sharing, subset-sums}
+use Rattle.meaning.specs.Job.{Job, Kind, Knapsack, block-ways, labels, labels-behind, once, packing, sharing, subset-sums}
 use Rattle.meaning.specs.Lent.{Lent}
 use Rattle.meaning.specs.Bytes.{jobBytes, readJob, readable}
 use Rattle.meaning.specs.Knapsacks.{BestPicks, Fits, FullTable, ValueTable}
@@ -20,7 +20,7 @@ use Rattle.meaning.specs.Sums.{TotalCount}
 use Rattle.meaning.specs.Blocks.{WaysFor, tooMany}
 use Rattle.meaning.specs.Shares.{spareOf}
 use Rattle.meaning.specs.Answers.{AnswerNumbers, answerNumbers}
-use Rattle.meaning.specs.Solved.{Gives, Solved, SolvedBytes, TableHolds, Unrefused, waysAnswer}
+use Rattle.meaning.specs.Solved.{Gives, Solved, SolvedBytes, TableHolds, Unrefused, Weighed, a-sum, no-such-sum, waysAnswer}
 use Rattle.meaning.specs.Trials.{Goes, solve}
 use Rattle.meaning.proofs.OneOfEach.{best-value-unique}
 use Rattle.meaning.proofs.EachKind.{Late, late, not-said, refusals}
@@ -67,6 +67,15 @@ module _ (j : Job) (before after : Lent) where
   pub spare-left : (n : ℕ) → Unrefused sharing j before → Solved j before (Says.Shares n) after → n ≡ spareOf j
   unfolding Gives answerNumbers
   spare-left n ok h = ap (λ (s : AnswerNumbers). s .spare) (unrefused-answered sharing j before after (Says.Shares n) ok h .gives .numbers)
+
+  -- kind 8's weight is C
+  pub weight-is-C : (w : ℕ) → Unrefused labels-behind j before → Solved j before (Says.Weight w) after → w ≡ j .budget
+  unfolding Gives Weighed answerNumbers refusals
+  weight-is-C w ok h = go (unrefused-answered labels-behind j before after (Says.Weight w) ok h .gives)
+    where
+      go : {p : List ℕ} → Weighed j (answerNumbers (Says.Weight w)) p → w ≡ j .budget
+      go (a-sum weighs behind e) = ap (λ (s : AnswerNumbers). s .exact) e ∙ weighs .weight
+      go (no-such-sum none e written) = absurd (not-said 7 (Says.Weight w) refl (sym e))
 
 -- ---- whoever solves a proved trial answers what it says, and writes its picks
 

@@ -1,4 +1,4 @@
--- Wrong answers that the promises rule out: on all bytes that can't be read, by the writer, by the checker on one job, and from C. (Versions has
+-- Wrong answers that the promises rule out: on all bytes that can't be read, by the writer, by the checker on one job, by kind 8, and from C. (Versions has
 -- those that document 01 names.)
 -- Assumes nothing.
 use mathlib.Core.Path.{_∙_, _≡_, ap, refl, subst, sym}
@@ -6,6 +6,7 @@ use mathlib.Core.Option.{some}
 use Prim.Native.Nat.{ℕ}
 use native.Mathlib.Omega.{arith}
 use mathlib.Core.List.{List, [], _∷_}
+use lib.Dec.{lit≤}
 use lib.ListN.{drop, length, replicate, take}
 use lib.Seq.{drop-at}
 use Rattle.meaning.specs.declared.Answer.{Answer}
@@ -17,9 +18,12 @@ use Rattle.meaning.specs.declared.Verdict.{Verdict}
 use Rattle.meaning.specs.declared.Verdict.the-variants.{Accepted, Refused}
 use Rattle.meaning.specs.Lists.{at}
 use Rattle.meaning.specs.Slices.{Holds}
+use Rattle.meaning.specs.Cells.{LeastShown}
 use Rattle.meaning.specs.Job.{Job, Knapsack}
 use Rattle.meaning.specs.Lent.{Lent}
 use Rattle.meaning.specs.Bytes.{readJob, readable, unreadable}
+use Rattle.meaning.specs.Sums.{Weighs}
+use Rattle.meaning.specs.Behind.{Behind, FirstRow, ReachedBy}
 use Rattle.meaning.specs.Answers.{verdictNumbers, answerNumbers, writtenNumbers}
 use Rattle.meaning.specs.Solved.{SolvedBytes, SolvedRead, TurnedDown}
 use Rattle.meaning.specs.Certificates.{Checked, certifiedKnapsack, verdictOf}
@@ -28,13 +32,16 @@ use Rattle.meaning.specs.Writer.{certificate, newBytes, slicesFit, write
 use Rattle.meaning.specs.Host.{WritesHost, refusalNumber, valueOrPlace}
 use Rattle.meaning.specs.Demands.{ValidJob}
 use Rattle.meaning.specs.Trials.{certJ, jobJ}
+use Rattle.meaning.proofs.OneOfEach.{behind-unique, least-shown-unique}
 use Rattle.meaning.proofs.Unique.{answer-numbers-unique, written-numbers-unique}
 use Rattle.meaning.proofs.Laws.{holds-first, writes-knapsack}
 use Rattle.meaning.proofs.Certified.{meets-demand-3, verdict-is}
 use Rattle.meaning.proofs.Entries.{zero-is-accepted}
 use Rattle.meaning.proofs.Versions.{accepts-all, refuses-all}
+use Rattle.meaning.proofs.Small.{behind-out, isBehind}
+use Rattle.meaning.proofs.SmallTables.{first-row-out, isFirstRow}
 use Rattle.meaning.proofs.Opens.{opens}
-use Rattle.meaning.proofs.Cases.{noLabels}
+use Rattle.meaning.proofs.Cases.{noLabels, plain}
 
 -- ---- on job bytes that can't be read: a planner or a writer that gives another number than 1, and one that writes then
 
@@ -120,6 +127,32 @@ sums-are-whole v checked = only (4_294_967_293 ∷ 0 ∷ 0 ∷ 4_294_967_293 ∷
 claims-may-be-high : (v : Verdict) → Checked jobJ (certJ (0 ∷ 0 ∷ 0 ∷ 9 ∷ 9 ∷ 3 ∷ [])) v → v ≡ Accepted 3
 unfolding opens jobJ certJ verdictOf
 claims-may-be-high v checked = only (0 ∷ 0 ∷ 0 ∷ 9 ∷ 9 ∷ 3 ∷ []) (Accepted 3) v refl checked
+
+-- ---- kind 8: a table that shows the last label by which a total can be reached, or has another mark; picks traced from kind 4's final bits
+
+-- labels of 1, 2 and 3: total 3 takes the first two, and not the third
+shows-the-first : (cell : ℕ) → LeastShown (ReachedBy (plain 8 3 (1 ∷ 2 ∷ 3 ∷ []) [] []) 3 3) cell → cell ≡ 2
+unfolding opens isFirstRow FirstRow
+shows-the-first cell s = least-shown-unique s (first-row-out (plain 8 3 (1 ∷ 2 ∷ 3 ∷ []) [] []) (0 ∷ 1 ∷ 2 ∷ 2 ∷ []) tt 3 (lit≤ tt))
+
+-- a label of 2: total 1 isn't reached
+shows-the-mark : (cell : ℕ) → LeastShown (ReachedBy (plain 8 1 (2 ∷ []) [] []) 1 1) cell → cell ≡ 4_294_967_295
+unfolding opens isFirstRow FirstRow
+shows-the-mark cell s = least-shown-unique s (first-row-out (plain 8 1 (2 ∷ []) [] []) (0 ∷ 4_294_967_295 ∷ []) tt 1 (lit≤ tt))
+
+-- labels of 2 and 1, C 2: the bits of 0, 1 and 2 are set, and the last label leaves 1, which is reached by the same label alone
+traced-twice : ¬ Weighs (plain 8 2 (2 ∷ 1 ∷ []) [] []) 2 2 (0 ∷ 1 ∷ [])
+unfolding opens
+traced-twice d = let one : _≡_ {A = ℕ} 1 2 = d .weight in omega arith
+
+-- two labels of 1, C 1: either weighs C, and the first is named
+traced-last : ¬ Behind (plain 8 1 (1 ∷ 1 ∷ []) [] []) 2 1 (0 ∷ 1 ∷ [])
+unfolding opens isBehind
+traced-last b =
+    let j = plain 8 1 (1 ∷ 1 ∷ []) [] [] in
+    let same : _≡_ {A = List ℕ} (0 ∷ 1 ∷ []) (1 ∷ 0 ∷ []) = behind-unique j 2 1 _ _ b (behind-out j (1 ∷ 0 ∷ []) tt) in
+    let first : _≡_ {A = ℕ} 0 1 = ap (λ (l : List ℕ). at l 0) same in
+    omega arith
 
 -- ---- from C: a checker's entry that gives 0 for every certificate of a valid job, or for none; and a writer's entry that counts no bytes
 

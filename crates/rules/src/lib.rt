@@ -187,9 +187,9 @@ pub fn sums_room(budget: u32) -> Room
 pub fn row_room(n: usize, budget: u32) -> Room
     ensures { λ r. ⌜ NeededBy fewest-blocks n budget r × NeededBy labels-behind n budget r ⌝ }
 {
-    let width = budget as usize + 1;
+    let cells = budget as usize + 1;
     Room {
-        cells: width,
+        cells,
         words: 0,
         picks: n,
     }
@@ -203,10 +203,10 @@ pub fn blocks_room(kind: u32, n: usize, budget: u32) -> Room
     if kind == 5 {
         return row_room(n, budget);
     }
-    let width = budget as usize + 1;
+    let words = budget as usize + 1;
     Room {
         cells: 0,
-        words: width,
+        words,
         picks: 0,
     }
 }

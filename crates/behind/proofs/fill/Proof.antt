@@ -42,7 +42,7 @@ list-length-requires : tie.Need-list-length-requires Inv-loop μ-loop
 list-length-requires c κs = search needs
 
 loop-holds : tie.Need-loop-holds Inv-loop μ-loop
-loop-holds c = let row = c .before .before .before .mark-rest in rounds-none (rw (row .kept .0) (row .ensures))
+loop-holds c = let row = c .before .before .before .mark-rest in rounds-none {s = row .last .0} (rw (row .kept .0) (row .ensures))
 
 item-requires : tie.Need-item-requires Inv-loop μ-loop
 item-requires c κs = inside c

@@ -37,17 +37,23 @@ module _ (s : tie.Start) where
   lent : length (take (s .args .budget + 1) (s .args .cells .now)) ≡ s .args .budget + 1
   lent = length-take-le (s .args .budget + 1) (s .args .cells .now) room
 
--- the function's entry, and the call of `fill` from where the last cell was tested
+-- the function's entry from where n was counted, that from where `fill` is handed the cells, and its call from where the last cell was tested
 abbrev entry : tie.After-list-length → tie.Start
 entry c = c .before .before .before .before .before
+
+abbrev numbered : tie.After-fill-arg → tie.After-list-length
+numbered c = c .before
 
 abbrev filled : tie.After-is-marked → tie.After-fill
 filled c = c .before .before .before .before
 
 -- what the call of `fill` leaves
 module _ (f : tie.After-fill) where
+  abbrev n-counted : tie.After-list-length
+  n-counted = numbered (f .before)
+
   abbrev start : tie.Start
-  start = entry (f .before .before)
+  start = entry n-counted
 
   abbrev row : List ℕ
   row = f .fill .last .1 .1 .0
@@ -72,16 +78,16 @@ module _ (f : tie.After-fill) where
   last : at cells (start .args .budget + 1 - 1) ≡ at row (start .args .budget)
   last = front-last row (start .args .cells .now) (start .args .budget + 1) row-long (start .args .budget) refl
 
-  counted : f .before .before .list-length .result ≡ length (weights start)
-  counted = f .before .before .list-length .ensures
+  counted : n-counted .list-length .result ≡ length (weights start)
+  counted = n-counted .list-length .ensures
 
   -- and the first picks are one for each label
-  picks-room : f .before .before .list-length .result ≤ length (start .args .picks .now)
+  picks-room : n-counted .list-length .result ≤ length (start .args .picks .now)
   unfolding jobOf labels
   picks-room = omega (arith, counted, ok start .picks-room)
 
-  picks-long : length (take (f .before .before .list-length .result) (start .args .picks .now)) ≡ length (weights start)
-  picks-long = length-take-le (f .before .before .list-length .result) (start .args .picks .now) picks-room ∙ counted
+  picks-long : length (take (n-counted .list-length .result) (start .args .picks .now)) ≡ length (weights start)
+  picks-long = length-take-le (n-counted .list-length .result) (start .args .picks .now) picks-room ∙ counted
 
 -- the last cell isn't the mark
 unmarked : (c : tie.Else1) → let f = filled (c .before) in ¬ (at (row f) (start f .args .budget) ≡ noWay)
@@ -99,11 +105,11 @@ slice-relend-prefix-fill : tie.Need-slice-relend-prefix-fill
 slice-relend-prefix-fill c = room (entry c)
 
 slice-aggregate-fill : tie.Need-slice-aggregate-fill
-slice-aggregate-fill c = sym (lent (entry (c .before)))
+slice-aggregate-fill c = sym (lent (entry (numbered c)))
 
 fill-requires : tie.Need-fill-requires
 unfolding jobOf labels
-fill-requires c κs = let s = entry (c .before) in (omega (arith, lent s), ok s .few)
+fill-requires c κs = let s = entry (numbered c) in (omega (arith, lent s), ok s .few)
 
 sub-is-marked : tie.Need-sub-is-marked
 sub-is-marked c = search needs
@@ -123,10 +129,11 @@ same-length c = search needs
 returns : tie.Need-returns
 unfolding jobOf
 returns c =
-    let f = filled (c .before) in
+    let test = c .before in
+    let f = filled test in
     let s = start f in
-    none-behind (job s) (s .args .cells .now) (s .args .picks .now) (row f) (s .pre) (row-long f) (row-grown f)
-    (sym (last f) ∙ eqb-true (at (cells f) (s .args .budget + 1 - 1)) noWay (sym (c .before .is-marked .ensures) ∙ c .if1 .taken))
+    let marked = eqb-true (at (cells f) (s .args .budget + 1 - 1)) noWay (sym (test .is-marked .ensures) ∙ c .if1 .taken) in
+    none-behind (job s) (s .args .cells .now) (s .args .picks .now) (row f) (s .pre) (row-long f) (row-grown f) (sym (last f) ∙ marked)
 
 slice-reshare-prefix-trace-off : tie.Need-slice-reshare-prefix-trace-off
 slice-reshare-prefix-trace-off c = row-room (filled (c .before))

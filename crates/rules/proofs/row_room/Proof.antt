@@ -5,11 +5,11 @@ use borrow.Author.Needs.{needs}
 use Rattle.rules.proofs.row_room.Statement.{statement}
 use Rattle.rules.proofs.row_room.Tie as tie
 
-add-width : tie.Need-add-width
-add-width c = search needs
+add-cells : tie.Need-add-cells
+add-cells c = search needs
 
 returns : tie.Need-returns
 returns c = (fewest-needed (c .args .n) (c .args .budget), behind-needed (c .args .n) (c .args .budget))
 
 pub row-room-spec : {M : Type 1} → statement M
-row-room-spec = tie.close (tie.spec add-width returns)
+row-room-spec = tie.close (tie.spec add-cells returns)
