@@ -1,7 +1,7 @@
 -- The tables of small jobs, cell by cell, and whole calls: the answer, and every slice before and after.
 -- The lent slices are longer than needed, and what they hold past the needed places stays.
 -- Assumes nothing.
-use mathlib.Core.Path.{_≡_, refl}
+use mathlib.Core.Path.{_≡_, ap, refl, sym}
 use Prim.Native.Nat.{suc, ℕ}
 use mathlib.Core.Bool.{true}
 use mathlib.Core.List.{List, [], _∷_, _++_}
@@ -20,6 +20,9 @@ use Rattle.meaning.specs.Blocks.{FewestRow, WaysFor, WaysRow, WaysShown}
 use Rattle.meaning.specs.Answers.{AnswerNumbers, answerNumbers}
 use Rattle.meaning.specs.Solved.{Answered, Built, Gives, Outcome, Solved, SolvedAs}
 use Rattle.meaning.specs.Solved.{SolvedBytes, SolvedLists, SolvedRead, TableHolds, Weighed, a-sum, no-such-sum}
+use Rattle.meaning.specs.Agreement.{Agreed, GetsPast6}
+use Rattle.meaning.proofs.Agreement.{kinds-agree}
+use Rattle.meaning.proofs.EachKind.{not-said, refusals}
 use Rattle.meaning.proofs.Reaching.{no-labels}
 use Rattle.meaning.proofs.Small.{behind-out, behind-weighs, counted-out, isBehind, isCounted, isLaid, isSelection, laid-makes, laid-out, misses, misses-out, picked}
 use Rattle.meaning.proofs.Small.{picked-out, reached-by, totalled, totalled-out, unmade, unmade-out}
@@ -291,6 +294,28 @@ unfolding call Weighed misses
 unreached-call =
     leaves labels-behind (three-behind 7) (lentOf unreached-cells [] [])
     (no-such-sum (misses-out (three-behind 7) 3 7 (lit≤ tt) tt) refl refl) unreached-row refl refl refl refl refl
+
+-- kind 4's call on the first of them, and what the two agree on
+bits-call : Solved (three-labels 8) (lentOf [] (9 ∷ 7 ∷ []) []) (Says.Sums true 4) (lentOf [] (297 ∷ 7 ∷ []) [])
+unfolding call isSelection totalled YesOrNo TotalCount
+bits-call =
+    leaves subset-sums (three-labels 8) (lentOf [] (297 ∷ []) [])
+    (record {
+      yes = true;
+      totals = 4;
+      tells = is-so (reached-by (three-labels 8) (1 ∷ 1 ∷ 0 ∷ []) 8 tt refl) refl;
+      how-many = totalled-out (three-labels 8) ((0 ∷ 0 ∷ 0 ∷ []) ∷ (1 ∷ 0 ∷ 0 ∷ []) ∷ (0 ∷ 1 ∷ 0 ∷ []) ∷ (1 ∷ 1 ∷ 0 ∷ []) ∷ []) tt;
+      numbers = refl;
+      none-written = refl;
+    })
+    bits-to-8 refl refl refl refl refl
+
+agreed-8 : Agreed 8 (297 ∷ 7 ∷ []) (Says.Sums true 4) (cells₈ ++ (7 ∷ [])) (Says.Weight 8)
+unfolding GetsPast6 refusals answerNumbers lentOf
+agreed-8 =
+    kinds-agree 8 (3 ∷ 5 ∷ 9 ∷ []) [] [] [] [] _ (lentOf [] (297 ∷ 7 ∷ []) []) _ (lentOf (cells₈ ++ (7 ∷ [])) (8 ∷ []) (1 ∷ 1 ∷ 0 ∷ 6 ∷ [])) (Says.Sums true 4) (Says.Weight 8)
+    bits-call (λ r low high e. not-said r (Says.Sums true 4) refl (sym (ap answerNumbers e)))
+    call₈ (λ r low high e. not-said r (Says.Weight 8) refl (sym (ap answerNumbers e)))
 
 -- two of three labels do as well as the last: the table names the earlier ones
 tied-row : FirstRow (jobOf 8 (3 ∷ []) (1 ∷ 2 ∷ 3 ∷ []) [] []) (0 ∷ 1 ∷ 2 ∷ 2 ∷ [])

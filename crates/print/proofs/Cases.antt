@@ -77,6 +77,11 @@ case-i : linesOf 7 (Says.Shares 1) (4 ∷ 3 ∷ 3 ∷ []) ≡ ascii "kind 7\nspa
 unfolding opens
 case-i = refl
 
+-- F as kind 8
+behind-f : linesOf 8 (Says.Weight 8) (1 ∷ 1 ∷ 0 ∷ []) ≡ ascii "kind 8\nweight 8\npicks 1 1 0\n"
+unfolding opens
+behind-f = refl
+
 -- a refusal prints its number alone, whatever the kind and the picks
 pub refusal : (kind : ℕ) (picks : List ℕ) → linesOf kind (Says.Refused 4) picks ≡ ascii "refused 4\n"
 unfolding opens
