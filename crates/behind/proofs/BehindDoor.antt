@@ -12,7 +12,7 @@ use Rattle.meaning.specs.Lists.{at}
 use Rattle.meaning.specs.Slices.{Holds}
 use Rattle.meaning.specs.Cells.{LeastShown, noWay, shown, none-shown}
 use Rattle.meaning.specs.Job.{Job, labels-behind, labels}
-use Rattle.meaning.specs.Lent.{Lent, lentOf, roomFor, roomOf}
+use Rattle.meaning.specs.Lent.{lentOf, roomFor, roomOf}
 use Rattle.meaning.specs.Bounds.{mostLabels}
 use Rattle.meaning.specs.Refusals.{rulesOf, weightRules}
 use Rattle.meaning.specs.Sums.{Weighs}

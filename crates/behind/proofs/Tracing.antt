@@ -1,10 +1,10 @@
 -- From a row whose cells show how many of the first labels reach each total to the picks that are read off it.
 -- Assumes nothing.
-use mathlib.Core.Path.{_≡_, refl, sym, ap, _∙_, subst}
+use mathlib.Core.Path.{_≡_, sym, ap, _∙_, subst}
 use Prim.Native.Nat.{ℕ, zero, suc, _+_, _-_, _≤_, _<_}
 use native.Mathlib.Omega.{arith}
 use mathlib.Core.List.{List, [], _∷_, _++_, append-assoc, append-nil}
-use lib.ListN.{length, length-set, drop, replicate, set}
+use lib.ListN.{length, length-set, drop, replicate}
 use lib.Seq.{drop-cons, drop-length}
 use Rattle.meaning.specs.Lists.{at}
 use Rattle.meaning.specs.Cells.{LeastShown, noWay, shown, none-shown}
@@ -13,16 +13,17 @@ use Rattle.meaning.specs.Sums.{Reached}
 use Rattle.meaning.specs.Behind.{ReachedBy, Behind}
 use Rattle.meaning.proofs.Behind.{ReachesFirst, reaches-first, behind-none, behind-with, behind-zeros}
 use Rattle.rows.proofs.Stores.{at-other, stored-first}
-use Rattle.behind.specs.Firsts.{ShowsLabel, Traceable, TraceOff, start, taken}
+use Rattle.behind.specs.Firsts.{Traceable, TraceOff, start, taken}
 
--- places from i up to k that are all 0, and those from k on
+-- the places from i on, where the next `more` of them are all 0
 zero-part : (l : List ℕ) (i more : ℕ) → i + more ≤ length l → ((m : ℕ) → i ≤ m → m < i + more → at l m ≡ 0)
     → drop i l ≡ replicate more 0 ++ drop (i + more) l
 zero-part l i zero h zeros = let none : i + 0 ≡ i = omega arith in rw none
 zero-part l i (suc more) h zeros =
     let next : suc i + more ≡ i + suc more = omega arith in
-    drop-cons l i 0 (omega arith)
-    ∙ rw (zeros i (omega arith) (omega arith), ← next) (ap (λ (r : List ℕ). 0 ∷ r) (zero-part l (suc i) more (omega arith) (λ m a b. zeros m (omega arith) (omega arith))))
+    let rest : drop (suc i) l ≡ replicate more 0 ++ drop (suc i + more) l =
+    zero-part l (suc i) more (omega arith) (λ m a b. zeros m (omega arith) (omega arith)) in
+    drop-cons l i 0 (omega arith) ∙ rw (zeros i (omega arith) (omega arith), ← next) (ap (λ (r : List ℕ). 0 ∷ r) rest)
 
 module _ (j : Job) (row : ℕ → ℕ) (top : ℕ) (few : labels j < noWay)
     (rows : (t : ℕ) → t ≤ top → LeastShown (ReachedBy j (labels j) t) (row t)) where
@@ -35,7 +36,7 @@ module _ (j : Job) (row : ℕ → ℕ) (top : ℕ) (few : labels j < noWay)
       go (none-shown none e) = absurd (none m (record { among = inside; reached = r }))
 
   -- a total that isn't marked shows as many labels as reach it
-  pub shows-some : (t : ℕ) → t ≤ top → ¬ (row t ≡ noWay) → ReachedBy j (labels j) t (row t)
+  shows-some : (t : ℕ) → t ≤ top → ¬ (row t ≡ noWay) → ReachedBy j (labels j) t (row t)
   shows-some t within unmarked = go (rows t within)
     where
       go : LeastShown (ReachedBy j (labels j) t) (row t) → ReachedBy j (labels j) t (row t)
@@ -117,8 +118,9 @@ module _ (j : Job) (row : ℕ → ℕ) (top : ℕ) (few : labels j < noWay)
               d .on ((q ++ (1 ∷ [])) ++ replicate rest 0) (rw past at with-it) in
               let zeros-past : drop (suc m) picks ≡ replicate rest 0 ++ drop (d .settled) picks =
               zero-part picks (suc m) rest (omega (arith, d .inside, d .long)) (λ k a h. d .zeros k (omega arith)) ∙ rw past in
+              let past-m = replicate rest 0 ++ drop (d .settled) picks in
               rw (stored-first picks m 1 here, zeros-past)
-              (rw (append-assoc (q ++ (1 ∷ [])) (replicate rest 0) (drop (d .settled) picks), append-assoc q (1 ∷ []) (replicate rest 0 ++ drop (d .settled) picks)) at settled);
+              (rw (append-assoc (q ++ (1 ∷ [])) (replicate rest 0) (drop (d .settled) picks), append-assoc q (1 ∷ []) past-m) at settled);
         }
 
     -- where nothing is left, the labels before are not needed

@@ -17,7 +17,8 @@ firstBy i without rest = if (eqb without noWay && not (eqb rest noWay)) i withou
 
 -- the row after the first i labels: with none, total 0 shows 0, and every other total the mark
 abbrev pub Grown : List ℕ → ℕ → ℕ → List ℕ → Type 0
-Grown weights width i row = LabelByLabel (FirstAlone 0 noWay width) (λ m s t. Joined (firstBy (suc m)) (at s) (at s) (at t) (at weights m) width) i row
+Grown weights width i row =
+    LabelByLabel (FirstAlone 0 noWay width) (λ m s t. Joined (firstBy (suc m)) (at s) (at s) (at t) (at weights m) width) i row
 
 -- the row after all labels
 abbrev pub FirstsGrown : List ℕ → ℕ → List ℕ → Type 0

@@ -3,7 +3,7 @@
 use mathlib.Core.Path.{_∙_, _≡_, ap, refl, subst, sym}
 use mathlib.Core.Logic.{_↔_}
 use mathlib.Core.Option.{some}
-use Prim.Native.Nat.{_/_, _+_, _<_, _≤_, suc, zero, ℕ}
+use Prim.Native.Nat.{_/_, _<_, _≤_, suc, zero, ℕ}
 use native.Mathlib.Nat.{le-refl}
 use native.Mathlib.Omega.{arith}
 use mathlib.Core.Bool.{Bool, false, not, true}
@@ -21,7 +21,7 @@ use Rattle.meaning.specs.Lent.{Lent, roomFor, roomOf}
 use Rattle.meaning.specs.Refusals.{boundsFit, claimsFit, jobRefusal, kindRefusal, listsFit, numbersFit, roomFits, rulesOf, weightRules}
 use Rattle.meaning.specs.Bytes.{readJob, readable}
 use Rattle.meaning.specs.Knapsacks.{MayPick}
-use Rattle.meaning.specs.Sums.{BitTable, Reached, ReachedWithin, Tells, TotalCount, Weighs, YesOrNo, bit, is-not, is-so}
+use Rattle.meaning.specs.Sums.{Reached, ReachedWithin, Tells, TotalCount, Weighs, YesOrNo, bit, is-not, is-so}
 use Rattle.meaning.specs.Behind.{FirstRow, ReachedBy}
 use Rattle.meaning.specs.Answers.{answerNumbers}
 use Rattle.meaning.specs.Solved.{Answered, Gives, Outcome, Solved, SolvedBytes, TableHolds, Unrefused, Weighed, a-sum, no-such-sum}
@@ -215,4 +215,5 @@ module _ (C : ℕ) (weights values copies values′ copies′ : List ℕ) (befor
       → SolvedBytes fourB before four after → GetsPast6 four → SolvedBytes eightB before′ eight after′ → GetsPast6 eight
       → Agreed C (after .words) four (after′ .cells) eight
   kinds-agree-bytes fourB eightB reads reads′ solved past solved′ past′ =
-      kinds-agree (bytes-solved fourB asFour before after four reads solved) past (bytes-solved eightB asEight before′ after′ eight reads′ solved′) past′
+      kinds-agree (bytes-solved fourB asFour before after four reads solved) past
+      (bytes-solved eightB asEight before′ after′ eight reads′ solved′) past′

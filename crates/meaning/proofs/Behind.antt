@@ -7,17 +7,16 @@ use native.Mathlib.Nat.{le-refl, mul-zero, mul-one}
 use native.Mathlib.Decide.{decLe}
 use native.Mathlib.Omega.{arith}
 use mathlib.Core.List.{List, [], _∷_, _++_, append-assoc, append-nil}
-use lib.ListN.{length, take, replicate}
+use lib.ListN.{take, replicate}
 use Rattle.meaning.specs.Lists.{at}
 use Rattle.meaning.specs.Cells.{LeastShown, noWay, shown, none-shown}
-use Rattle.meaning.specs.Job.{Job, labels}
-use Rattle.meaning.specs.Knapsacks.{MayPick}
+use Rattle.meaning.specs.Job.{Job}
 use Rattle.meaning.specs.Sums.{Weighs, Reached}
 use Rattle.meaning.specs.Behind.{ReachedBy, Behind, totalOrder}
 use Rattle.meaning.proofs.Totals.{empty-of}
 use Rattle.meaning.proofs.OneOfEach.{only-choice}
 use Rattle.meaning.proofs.Trace.{chosen-more}
-use Rattle.meaning.proofs.Reaching.{weighs-more, weighs-less, reached-with, reached-without, reached-either, reached-more, total-0, no-labels}
+use Rattle.meaning.proofs.Reaching.{weighs-more, weighs-less, reached-with, reached-either, reached-more, total-0, no-labels}
 
 -- ---- the cells
 

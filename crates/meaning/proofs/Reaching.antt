@@ -47,12 +47,14 @@ module _ (j : Job) (i t : ℕ) where
   -- without the new label
   pub reached-without : Reached j i t → Reached j (suc i) t
   reached-without r =
-      subst (Reached j (suc i)) (omega (arith, mul-zero w)) (record { picks = r .picks ++ (0 ∷ []); weighs = weighs-more 0 (r .picks) zero-le (r .weighs) })
+      subst (Reached j (suc i)) (omega (arith, mul-zero w))
+      (record { picks = r .picks ++ (0 ∷ []); weighs = weighs-more 0 (r .picks) zero-le (r .weighs) })
 
   -- with it
   pub reached-with : Reached j i t → Reached j (suc i) (t + w)
   reached-with r =
-      subst (Reached j (suc i)) (omega (arith, mul-one w)) (record { picks = r .picks ++ (1 ∷ []); weighs = weighs-more 1 (r .picks) (le-refl 1) (r .weighs) })
+      subst (Reached j (suc i)) (omega (arith, mul-one w))
+      (record { picks = r .picks ++ (1 ∷ []); weighs = weighs-more 1 (r .picks) (le-refl 1) (r .weighs) })
 
   -- and there is no other way
   pub reached-either : Reached j (suc i) t → Reached j i t ⊎ ((w ≤ t) × Reached j i (t - w))

@@ -128,7 +128,11 @@ module _ (j : Job) (words : List ℕ) where
   unset-out : (t : ℕ) → T (isUnset t) → Tells (ReachedWithin j (labels j) t) (bit words t)
   unset-out t h =
       let (e, miss) = and-yes (eqb (bit words t) 0) (leb t (j .budget) implies misses j (labels j) t) h in
-      is-not (λ r. misses-out j (labels j) t (r .within) (implied (leb t (j .budget)) (misses j (labels j) t) miss (yes-leb (r .within))) _ (r .reached .weighs)) (eqb-yes e)
+      is-not
+      (λ r.
+      let missed = implied (leb t (j .budget)) (misses j (labels j) t) miss (yes-leb (r .within)) in
+      misses-out j (labels j) t (r .within) missed _ (r .reached .weighs))
+      (eqb-yes e)
 
   -- `BitTable` as a test
   unfoldable pub isBitTable : Bool

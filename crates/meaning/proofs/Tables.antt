@@ -24,8 +24,8 @@ use Rattle.meaning.specs.Agreement.{Agreed, GetsPast6}
 use Rattle.meaning.proofs.Agreement.{kinds-agree}
 use Rattle.meaning.proofs.EachKind.{not-said, refusals}
 use Rattle.meaning.proofs.Reaching.{no-labels}
-use Rattle.meaning.proofs.Small.{behind-out, behind-weighs, counted-out, isBehind, isCounted, isLaid, isSelection, laid-makes, laid-out, misses, misses-out, picked}
-use Rattle.meaning.proofs.Small.{picked-out, reached-by, totalled, totalled-out, unmade, unmade-out}
+use Rattle.meaning.proofs.Small.{behind-out, behind-weighs, counted-out, isBehind, isCounted, isLaid, isSelection, laid-makes, laid-out}
+use Rattle.meaning.proofs.Small.{misses, misses-out, picked, picked-out, reached-by, totalled, totalled-out, unmade, unmade-out}
 use Rattle.meaning.proofs.SmallTables.{bit-table-out, fewest-row-out, first-row-out, full-table-out, isBitTable, isFewestRow, isFirstRow}
 use Rattle.meaning.proofs.SmallTables.{isFullTable, isRow, isWaysRow, row-out, ways-row-out}
 use Rattle.meaning.proofs.Opens.{opens}
@@ -313,7 +313,8 @@ bits-call =
 agreed-8 : Agreed 8 (297 ∷ 7 ∷ []) (Says.Sums true 4) (cells₈ ++ (7 ∷ [])) (Says.Weight 8)
 unfolding GetsPast6 refusals answerNumbers lentOf
 agreed-8 =
-    kinds-agree 8 (3 ∷ 5 ∷ 9 ∷ []) [] [] [] [] _ (lentOf [] (297 ∷ 7 ∷ []) []) _ (lentOf (cells₈ ++ (7 ∷ [])) (8 ∷ []) (1 ∷ 1 ∷ 0 ∷ 6 ∷ [])) (Says.Sums true 4) (Says.Weight 8)
+    kinds-agree 8 (3 ∷ 5 ∷ 9 ∷ []) [] [] [] []
+    _ (lentOf [] (297 ∷ 7 ∷ []) []) _ (lentOf (cells₈ ++ (7 ∷ [])) (8 ∷ []) (1 ∷ 1 ∷ 0 ∷ 6 ∷ [])) (Says.Sums true 4) (Says.Weight 8)
     bits-call (λ r low high e. not-said r (Says.Sums true 4) refl (sym (ap answerNumbers e)))
     call₈ (λ r low high e. not-said r (Says.Weight 8) refl (sym (ap answerNumbers e)))
 

@@ -13,14 +13,14 @@ pub record ReachedBy (j : Job) (i t x : ℕ) : Type 0 where
   pub among : x ≤ i
   pub reached : Reached j x t
 
--- the table: cell t is the least number of first labels that reach t, or `noWay`
+-- the table: cell t is the least x such that the first x labels reach t, or `noWay`
 unfoldable pub FirstRow : Job → List ℕ → Type 0
 FirstRow j cells = (t : ℕ) → t ≤ j .budget → LeastShown (ReachedBy j (labels j) t) (at cells t)
 
--- among selections of one total, the smallest read from the last label to the first
+-- smallest read from the last label to the first
 unfoldable pub totalOrder : Order
 totalOrder = last-least
 
--- the picks of the first i labels for total t
+-- the picks of the first i labels for total t: of the selections that weigh exactly t, the one that the order chooses
 unfoldable pub Behind : Job → ℕ → ℕ → List ℕ → Type 0
 Behind j i t p = Chosen totalOrder i (Weighs j i t) p

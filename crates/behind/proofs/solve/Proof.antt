@@ -1,4 +1,4 @@
--- `behind::solve` meets its contract: the last cell shows the mark and no pick is written (`none-behind`), or the picks are read off (`labels-found`).
+-- `behind::solve` meets its contract: the last cell shows the mark and nothing is picked (`none-behind`), or picks are read off (`labels-found`).
 -- Assumes nothing.
 use mathlib.Core.Path.{_≡_, refl, sym, ap, _∙_}
 use Prim.Native.Nat.{ℕ, _+_, _-_, _≤_}
