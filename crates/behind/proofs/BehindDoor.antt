@@ -10,16 +10,16 @@ use Rattle.meaning.specs.declared.Answer.{Answer}
 use Rattle.meaning.specs.declared.Answer.the-variants as Says
 use Rattle.meaning.specs.Lists.{at}
 use Rattle.meaning.specs.Slices.{Holds}
-use Rattle.meaning.specs.Cells.{LeastShown, noWay, shown, none-shown}
+use Rattle.meaning.specs.Cells.{LeastShown, noWay}
 use Rattle.meaning.specs.Job.{Job, labels-behind, labels}
 use Rattle.meaning.specs.Lent.{lentOf, roomFor, roomOf}
 use Rattle.meaning.specs.Bounds.{mostLabels}
 use Rattle.meaning.specs.Refusals.{rulesOf, weightRules}
-use Rattle.meaning.specs.Sums.{Weighs}
 use Rattle.meaning.specs.Behind.{ReachedBy, FirstRow, Behind}
 use Rattle.meaning.specs.Answers.{answerNumbers}
 use Rattle.meaning.specs.Solved.{Weighed, Gives, TableHolds, Unrefused, a-sum, no-such-sum}
 use Rattle.meaning.specs.SolvedIn.{SolvedInCells}
+use Rattle.meaning.proofs.Shown.{marked-none}
 use Rattle.meaning.proofs.SolvedIn.{kept, holds-front, solved-in-cells}
 use Rattle.behind.specs.Firsts.{FirstsGrown, Traceable, TraceOff}
 use Rattle.behind.proofs.Growing.{grown-firsts}
@@ -61,11 +61,10 @@ module _ (j : Job) (cells picks row : List ℕ) (ok : Unrefused labels-behind j 
   -- where the last cell shows the mark, there is no such sum: the picks are unchanged
   pub none-behind : at row (j .budget) ≡ noWay → SolvedInCells j cells picks (Says.Refused 7) (row ++ drop (j .budget + 1) cells) picks
   unfolding Gives Weighed Holds
-  none-behind mark = leaves (Says.Refused 7) [] picks (no-such-sum (go (shows (j .budget) (omega arith))) refl refl) refl
-    where
-      go : LeastShown (ReachedBy j (labels j) (j .budget)) (at row (j .budget)) → (q : List ℕ) → ¬ Weighs j (labels j) (j .budget) q
-      go (shown d least) q weighs = omega (arith, d .among, few)
-      go (none-shown none e) q weighs = none (labels j) (record { among = le-refl (labels j); reached = record { picks = q; weighs = weighs } })
+  none-behind mark =
+      let none = marked-none (λ x d. omega (arith, d .among, few)) (shows (j .budget) (omega arith)) mark in
+      leaves (Says.Refused 7) [] picks
+      (no-such-sum (λ q d. none (labels j) (record { among = le-refl (labels j); reached = record { picks = q; weighs = d } })) refl refl) refl
 
   -- elsewhere the picks can be read off, and are the chosen ones
   module _ (unmarked : ¬ (at row (j .budget) ≡ noWay)) where

@@ -7,10 +7,11 @@ use mathlib.Core.List.{List, [], _∷_, _++_, append-assoc, append-nil}
 use lib.ListN.{length, length-set, drop, replicate}
 use lib.Seq.{drop-cons, drop-length}
 use Rattle.meaning.specs.Lists.{at}
-use Rattle.meaning.specs.Cells.{LeastShown, noWay, shown, none-shown}
+use Rattle.meaning.specs.Cells.{LeastShown, noWay}
 use Rattle.meaning.specs.Job.{Job, labels}
 use Rattle.meaning.specs.Sums.{Reached}
 use Rattle.meaning.specs.Behind.{ReachedBy, Behind}
+use Rattle.meaning.proofs.Shown.{shown-least, shown-some}
 use Rattle.meaning.proofs.Behind.{ReachesFirst, reaches-first, behind-none, behind-with, behind-zeros}
 use Rattle.rows.proofs.Stores.{at-other, stored-first}
 use Rattle.behind.specs.Firsts.{Traceable, TraceOff, start, taken}
@@ -29,24 +30,12 @@ module _ (j : Job) (row : ℕ → ℕ) (top : ℕ) (few : labels j < noWay)
     (rows : (t : ℕ) → t ≤ top → LeastShown (ReachedBy j (labels j) t) (row t)) where
   -- a total that the first m labels reach shows no more of them
   shows-least : (t m : ℕ) → t ≤ top → m ≤ labels j → Reached j m t → row t ≤ m
-  shows-least t m within inside r = go (rows t within)
-    where
-      go : LeastShown (ReachedBy j (labels j) t) (row t) → row t ≤ m
-      go (shown d least) = least m (record { among = inside; reached = r })
-      go (none-shown none e) = absurd (none m (record { among = inside; reached = r }))
+  shows-least t m within inside r = shown-least (rows t within) m (record { among = inside; reached = r })
 
-  -- a total that isn't marked shows as many labels as reach it
-  shows-some : (t : ℕ) → t ≤ top → ¬ (row t ≡ noWay) → ReachedBy j (labels j) t (row t)
-  shows-some t within unmarked = go (rows t within)
-    where
-      go : LeastShown (ReachedBy j (labels j) t) (row t) → ReachedBy j (labels j) t (row t)
-      go (shown d least) = d
-      go (none-shown none e) = absurd (unmarked e)
-
-  -- and above 0 the last of them reaches it first
+  -- one above 0 that isn't marked is first reached by the last of those that it shows
   first-label : (t : ℕ) → 0 < t → t ≤ top → ¬ (row t ≡ noWay) → (0 < row t) × ReachesFirst j (labels j) t (row t - 1)
   first-label t pos within unmarked =
-      reaches-first j (labels j) t (row t) pos (shows-some t within unmarked) (λ y d. shows-least t y within (d .among) (d .reached))
+      reaches-first j (labels j) t (row t) pos (shown-some (rows t within) unmarked) (shown-least (rows t within))
 
   -- what it leaves shows an earlier one
   left-earlier : (t : ℕ) → t ≤ top → (0 < row t) × ReachesFirst j (labels j) t (row t - 1) → row (t - at (j .weights) (row t - 1)) < row t
@@ -65,7 +54,7 @@ module _ (j : Job) (row : ℕ → ℕ) (top : ℕ) (few : labels j < noWay)
         let (some-label, first) = first-label t pos within other in
         record {
           some-label = some-label;
-          one-of = shows-some t within other .among;
+          one-of = shown-some (rows t within) other .among;
           light = first .light;
           earlier = left-earlier t within (some-label, first);
         };
@@ -91,7 +80,7 @@ module _ (j : Job) (row : ℕ → ℕ) (top : ℕ) (few : labels j < noWay)
       settled = labels j;
       inside = omega arith;
       within = omega arith;
-      reached = shows-some top (omega arith) unmarked .among;
+      reached = shown-some (rows top (omega arith)) unmarked .among;
       long = long;
       zeros = zeros;
       on = λ q b. rw (← long, drop-length picks, append-nil q) (rw (← long) at b);

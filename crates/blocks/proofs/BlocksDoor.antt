@@ -10,7 +10,7 @@ use Rattle.meaning.specs.declared.Answer.{Answer}
 use Rattle.meaning.specs.declared.Answer.the-variants as Says
 use Rattle.meaning.specs.Lists.{at, sum, if}
 use Rattle.meaning.specs.Slices.{Holds}
-use Rattle.meaning.specs.Cells.{LeastShown, noWay, shown, none-shown}
+use Rattle.meaning.specs.Cells.{LeastShown, noWay}
 use Rattle.meaning.specs.Job.{Job, Kind, fewest-blocks, block-ways, labels, jobOf}
 use Rattle.meaning.specs.Lent.{Lent, lentOf, roomFor, roomOf}
 use Rattle.meaning.specs.Bounds.{mostBudget}
@@ -21,6 +21,7 @@ use Rattle.meaning.specs.Solved.{Built, Gives, TableHolds, Unrefused, a-sum, no
 use Rattle.meaning.specs.SolvedIn.{SolvedInCells, SolvedInWords}
 use Rattle.meaning.proofs.Valid.{size-rule}
 use Rattle.meaning.proofs.Making.{few-blocks}
+use Rattle.meaning.proofs.Shown.{at-most-mark, marked-none}
 use Rattle.meaning.proofs.Laws.{numberOf, kind-number}
 use Rattle.meaning.proofs.SolvedIn.{Kept, not-needed, as-long, still-unrefused, holds-front, solved-in-cells, solved-in-words}
 use Rattle.blocks.specs.Sizes.{Bounded, FewestGrown, WaysGrown, TraceDown}
@@ -50,11 +51,7 @@ module _ (j : Job) (cells picks row : List ℕ) (ok : Unrefused fewest-blocks j 
   below a x h d = omega (arith, few-blocks j (labels j) a x (λ m l. bounds .whole m l) (omega arith) d, bounds .narrow)
 
   marked : (a : ℕ) → a ≤ j .budget → at row a ≤ noWay
-  marked a h = go (shows a h)
-    where
-      go : LeastShown (MadeOf j (labels j) a) (at row a) → at row a ≤ noWay
-      go (shown d least) = omega (arith, below a (at row a) h d)
-      go (none-shown none e) = omega arith
+  marked a h = at-most-mark (λ x d. below a x h d) (shows a h)
 
   -- the table is complete, whatever is written over the picks
   leaves : (a : Answer) (found picks-after : List ℕ) → Gives fewest-blocks j (answerNumbers a) found → Holds found picks picks-after
@@ -68,11 +65,10 @@ module _ (j : Job) (cells picks row : List ℕ) (ok : Unrefused fewest-blocks j 
   pub no-blocks : (blocks : ℕ) → blocks ≡ at row (j .budget) → blocks ≡ noWay
       → SolvedInCells j cells picks (Says.Refused 7) (row ++ drop (j .budget + 1) cells) picks
   unfolding Gives Built Holds
-  no-blocks blocks e mark = leaves (Says.Refused 7) [] picks (no-such-sum (go (shows (j .budget) (omega arith))) refl refl) refl
-    where
-      go : LeastShown (MadeOf j (labels j) (j .budget)) (at row (j .budget)) → (q : List ℕ) → ¬ Makes j (labels j) (j .budget) q
-      go (shown d least) q m = omega (arith, below (j .budget) (at row (j .budget)) (omega arith) d)
-      go (none-shown none e) q m = none (sum q) (record { picks = q; makes = m; blocks = refl })
+  no-blocks blocks e mark =
+      let none = marked-none (λ x d. below (j .budget) x (omega arith) d) (shows (j .budget) (omega arith)) (sym e ∙ mark) in
+      leaves (Says.Refused 7) [] picks
+      (no-such-sum (λ q m. none (sum q) (record { picks = q; makes = m; blocks = refl })) refl refl) refl
 
   -- elsewhere the trace down finds the chosen blocks, and the cell says how many
   pub blocks-laid : (blocks n : ℕ) (found : List ℕ) → blocks ≡ at row (j .budget) → ¬ (blocks ≡ noWay) → n ≡ labels j

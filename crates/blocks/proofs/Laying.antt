@@ -11,13 +11,14 @@ use lib.Dec.{ltb}
 use lib.ListN.{length, set}
 use mir.Facts.{ltb-yes, yes-ltb}
 use Rattle.meaning.specs.Lists.{at, sum}
-use Rattle.meaning.specs.Cells.{LeastShown, noWay, shown, none-shown}
+use Rattle.meaning.specs.Cells.{LeastShown, noWay}
 use Rattle.meaning.specs.Job.{Job, labels}
 use Rattle.meaning.specs.Orders.{last-most}
 use Rattle.meaning.specs.Blocks.{Makes, Fewest, Laid, blockOrder, MadeOf}
 use Rattle.meaning.proofs.Totals.{one-more, one-fewer, more-sum, fewer-sum}
 use Rattle.meaning.proofs.Making.{makes-more, makes-less}
 use Rattle.meaning.proofs.Greedy.{last-is}
+use Rattle.meaning.proofs.Shown.{shown-least, shown-by, shown-some}
 use Rattle.rows.specs.Traces.{Trace, turnOf, start, taken, passed}
 use Rattle.rows.proofs.Stores.{by}
 use Rattle.rows.proofs.LeadsOn.{light-true, light-false}
@@ -80,27 +81,19 @@ module _ (j : Job) (row : ℕ → ℕ) (amount : ℕ) (rows : (a : ℕ) → a �
 
   -- a list that makes an amount has no fewer blocks than the row shows
   row-least : (a : ℕ) → a ≤ amount → (q : List ℕ) → Makes j (labels j) a q → row a ≤ sum q
-  row-least a h q m = go (rows a h)
-    where
-      go : LeastShown (MadeOf j (labels j) a) (row a) → row a ≤ sum q
-      go (shown d least) = least (sum q) (record { picks = q; makes = m; blocks = refl })
-      go (none-shown none e) = absurd (none (sum q) (record { picks = q; makes = m; blocks = refl }))
+  row-least a h q m = shown-least (rows a h) (sum q) (record { picks = q; makes = m; blocks = refl })
 
   -- and where the row shows no mark, some list has just so many
   some-fewest : (a : ℕ) → a ≤ amount → row a < noWay → (q : List ℕ) × FewestAt a q
-  some-fewest a h l = go (rows a h)
-    where
-      go : LeastShown (MadeOf j (labels j) a) (row a) → (q : List ℕ) × FewestAt a q
-      go (shown d least) = (d .picks, record { makes = d .makes; least = λ q m. le-trans (le-of-eq (d .blocks)) (row-least a h q m) })
-      go (none-shown none e) = absurd (omega arith)
+  some-fewest a h l =
+      let d = shown-some (rows a h) (λ e. omega arith) in
+      (d .picks, record { makes = d .makes; least = λ q m. le-trans (le-of-eq (d .blocks)) (row-least a h q m) })
 
   -- a fewest list has as many blocks as the row shows
   pub fewest-row : (a : ℕ) → a ≤ amount → (q : List ℕ) → FewestAt a q → sum q ≡ row a
-  fewest-row a h q f = go (rows a h)
-    where
-      go : LeastShown (MadeOf j (labels j) a) (row a) → sum q ≡ row a
-      go (shown d least) = omega (arith, row-least a h q (f .makes), f .least (d .picks) (d .makes), d .blocks)
-      go (none-shown none e) = absurd (none (sum q) (record { picks = q; makes = f .makes; blocks = refl }))
+  fewest-row a h q f =
+      let d = shown-by (rows a h) (sum q) (record { picks = q; makes = f .makes; blocks = refl }) in
+      omega (arith, row-least a h q (f .makes), f .least (d .picks) (d .makes), d .blocks)
 
   module _ (m a : ℕ) (inside : m < labels j) (within : a ≤ amount) where
     abbrev w : ℕ

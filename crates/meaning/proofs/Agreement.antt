@@ -8,13 +8,12 @@ use native.Mathlib.Nat.{le-refl}
 use native.Mathlib.Omega.{arith}
 use mathlib.Core.Bool.{Bool, false, not, true}
 use mathlib.Core.List.{List, [], _∷_}
-use lib.ListN.{List·getD-append, drop, length}
+use lib.ListN.{length}
 use Rattle.meaning.specs.declared.Answer.{Answer}
 use Rattle.meaning.specs.declared.Answer.the-variants as Says
 use Rattle.meaning.specs.Lists.{at, if, total}
-use Rattle.meaning.specs.Slices.{Holds}
 use Rattle.meaning.specs.Counting.{Counted}
-use Rattle.meaning.specs.Cells.{LeastShown, noWay, none-shown, shown}
+use Rattle.meaning.specs.Cells.{LeastShown, noWay}
 use Rattle.meaning.specs.Bounds.{mostLabels}
 use Rattle.meaning.specs.Job.{Job, Kind, allKinds, jobOf, kindOf, labels, labels-behind, subset-sums}
 use Rattle.meaning.specs.Lent.{Lent, roomFor, roomOf}
@@ -27,10 +26,11 @@ use Rattle.meaning.specs.Answers.{answerNumbers}
 use Rattle.meaning.specs.Solved.{Answered, Gives, Outcome, Solved, SolvedBytes, TableHolds, Unrefused, Weighed, a-sum, no-such-sum}
 use Rattle.meaning.specs.Agreement.{Agreed, GetsPast6, Unmarked}
 use Rattle.meaning.proofs.Counting.{counted-iff}
+use Rattle.meaning.proofs.Shown.{shown-by, shown-some}
 use Rattle.meaning.proofs.Reaching.{reached-as, reached-more}
 use Rattle.meaning.proofs.EachKind.{not-said, refusals}
 use Rattle.meaning.proofs.Unique.{answer-numbers-unique}
-use Rattle.meaning.proofs.Laws.{bytes-solved, kind-solved, unrefused-answered}
+use Rattle.meaning.proofs.Laws.{bytes-solved, held-at, kind-solved, unrefused-answered}
 use Rattle.meaning.proofs.SolvedIn.{kept}
 
 -- ---- an answer that is no refusal with 1 to 6 is to a job that none of them meets
@@ -70,12 +70,6 @@ same-reached j j′ i t same r =
     reached-as (r .picks) (record { one-each = r .weighs .selection .one-each; allowed = r .weighs .selection .allowed })
     (ap (λ (ws : List ℕ). total ws (r .picks)) (sym same) ∙ r .weighs .weight)
 
--- ---- what a call left in the needed places
-
-held-at : (new before after : List ℕ) (m : ℕ) → Holds new before after → m < length new → at after m ≡ at new m
-unfolding Holds
-held-at new before after m h l = ap (λ (s : List ℕ). at s m) h ∙ List·getD-append new (drop (length new) before) 0 m l
-
 -- ---- the two tables
 
 -- kind 4's job and what it left in the words, kind 8's and what it left in the cells
@@ -95,19 +89,15 @@ module _ (j j′ : Job) (words cells : List ℕ) (same : j .weights ≡ j′ .we
   -- a cell isn't the mark exactly where its total is reached
   unmarked-reached : (t : ℕ) → t ≤ j .budget → Unmarked cells t → Reached j (labels j) t
   unfolding Unmarked
-  unmarked-reached t h unmarked = go (firsts t h)
-    where
-      go : LeastShown (ReachedBy j′ (labels j′) t) (at cells t) → Reached j (labels j) t
-      go (shown d least) = to-four t (reached-more j′ (at cells t) (labels j′) t (d .among) (d .reached))
-      go (none-shown none e) = absurd (unmarked e)
+  unmarked-reached t h unmarked =
+      let d = shown-some (firsts t h) unmarked in
+      to-four t (reached-more j′ (at cells t) (labels j′) t (d .among) (d .reached))
 
   reached-unmarked : (t : ℕ) → t ≤ j .budget → Reached j (labels j) t → Unmarked cells t
   unfolding Unmarked
-  reached-unmarked t h r marked = go (firsts t h)
-    where
-      go : LeastShown (ReachedBy j′ (labels j′) t) (at cells t) → ⊥
-      go (shown d least) = omega (arith, d .among)
-      go (none-shown none e) = none (labels j′) (record { among = le-refl (labels j′); reached = to-eight t r })
+  reached-unmarked t h r marked =
+      let d = shown-by (firsts t h) (labels j′) (record { among = le-refl (labels j′); reached = to-eight t r }) in
+      omega (arith, d .among)
 
   -- and so does its bit tell
   bits-agree : (t : ℕ) → t ≤ j .budget → (bit words t ≡ 1) ↔ Unmarked cells t

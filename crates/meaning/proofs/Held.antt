@@ -7,7 +7,7 @@ use native.Mathlib.Omega.{arith}
 use mathlib.Core.Bool.{Bool, true, false}
 use mathlib.Core.List.{List, [], _∷_}
 use lib.Dec.{lit≤, ltb}
-use lib.ListN.{List·getD-append, drop, length}
+use lib.ListN.{length}
 use Rattle.meaning.specs.declared.Answer.{Answer}
 use Rattle.meaning.specs.declared.Answer.the-variants as Says
 use Rattle.meaning.specs.Lists.{at, if, total}
@@ -24,7 +24,7 @@ use Rattle.meaning.specs.Solved.{Gives, Solved, SolvedBytes, TableHolds,
 use Rattle.meaning.specs.Trials.{Goes, solve}
 use Rattle.meaning.proofs.OneOfEach.{best-value-unique}
 use Rattle.meaning.proofs.EachKind.{Late, late, not-said, refusals}
-use Rattle.meaning.proofs.Laws.{bytes-solved, solved-says, unrefused-answered}
+use Rattle.meaning.proofs.Laws.{bytes-solved, held-at, solved-says, unrefused-answered}
 use Rattle.meaning.proofs.Small.{picked, picked-out}
 use Rattle.meaning.proofs.Opens.{opens}
 use Rattle.meaning.proofs.Cases.{caseA, caseC, tried, trial-facts}
@@ -109,12 +109,11 @@ unfolding opens picked
 chosen-A = picked-out once caseA (1 ∷ 1 ∷ 0 ∷ []) tt
 
 last-cell : (before after : Lent) (a : Answer) → Unrefused (packing once) caseA before → Solved caseA before a after → at (after .cells) 31 ≡ 9
-unfolding TableHolds ValueTable FullTable opens BestPicks Holds
+unfolding TableHolds ValueTable FullTable opens BestPicks
 last-cell before after a ok h =
     let x = unrefused-answered (packing once) caseA before after a ok h in
     let long : length (x .content .cells) ≡ 32 = x .cells-needed in
-    ap (λ (l : List ℕ). at l 31) (x .cells-hold)
-    ∙ List·getD-append (x .content .cells) (drop (length (x .content .cells)) (before .cells)) 0 31 (omega (arith, long))
+    held-at (x .content .cells) (before .cells) (after .cells) 31 (x .cells-hold) (omega (arith, long))
     ∙ best-value-unique (x .table-right 3 7 (lit≤ tt) (lit≤ tt)) (record { picks = 1 ∷ 1 ∷ 0 ∷ []; best = chosen-A .one-of; value = refl })
 
 -- ---- greed by value per byte, on case C: label 0 is worth 7 for 6 bytes and is kept first, and then no other fits; labels 1 and 2 are worth 10

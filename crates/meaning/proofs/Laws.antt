@@ -7,11 +7,12 @@ use Prim.Native.Nat.{_<_, suc, zero, ℕ, _≤_}
 use native.Mathlib.Nat.{le-of-suc-le-suc, not-suc-le-zero}
 use native.Mathlib.Omega.{arith}
 use mathlib.Core.List.{List, [], _∷_}
-use lib.ListN.{drop, getElem?, length, take}
+use lib.ListN.{List·getD-append, drop, getElem?, length, take}
 use lib.Seq.{take-at}
 use Rattle.meaning.specs.declared.Answer.{Answer}
 use Rattle.meaning.specs.declared.Answer.the-variants as Says
 use Rattle.meaning.specs.declared.Written.{Written}
+use Rattle.meaning.specs.Lists.{at}
 use Rattle.meaning.specs.Slices.{Holds}
 use Rattle.meaning.specs.Job.{Job, Kind, Knapsack, kindOf, allKinds}
 use Rattle.meaning.specs.Lent.{Lent, roomFor}
@@ -34,6 +35,11 @@ pub use Rattle.meaning.proofs.EachKind.{kind-number}
 pub holds-first : (new before after : List ℕ) (n : ℕ) → Holds new before after → length new ≡ n → take n after ≡ new
 unfolding Holds
 holds-first new before after n h e = ap (take n) h ∙ take-at new (drop (length new) before) n e
+
+-- each of them does
+pub held-at : (new before after : List ℕ) (m : ℕ) → Holds new before after → m < length new → at after m ≡ at new m
+unfolding Holds
+held-at new before after m h l = ap (λ (s : List ℕ). at s m) h ∙ List·getD-append new (drop (length new) before) 0 m l
 
 -- ---- the kind
 

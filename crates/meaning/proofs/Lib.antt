@@ -7,6 +7,8 @@ pub mod Members
 pub mod Loops
 pub mod Totals
 pub mod Counting
+-- cells that show the least of some numbers
+pub mod Shown
 -- one step more: what each kind's table and picks rest on
 pub mod Steps
 pub mod Trace

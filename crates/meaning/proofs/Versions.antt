@@ -8,13 +8,12 @@ use native.Mathlib.Nat.{le-refl}
 use native.Mathlib.Omega.{arith}
 use mathlib.Core.List.{List, [], _∷_, _++_}
 use lib.Dec.{lit≤}
-use lib.ListN.{List·getD-append, drop, length}
+use lib.ListN.{length}
 use Rattle.meaning.specs.declared.Answer.{Answer}
 use Rattle.meaning.specs.declared.Answer.the-variants as Says
 use Rattle.meaning.specs.declared.Verdict.{Verdict}
 use Rattle.meaning.specs.declared.Verdict.the-variants.{Accepted}
 use Rattle.meaning.specs.Lists.{at}
-use Rattle.meaning.specs.Slices.{Holds}
 use Rattle.meaning.specs.Job.{Job, Kind, Knapsack, labels, once, sharing}
 use Rattle.meaning.specs.Lent.{Lent, roomFor}
 use Rattle.meaning.specs.Bytes.{jobBytes, readJob, readable, sectionBytes}
@@ -27,7 +26,7 @@ use Rattle.meaning.specs.Demands.{Accepts, BestList, Demand3, Sound, Val
 use Rattle.meaning.specs.Trials.{jobJ}
 use Rattle.meaning.proofs.EachKind.{Late, not-said, numbered, table-left, table-unique, tableOf}
 use Rattle.meaning.proofs.Unique.{no-influence}
-use Rattle.meaning.proofs.Laws.{bytes-solved, unrefused-answered}
+use Rattle.meaning.proofs.Laws.{bytes-solved, held-at, unrefused-answered}
 use Rattle.meaning.proofs.ExactCells.{best-of}
 use Rattle.meaning.proofs.Certified.{certified-valid, one-knapsack}
 use Rattle.meaning.proofs.Covering.{counts-shown}
@@ -149,16 +148,12 @@ module _ (d : Door) (Shown : Job → d .Given → Answer → Lent → Type 0)
 
 -- ---- the table: what is left in it doesn't depend on what stood there, so it can't be as it was on slices of 0 and on slices of 1
 
-first-held : (new old now : List ℕ) → Holds new old now → 1 ≤ length new → at now 0 ≡ at new 0
-unfolding Holds
-first-held new old now h some = ap (λ (l : List ℕ). at l 0) h ∙ List·getD-append new (drop (length new) old) 0 0 some
-
 -- a table that is as it was has x in its first place
 as-it-was : (k : Kind) (has : ¬ (k ≡ sharing)) (x : ℕ) {left : Lent} {s : AnswerNumbers}
     (y : Answered (roomFor k (tried k .job)) (TableHolds k (tried k .job)) k (tried k .job) (filled x k) s left)
     → tableOf k left ≡ tableOf k (filled x k) → at (tableOf k (y .content)) 0 ≡ x
 as-it-was k has x y kept =
-    sym (first-held _ _ _ (table-left k y .held) (table-left k y .needed has)) ∙ ap (λ (l : List ℕ). at l 0) kept ∙ trial-facts k .first-filled has x
+    sym (held-at _ _ _ 0 (table-left k y .held) (table-left k y .needed has)) ∙ ap (λ (l : List ℕ). at l 0) kept ∙ trial-facts k .first-filled has x
 
 not-both : (k : Kind) (has : ¬ (k ≡ sharing)) (left left′ : Lent) (a a′ : Answer) → Solved (tried k .job) (filled 0 k) a left
     → Solved (tried k .job) (filled 1 k) a′ left′
