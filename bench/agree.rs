@@ -1,6 +1,6 @@
 //! Before anything is timed: the Rust gives the library's answers and verdicts, on small jobs and certificates of which many are refused.
 use crate::bounds::{
-    are_sizes, copies_used, full_table, most_of, row, values_used, FIRST_CERTIFICATE_REFUSAL, LAST_CHECKED_KIND, LAST_KIND, LAST_REFUSAL,
+    are_sizes, copies_used, full_table, most_of, row, values_used, Way, FIRST_CERTIFICATE_REFUSAL, LAST_CHECKED_KIND, LAST_KIND, LAST_REFUSAL,
     LEAST_COPIES,
 };
 use crate::checker::{check, Plain, Strong, Verdict};
@@ -12,9 +12,9 @@ use crate::strong;
 use crate::timing::Table;
 
 const JOBS: usize = 200_000;
-/// How large a small job is.
+/// How large a small job is: the bits of a label are of up to four words.
 const MOST_N: u32 = 6;
-const MOST_C: u32 = 90;
+const MOST_C: u32 = 200;
 
 /// A small job, with a fault in about every second one; in one of a hundred it has as many labels as are allowed, or one more.
 fn small_job(draw: &mut Draw) -> Vec<u8> {
@@ -53,12 +53,12 @@ fn small_job(draw: &mut Draw) -> Vec<u8> {
     bytes_of(kind, budget, &weights, &values, &copies)
 }
 
-/// Three like tables, full of dirt and now and then too short.
-fn dirty(draw: &mut Draw) -> [Table; 3] {
+/// Like tables, full of dirt and now and then too short.
+fn dirty<const COUNT: usize>(draw: &mut Draw) -> [Table; COUNT] {
     let most = MOST_N as usize;
     let cells = [full_table(most, MOST_C) + 9, row(MOST_C) + 9, 20][draw.number(0, 2) as usize];
     let words = [row(MOST_C) + 9, 1][draw.number(0, 1) as usize];
-    [(); 3].map(|()| Table { cells: vec![7; cells], words: vec![7; words], picks: vec![7; most + 1] })
+    [(); COUNT].map(|()| Table { cells: vec![7; cells], words: vec![7; words], picks: vec![7; most + 1] })
 }
 
 /// The library's certificate of a job, with a fault in about three of four.
@@ -124,13 +124,16 @@ pub fn compare() {
     let mut judged = [[0; LAST_REFUSAL + 1]; LAST_CHECKED_KIND as usize + 1];
     for _ in 0..JOBS {
         let bytes = small_job(&mut draw);
-        let [mut one, mut other, mut third] = dirty(&mut draw);
-        let answer = ours::solve(&bytes, one.lend());
-        same("plain Rust", &bytes, plain::solve(&bytes, other.lend(), &mut scratch) == answer && one == other);
+        let [mut one, mut other, mut third, mut full, mut other_full] = dirty(&mut draw);
+        let answer = ours::solve(&bytes, one.lend(), Way::Light);
+        same("plain Rust", &bytes, plain::solve(&bytes, other.lend(), &mut scratch, Way::Light) == answer && one == other);
         if strong::KINDS.contains(&scratch.job.kind) {
             same("strong Rust", &bytes, strong::solve(&bytes, third.lend(), &mut scratch) == answer && one == third);
         }
-        let certificate = small_certificate(&mut draw, &one, &bytes, scratch.job.weights.len());
+        let in_full = ours::solve(&bytes, full.lend(), Way::Full);
+        same("plain Rust in full", &bytes, plain::solve(&bytes, other_full.lend(), &mut scratch, Way::Full) == in_full && full == other_full);
+        same("the full way", &bytes, answer.refusal == 6 || in_full.refusal == 6 || (answer == in_full && one.picks == full.picks));
+        let certificate = small_certificate(&mut draw, &full, &bytes, scratch.job.weights.len());
         let (verdict, _) = same_verdict(&bytes, &certificate, &mut job, &mut strong);
         seen[answer.refusal as usize] += 1;
         if let Some(of_kind) = judged.get_mut(job.kind as usize) {

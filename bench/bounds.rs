@@ -91,9 +91,17 @@ pub fn full_table(n: usize, budget: u32) -> usize {
     (n + 1) * row(budget)
 }
 
-/// How many cells, words and picks are needed, for a kind that there is.
-pub fn room(kind: u32, n: usize, budget: u32) -> [usize; 3] {
+/// The two ways of kind 1: a row and a bit for each label and budget, or the whole table. Other kinds have one, whichever is named.
+#[derive(Clone, Copy, PartialEq)]
+pub enum Way {
+    Light,
+    Full,
+}
+
+/// How many cells, words and picks are needed in a way, for a kind that there is.
+pub fn room(kind: u32, n: usize, budget: u32, way: Way) -> [usize; 3] {
     match kind {
+        ONCE if way == Way::Light => [row(budget), n * words_of_bits(budget), n],
         ONCE | COPIES => [full_table(n, budget), 0, n],
         ANY | FEWEST | LABELS_BEHIND => [row(budget), 0, n],
         SUMS => [0, words_of_bits(budget), 0],
@@ -102,7 +110,7 @@ pub fn room(kind: u32, n: usize, budget: u32) -> [usize; 3] {
     }
 }
 
-/// The words that hold a bit for each total from 0 to C.
+/// The words that hold a bit for each number from 0 to C.
 pub fn words_of_bits(budget: u32) -> usize {
     budget as usize / 64 + 1
 }

@@ -1,5 +1,5 @@
 //! The certificates that are judged: of a job's own answer, with claims drawn at random, and with a cell at fault.
-use crate::bounds::row;
+use crate::bounds::{row, Way};
 use crate::jobs::{Draw, Job};
 use crate::ours;
 use crate::request;
@@ -48,9 +48,9 @@ impl Case {
     }
 }
 
-/// What the library leaves of a job.
+/// What the library leaves of a job, with the table that a certificate is written from.
 fn solved(job: &Job) -> Table {
-    let mut table = Table::for_job(job);
-    ours::solve(&job.bytes, table.lend());
+    let mut table = Table::new(job.room(Way::Full));
+    ours::solve(&job.bytes, table.lend(), Way::Full);
     table
 }

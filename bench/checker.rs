@@ -1,5 +1,5 @@
 //! The checker in Rust, from job bytes and certificate bytes to a verdict, with two ways to look for a cell that breaks rule 14.
-use crate::bounds::{ANY, LAST_CHECKED_KIND};
+use crate::bounds::{self, ANY, LAST_CHECKED_KIND};
 use crate::request::{number, section, Job};
 use std::iter::zip;
 use std::mem::swap;
@@ -44,7 +44,7 @@ pub fn check(bytes: &[u8], certificate: &[u8], job: &mut Job, way: &mut impl Way
 
 /// 12 to 15 or the value; none for 11.
 fn judge(job: &Job, mut certificate: &[u8], way: &mut impl Way) -> Option<Verdict> {
-    let [cells_needed, _, picks_needed] = job.room();
+    let [cells_needed, _, picks_needed] = job.room(bounds::Way::Full);
     let picks = section(&mut certificate)?;
     let cells = section(&mut certificate)?;
     if !certificate.is_empty() || picks.len() != 4 * picks_needed || cells.len() != 4 * cells_needed {

@@ -1,5 +1,5 @@
 //! The jobs that are timed, drawn from a fixed seed, so that a run can be repeated.
-use crate::bounds::{copies_used, values_used, COPIES, LEAST_VALUE_ANY, MOST_VALUE, SHARES};
+use crate::bounds::{copies_used, values_used, Way, COPIES, LEAST_VALUE_ANY, MOST_VALUE, SHARES};
 use crate::request;
 
 /// Numbers from a small xorshift.
@@ -34,11 +34,11 @@ impl Draw {
     }
 }
 
-/// Job bytes, with how many cells, words and picks such a job needs.
+/// Job bytes, with how many cells, words and picks such a job needs, in the light way and in the full one.
 pub struct Job {
     pub name: String,
     pub bytes: Vec<u8>,
-    pub room: [usize; 3],
+    rooms: [[usize; 3]; 2],
 }
 
 /// A number with commas.
@@ -66,7 +66,11 @@ impl Job {
         let bytes = bytes_of(kind, budget, weights, values, copies);
         let mut job = request::Job::default();
         job.read(&bytes).expect("job bytes");
-        Job { name: format!("kind {kind}, {} {name}", said(weights.len())), bytes, room: job.room() }
+        Job { name: format!("kind {kind}, {} {name}", said(weights.len())), bytes, rooms: [Way::Light, Way::Full].map(|way| job.room(way)) }
+    }
+
+    pub fn room(&self, way: Way) -> [usize; 3] {
+        self.rooms[way as usize]
     }
 }
 

@@ -10,12 +10,12 @@ mod request;
 mod strong;
 mod timing;
 
-use bounds::{ANY, COPIES, FEWEST, LABELS_BEHIND, LAST_CHECKED_KIND, LAST_KIND, MOST_BUDGET, MOST_COPIES, MOST_SIZES, ONCE, SUMS, WAYS};
+use bounds::{Way, ANY, COPIES, FEWEST, LABELS_BEHIND, LAST_CHECKED_KIND, LAST_KIND, MOST_BUDGET, MOST_COPIES, MOST_SIZES, ONCE, SUMS, WAYS};
 use certificates::Case;
 use checker::{Plain, Strong};
 use jobs::{said, Job};
 use request::answered;
-use timing::{race, Side, Table, Times, LEAST_ROUNDS};
+use timing::{race, race_apart, Alone, Side, Table, Times, LEAST_ROUNDS};
 
 /// No kind is to take more than this of plain Rust's time.
 const GOAL: f64 = 1.05;
@@ -48,14 +48,42 @@ fn ratios(part: Option<&str>) {
     for kind in 1..=LAST_KIND {
         if asked(&kind.to_string()) {
             let sides = if strong::KINDS.contains(&kind) { 3 } else { 2 };
-            ratios.extend(jobs_of(kind).iter().map(|job| line(&job.name, &solved(job, sides))));
+            ratios.extend(jobs_of(kind).iter().map(|job| line(&job.name, &solved(job, Way::Light, sides))));
         }
+    }
+    if asked("1") {
+        ratios.extend(labels_jobs(ONCE).iter().map(|job| line(&format!("{}, full table", job.name), &solved(job, Way::Full, 2))));
     }
     if asked("check") {
         ratios.extend(cases().map(|case| line(&format!("checker, {}", case.name), &checked(&case, 3))));
     }
     let above = ratios.iter().filter(|&&ratio| ratio > GOAL).count();
     println!("\n{above} of {} ratios to plain Rust are above {GOAL}.", ratios.len());
+    if asked("1") {
+        ways();
+    }
+}
+
+/// Kind 1: the light way beside the full one, and the Rust for the light way, on tables that are warm and on such as nobody has touched.
+fn ways() {
+    println!(
+        "\n| Kind 1 | Light | Full | Light to full | Plain Rust, light | Ratio | Strong Rust, light | Ratio |\n|---|---|---|---|---|---|---|---|"
+    );
+    for job in labels_jobs(ONCE) {
+        for (fresh, said) in [(false, "a cleared table"), (true, "a table not touched before")] {
+            let (mut plain_scratch, mut strong_scratch) = (plain::Scratch::default(), plain::Scratch::default());
+            let [light, full] = [Way::Light, Way::Full].map(|way| job.room(way));
+            let sides: Vec<Alone> = vec![
+                (light, Box::new(|lent| ours::solve(&job.bytes, lent, Way::Light))),
+                (full, Box::new(|lent| ours::solve(&job.bytes, lent, Way::Full))),
+                (light, Box::new(|lent| plain::solve(&job.bytes, lent, &mut plain_scratch, Way::Light))),
+                (light, Box::new(|lent| strong::solve(&job.bytes, lent, &mut strong_scratch))),
+            ];
+            let best = race_apart(&job.name, sides, fresh);
+            let others: Vec<String> = best[1..].iter().map(|&other| format!("{} | {:.2}", time(other), best[0] / other)).collect();
+            println!("| {}, {said} | {} | {} |", job.name.trim_start_matches("kind 1, "), time(best[0]), others.join(" | "));
+        }
+    }
 }
 
 /// The two sizes of kinds 1 to 4 and 8.
@@ -79,16 +107,16 @@ fn jobs_of(kind: u32) -> Vec<Job> {
     }
 }
 
-/// A job solved by the first `count` of the library, plain Rust and strong Rust.
-fn solved(job: &Job, count: usize) -> Times {
+/// A job solved in a way by the first `count` of the library, plain Rust and strong Rust, which knows the light way alone.
+fn solved(job: &Job, way: Way, count: usize) -> Times {
     let (mut plain_scratch, mut strong_scratch) = (plain::Scratch::default(), plain::Scratch::default());
     let mut sides: Vec<Side> = vec![
-        Box::new(|table| ours::solve(&job.bytes, table.lend())),
-        Box::new(|table| plain::solve(&job.bytes, table.lend(), &mut plain_scratch)),
+        Box::new(|table| ours::solve(&job.bytes, table.lend(), way)),
+        Box::new(|table| plain::solve(&job.bytes, table.lend(), &mut plain_scratch, way)),
         Box::new(|table| strong::solve(&job.bytes, table.lend(), &mut strong_scratch)),
     ];
     sides.truncate(count);
-    race(&job.name, [Table::for_job(job), Table::for_job(job)], sides)
+    race(&job.name, [Table::new(job.room(way)), Table::new(job.room(way))], sides)
 }
 
 /// The certificates that are judged, each made when it is asked for, since some are large.
@@ -142,12 +170,15 @@ fn line(name: &str, times: &Times) -> f64 {
 fn growth() {
     println!("\n| Job | half n, half C | n doubled | C doubled | both |\n|---|---|---|---|---|");
     let sizes = [(1, 1), (2, 1), (1, 2), (2, 2)];
-    let alone = |job: &Job| time(solved(job, 1).best[0]);
+    let alone_in = |way, job: &Job| time(solved(job, way, 1).best[0]);
+    let alone = |job: &Job| alone_in(Way::Light, job);
     let judged = |job: &Job| time(checked(&Case::of_answer(job), 1).best[0]);
     let row = |name: &str, times: [String; 4]| println!("| {name} | {} |", times.join(" | "));
     for kind in [ONCE, COPIES, ANY, SUMS, LABELS_BEHIND] {
         row(&format!("kind {kind}, to 1,000 labels and C 60,000"), sizes.map(|(n, c)| alone(&jobs::labels(kind, 500 * n, 30_000 * c, 3_000))));
     }
+    let in_full = |(n, c)| alone_in(Way::Full, &jobs::labels(ONCE, 500 * n, 30_000 * c, 3_000));
+    row("kind 1, full table, to 1,000 labels and C 60,000", sizes.map(in_full));
     for kind in [FEWEST, WAYS] {
         let random = |n, c| {
             let [_, random, _] = jobs::sizes(kind, MOST_SIZES / 2 * n, 30_000 * c, 3_000);

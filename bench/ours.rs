@@ -1,9 +1,21 @@
 //! The proved library, by the entries of include/quabnester.h.
-use crate::bounds::certificate_bytes;
+use crate::bounds::{certificate_bytes, Way};
 use crate::request::{answered, Answer, Lent};
 
 extern "C" {
     fn quabnester_solve(
+        job: *const u8,
+        job_len: usize,
+        cells: *mut u32,
+        cells_len: usize,
+        words: *mut u64,
+        words_len: usize,
+        picks: *mut u32,
+        picks_len: usize,
+        first: *mut u64,
+        second: *mut u64,
+    ) -> u32;
+    fn quabnester_solve_full(
         job: *const u8,
         job_len: usize,
         cells: *mut u32,
@@ -30,11 +42,17 @@ extern "C" {
     fn quabnester_check_detail(job: *const u8, job_len: usize, certificate: *const u8, certificate_len: usize) -> u64;
 }
 
-pub fn solve(job: &[u8], lent: Lent) -> Answer {
+type Solve = unsafe extern "C" fn(*const u8, usize, *mut u32, usize, *mut u64, usize, *mut u32, usize, *mut u64, *mut u64) -> u32;
+
+pub fn solve(job: &[u8], lent: Lent, way: Way) -> Answer {
     let Lent { cells, words, picks } = lent;
     let (mut first, mut second) = (0, 0);
+    let entry: Solve = match way {
+        Way::Light => quabnester_solve,
+        Way::Full => quabnester_solve_full,
+    };
     let refusal = unsafe {
-        quabnester_solve(
+        entry(
             job.as_ptr(),
             job.len(),
             cells.as_mut_ptr(),

@@ -1,5 +1,5 @@
 //! The planner in plain Rust, from job bytes to answer, with the contract of include/quabnester.h.
-use crate::bounds::{words_of_bits, ANY, COPIES, FEWEST, FULL, LABELS_BEHIND, LAST_KIND, NOT_REACHED, NO_WAY, ONCE, SHARES, SUMS, WAYS};
+use crate::bounds::{words_of_bits, Way, ANY, COPIES, FEWEST, FULL, LABELS_BEHIND, LAST_KIND, NOT_REACHED, NO_WAY, ONCE, SHARES, SUMS, WAYS};
 use crate::request::{answered, refused, Answer, Job, Lent};
 use std::cmp::Reverse;
 use std::iter::zip;
@@ -12,9 +12,10 @@ pub struct Scratch {
     order: Vec<u32>,
 }
 
-pub fn solve(bytes: &[u8], lent: Lent, scratch: &mut Scratch) -> Answer {
-    unless_refused(bytes, lent, scratch, |scratch, lent| match scratch.job.kind {
-        ONCE => once(&scratch.job, lent),
+pub fn solve(bytes: &[u8], lent: Lent, scratch: &mut Scratch, way: Way) -> Answer {
+    unless_refused(bytes, lent, scratch, way, |scratch, lent| match scratch.job.kind {
+        ONCE if way == Way::Light => once(&scratch.job, lent, keep),
+        ONCE => once_in_full(&scratch.job, lent),
         COPIES => copies(&scratch.job, lent, add_one),
         ANY => any_number(&scratch.job, lent),
         SUMS => totals(&scratch.job, lent.words),
@@ -28,15 +29,15 @@ pub fn solve(bytes: &[u8], lent: Lent, scratch: &mut Scratch) -> Answer {
 }
 
 /// Reads the job, and has it solved where nothing refuses it before.
-pub fn unless_refused(bytes: &[u8], lent: Lent, scratch: &mut Scratch, solve: impl FnOnce(&mut Scratch, Lent) -> Answer) -> Answer {
-    match turned_down(bytes, &lent, &mut scratch.job) {
+pub fn unless_refused(bytes: &[u8], lent: Lent, scratch: &mut Scratch, way: Way, solve: impl FnOnce(&mut Scratch, Lent) -> Answer) -> Answer {
+    match turned_down(bytes, &lent, &mut scratch.job, way) {
         Some(refusal) => refused(refusal),
         None => solve(scratch, lent),
     }
 }
 
 /// Reads the job; the lowest refusal that applies before anything is written.
-fn turned_down(bytes: &[u8], lent: &Lent, job: &mut Job) -> Option<u32> {
+fn turned_down(bytes: &[u8], lent: &Lent, job: &mut Job, way: Way) -> Option<u32> {
     if job.read(bytes).is_none() {
         return Some(1);
     }
@@ -44,7 +45,7 @@ fn turned_down(bytes: &[u8], lent: &Lent, job: &mut Job) -> Option<u32> {
         return Some(2);
     }
     match job.rule_broken() {
-        0 if job.lacks_room(lent) => Some(6),
+        0 if job.lacks_room(lent, way) => Some(6),
         0 if job.kind == SHARES && job.weights.iter().all(|&claim| claim == 0) => Some(9),
         0 => None,
         refusal => Some(refusal),
@@ -60,8 +61,50 @@ fn next_row(before: &[u32], after: &mut [u32], w: u32, v: u32) {
     }
 }
 
-/// Kind 1.
-fn once(job: &Job, lent: Lent) -> Answer {
+/// Kind 1 in the light way: one row, which the pass that is given takes a label further, and the label's bits, in words of its own.
+pub fn once(job: &Job, lent: Lent, keep: impl Fn(&mut [u32], &mut [u64], usize, u32)) -> Answer {
+    let row = &mut lent.cells[..job.width()];
+    let each = words_of_bits(job.budget);
+    row.fill(0);
+    for (words, (&w, &v)) in zip(lent.words.chunks_exact_mut(each), zip(&job.weights, &job.values)) {
+        if w <= job.budget {
+            keep(row, words, w as usize, v);
+        } else {
+            words.fill(0);
+        }
+    }
+    let value = row[row.len() - 1];
+    let weight = once_by_bits(job, lent.words, each, lent.picks);
+    answered(0, value.into(), weight)
+}
+
+/// The row with the label, from the greatest budget down, so that it is kept once; and a bit where that makes it worth more.
+pub fn keep(row: &mut [u32], words: &mut [u64], w: usize, v: u32) {
+    words.fill(0);
+    for c in (w..row.len()).rev() {
+        let with = row[c - w] + v;
+        if with > row[c] {
+            row[c] = with;
+            words[c / 64] |= 1 << (c % 64);
+        }
+    }
+}
+
+/// The picks of the light way, and what they weigh: a label is kept, from the last on, where its bit is set.
+fn once_by_bits(job: &Job, words: &[u64], each: usize, picks: &mut [u32]) -> u64 {
+    let mut c = job.budget as usize;
+    for (i, &w) in job.weights.iter().enumerate().rev() {
+        let kept = words[i * each + c / 64] >> (c % 64) & 1;
+        picks[i] = kept as u32;
+        if kept == 1 {
+            c -= w as usize;
+        }
+    }
+    (job.budget as usize - c) as u64
+}
+
+/// Kind 1 in the full way.
+fn once_in_full(job: &Job, lent: Lent) -> Answer {
     let width = job.width();
     lent.cells[..width].fill(0);
     for (i, (&w, &v)) in zip(&job.weights, &job.values).enumerate() {
@@ -71,7 +114,7 @@ fn once(job: &Job, lent: Lent) -> Answer {
     once_back(job, lent)
 }
 
-/// The picks of kind 1: a label is kept, from the last on, where its row is worth more than the row before.
+/// Its picks: a label is kept, from the last on, where its row is worth more than the row before.
 fn once_back(job: &Job, lent: Lent) -> Answer {
     let width = job.width();
     let mut c = width - 1;

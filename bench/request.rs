@@ -109,14 +109,14 @@ impl Job {
         }
     }
 
-    /// How many cells, words and picks are needed, for a kind that there is.
-    pub fn room(&self) -> [usize; 3] {
-        bounds::room(self.kind, self.weights.len(), self.budget)
+    /// How many cells, words and picks are needed in a way, for a kind that there is.
+    pub fn room(&self, way: bounds::Way) -> [usize; 3] {
+        bounds::room(self.kind, self.weights.len(), self.budget, way)
     }
 
     /// Whether a slice that is needed is too short.
-    pub fn lacks_room(&self, lent: &Lent) -> bool {
-        let [cells, words, picks] = self.room();
+    pub fn lacks_room(&self, lent: &Lent, way: bounds::Way) -> bool {
+        let [cells, words, picks] = self.room(way);
         lent.cells.len() < cells || lent.words.len() < words || lent.picks.len() < picks
     }
 }

@@ -1,5 +1,4 @@
 //! The method: in one process, the sides by turns, on cleared tables that go from side to side, the best of many rounds.
-use crate::jobs::Job;
 use crate::request::{Answer, Lent};
 use std::hint::black_box;
 use std::time::{Duration, Instant};
@@ -19,13 +18,12 @@ pub struct Table {
 }
 
 impl Table {
-    pub fn for_job(job: &Job) -> Table {
-        let [cells, words, picks] = job.room;
+    pub fn new([cells, words, picks]: [usize; 3]) -> Table {
         Table { cells: vec![0; cells], words: vec![0; words], picks: vec![0; picks] }
     }
 
     pub fn none() -> Table {
-        Table { cells: vec![], words: vec![], picks: vec![] }
+        Table::new([0; 3])
     }
 
     fn clear(&mut self) {
@@ -110,4 +108,77 @@ pub fn race(name: &str, mut tables: [Table; 2], mut sides: Vec<Side>) -> Times {
         round += 1;
     }
     Times { answer: expected.unwrap(), best: best.iter().map(|time| time.as_nanos() as f64).collect(), calls }
+}
+
+/// Pages of the system that nobody has touched yet: what is written first in each of them, the call waits for.
+struct Pages {
+    at: *mut u8,
+    bytes: usize,
+}
+
+extern "C" {
+    fn mmap(at: *mut u8, bytes: usize, access: i32, flags: i32, file: i32, offset: i64) -> *mut u8;
+    fn munmap(at: *mut u8, bytes: usize) -> i32;
+}
+
+impl Pages {
+    fn new(bytes: usize) -> Pages {
+        const READ_AND_WRITE: i32 = 3;
+        const PRIVATE_AND_ANONYMOUS: i32 = 0x22;
+        let bytes = bytes.max(1);
+        let at = unsafe { mmap(std::ptr::null_mut(), bytes, READ_AND_WRITE, PRIVATE_AND_ANONYMOUS, -1, 0) };
+        assert!(at as isize != -1, "no memory for {bytes} bytes");
+        Pages { at, bytes }
+    }
+
+    /// So many numbers, all 0.
+    fn lend<T>(&mut self, count: usize) -> &mut [T] {
+        assert!(count * size_of::<T>() <= self.bytes);
+        unsafe { std::slice::from_raw_parts_mut(self.at.cast(), count) }
+    }
+}
+
+impl Drop for Pages {
+    fn drop(&mut self) {
+        unsafe { munmap(self.at, self.bytes) };
+    }
+}
+
+/// A side that needs room of its own.
+pub type Alone<'a> = ([usize; 3], Box<dyn FnMut(Lent) -> Answer + 'a>);
+
+/// Runs sides that need other rooms in turn, each on tables of its own: two by turns, which are cleared before each call, or one of fresh pages for
+/// each. Gives the best times. The answers are compared, the tables can't be.
+pub fn race_apart(name: &str, mut sides: Vec<Alone>, fresh: bool) -> Vec<f64> {
+    let clock = clock();
+    let count = sides.len();
+    let mut best = vec![Duration::MAX; count];
+    let mut tables: Vec<_> = sides.iter().map(|(room, _)| [(); 2].map(|()| Table::new(if fresh { [0; 3] } else { *room }))).collect();
+    let mut expected = None;
+    let mut round = 0;
+    let begun = Instant::now();
+    while round < LEAST_ROUNDS || begun.elapsed() < LEAST_TIME {
+        for turn in 0..count {
+            let side = (turn + round) % count;
+            let (room, call) = &mut sides[side];
+            let [cells, words, picks] = *room;
+            let mut pages = fresh.then(|| [4 * cells, 8 * words, 4 * picks].map(Pages::new));
+            let table = &mut tables[side][round / count % 2];
+            table.clear();
+            let lent = match &mut pages {
+                Some([of_cells, of_words, of_picks]) => {
+                    Lent { cells: of_cells.lend(cells), words: of_words.lend(words), picks: of_picks.lend(picks) }
+                }
+                None => table.lend(),
+            };
+            let (answer, time) = timed(|| call(black_box(lent)));
+            best[side] = best[side].min(time.saturating_sub(clock));
+            if *expected.get_or_insert(answer) != answer {
+                eprintln!("{name}: side {side} differs in round {round}");
+                std::process::exit(1);
+            }
+        }
+        round += 1;
+    }
+    best.iter().map(|time| time.as_nanos() as f64).collect()
 }

@@ -23,7 +23,7 @@
  * CERTIFICATE BYTES, for kinds 1 to 3. Two sections in the same form: the picks, then the cells.
  *     a count                              n
  *     n numbers                            the picks: how often each label is kept; in kind 1 that is 0 or 1
- *     a count                              as many as quabnester_cells_needed says: (n+1)(C+1), or C+1 in kind 3
+ *     a count                              as many as quabnester_full_cells_needed says: (n+1)(C+1), or C+1 in kind 3
  *     so many numbers                      the cells: cell i(C+1)+c claims a value that the first i labels can't beat
  *                                          with budget c; in kind 3 cell c claims one that no labels can beat with it
  * quabnester_certificate_bytes says how many bytes that are.
@@ -42,11 +42,11 @@ extern "C" {
  * answered is refused or gets another answer, the second where one is answered that was refused, or an entry is added, and
  * the third where no promise has changed. */
 
-#define QUABNESTER_VERSION_MAJOR 1
-#define QUABNESTER_VERSION_MINOR 2
+#define QUABNESTER_VERSION_MAJOR 2
+#define QUABNESTER_VERSION_MINOR 0
 #define QUABNESTER_VERSION_PATCH 0
 
-/* As one number, which grows with each version, and as text: "1.2.0" and the like. */
+/* As one number, which grows with each version, and as text: "2.0.0" and the like. */
 #define QUABNESTER_VERSION_NUMBER                                                                                          \
     (QUABNESTER_VERSION_MAJOR * 1000000 + QUABNESTER_VERSION_MINOR * 1000 + QUABNESTER_VERSION_PATCH)
 #define QUABNESTER_VERSION_STRING                                                                                          \
@@ -55,7 +55,8 @@ extern "C" {
 #define QUABNESTER_TEXT_(number) QUABNESTER_AS_IT_STANDS_(number)
 #define QUABNESTER_AS_IT_STANDS_(words) #words
 
-/* ---- KINDS of job. What each answers is said at quabnester_solve. */
+/* ---- KINDS of job. What each answers is said at quabnester_solve. Kind 1 has two ways: quabnester_solve leaves a light
+ * table, quabnester_solve_full the full one, which a certificate is written from. Other kinds have one way. */
 
 #define QUABNESTER_KIND_ONCE 1          /* each label at most once */
 #define QUABNESTER_KIND_COPIES 2        /* label i at most copies[i] times */
@@ -164,13 +165,12 @@ static inline int quabnester_within_bounds(uint32_t kind, uint64_t n, uint64_t b
     return n <= quabnester_most_labels(kind) && budget <= quabnester_most_budget(kind);
 }
 
-/* The places that quabnester_solve needs of cells, of words and of picks. quabnester_write needs as many cells and picks,
- * and a certificate has so many. */
+/* The places that quabnester_solve needs of cells, of words and of picks. */
 static inline uint64_t quabnester_cells_needed(uint32_t kind, uint64_t n, uint64_t budget) {
     if (!quabnester_within_bounds(kind, n, budget)) return 0;
     switch (kind) {
-    case QUABNESTER_KIND_ONCE:
     case QUABNESTER_KIND_COPIES: return (n + 1) * (budget + 1);
+    case QUABNESTER_KIND_ONCE:
     case QUABNESTER_KIND_ANY:
     case QUABNESTER_KIND_FEWEST:
     case QUABNESTER_KIND_LABELS_BEHIND: return budget + 1;
@@ -181,6 +181,7 @@ static inline uint64_t quabnester_cells_needed(uint32_t kind, uint64_t n, uint64
 static inline uint64_t quabnester_words_needed(uint32_t kind, uint64_t n, uint64_t budget) {
     if (!quabnester_within_bounds(kind, n, budget)) return 0;
     switch (kind) {
+    case QUABNESTER_KIND_ONCE: return n * (budget / 64 + 1);
     case QUABNESTER_KIND_SUMS: return budget / 64 + 1;
     case QUABNESTER_KIND_WAYS: return budget + 1;
     default: return 0;
@@ -192,10 +193,21 @@ static inline uint64_t quabnester_picks_needed(uint32_t kind, uint64_t n, uint64
     return kind == QUABNESTER_KIND_SUMS || kind == QUABNESTER_KIND_WAYS ? 0 : n;
 }
 
+/* The places that quabnester_solve_full needs of cells and of words; of picks it needs as many. quabnester_write needs so
+ * many cells and picks, and a certificate has so many. */
+static inline uint64_t quabnester_full_cells_needed(uint32_t kind, uint64_t n, uint64_t budget) {
+    if (kind != QUABNESTER_KIND_ONCE) return quabnester_cells_needed(kind, n, budget);
+    return quabnester_within_bounds(kind, n, budget) ? (n + 1) * (budget + 1) : 0;
+}
+
+static inline uint64_t quabnester_full_words_needed(uint32_t kind, uint64_t n, uint64_t budget) {
+    return kind == QUABNESTER_KIND_ONCE ? 0 : quabnester_words_needed(kind, n, budget);
+}
+
 /* The bytes of a certificate: two counts, n picks and the cells. 0 for a kind that has none, too. */
 static inline uint64_t quabnester_certificate_bytes(uint32_t kind, uint64_t n, uint64_t budget) {
     if (kind > QUABNESTER_LAST_CERTIFICATE_KIND || !quabnester_within_bounds(kind, n, budget)) return 0;
-    return 4 * (2 + quabnester_picks_needed(kind, n, budget) + quabnester_cells_needed(kind, n, budget));
+    return 4 * (2 + quabnester_picks_needed(kind, n, budget) + quabnester_full_cells_needed(kind, n, budget));
 }
 
 /* The bytes of a job with so many weights, values and copies numbers: five counts, a kind, a budget and the lists. 0 where
@@ -228,7 +240,10 @@ static inline uint64_t quabnester_job_bytes(uint64_t weights, uint64_t values, u
  * Kind 7: spare units go one each to the largest remainders, of equal ones to the lower label first.
  *
  *   kind  what the table holds after the call, in as many places as are needed (ROOM)
- *   1, 2  cell i(C+1)+c: the best value of the first i labels with budget c
+ *   1     cell c: the best value with budget c. Label i has C/64+1 words of its own, from word i(C/64+1) on: bit c % 64 of
+ *         word c/64 of them is set where the best value of labels 0 to i with budget c is above that of labels 0 to i-1,
+ *         and c is at most C; other bits are 0
+ *   2     cell i(C+1)+c: the best value of the first i labels with budget c
  *   3     cell c: the best value with budget c
  *   4     bit t % 64 of word t/64 is set where total t is reached and at most C, other bits are 0
  *   5     cell a: the fewest blocks for a, or QUABNESTER_NO_WAY
@@ -243,13 +258,19 @@ static inline uint64_t quabnester_job_bytes(uint64_t weights, uint64_t values, u
 uint32_t quabnester_solve(const uint8_t *job, size_t job_len, uint32_t *cells, size_t cells_len, uint64_t *words,
                           size_t words_len, uint32_t *picks, size_t picks_len, uint64_t *first, uint64_t *second);
 
+/* The same, kind 1 with the full table: its cells are those of kind 2, it needs as many (quabnester_full_cells_needed) and
+ * no words. In all else, and for every other kind, it is quabnester_solve: wherever neither returns 6, the two return the
+ * same number, give the same *first and *second, and write the same picks. */
+uint32_t quabnester_solve_full(const uint8_t *job, size_t job_len, uint32_t *cells, size_t cells_len, uint64_t *words,
+                               size_t words_len, uint32_t *picks, size_t picks_len, uint64_t *first, uint64_t *second);
+
 /* Writes a certificate of a job of kind 1, 2 or 3 from picks and cells. Returns 0 or a refusal number, 1 to 6.
  *
- * Refuses with 6 where picks_len is below quabnester_picks_needed, cells_len is below quabnester_cells_needed or out_len is
- * below quabnester_certificate_bytes. Otherwise so many of the first picks and of the first cells are copied to out in the
- * form above, *written is how many bytes that are, and bytes past them keep what they held. It copies and doesn't judge.
- * Given picks and cells as quabnester_solve left them for this job, what it writes is accepted by quabnester_check.
- * On a refusal *written is 0 and out keeps what it held. */
+ * Refuses with 6 where picks_len is below quabnester_picks_needed, cells_len is below quabnester_full_cells_needed or
+ * out_len is below quabnester_certificate_bytes. Otherwise so many of the first picks and of the first cells are copied to
+ * out in the form above, *written is how many bytes that are, and bytes past them keep what they held. It copies and
+ * doesn't judge. Given picks and cells as quabnester_solve_full left them for this job, or quabnester_solve where its kind
+ * is 2 or 3, what it writes is accepted by quabnester_check. On a refusal *written is 0 and out keeps what it held. */
 uint32_t quabnester_write(const uint8_t *job, size_t job_len, const uint32_t *picks, size_t picks_len,
                           const uint32_t *cells, size_t cells_len, uint8_t *out, size_t out_len, uint64_t *written);
 

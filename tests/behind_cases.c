@@ -13,13 +13,13 @@ static struct bytes bytes;
 
 /* The job is answered as the second program has it, on slices that are longer than needed, and kind 4 says the same of its totals. */
 static const struct plain_answer *try_behind(void) {
-    struct plain_room lengths = room_of(&job);
+    struct plain_room lengths = room_of(&job, LIGHT_WAY);
     const struct plain_answer *answer;
     about("labels behind", tried++);
     lengths.cells += tried % 3;
     lengths.picks += tried % 2;
     put_job(&bytes, &job);
-    answer = try_job(&bytes, &lengths, tried);
+    answer = try_job(&bytes, LIGHT_WAY, &lengths, tried);
     refused += answer->refused != 0;
     agree_on_totals(&bytes);
     return answer;
@@ -154,9 +154,9 @@ static const struct plain_answer *try_many(uint32_t n, uint32_t weight, uint32_t
     for (i = 0; i < n; i++) job.weights.at[i] = weight + i * step;
     job.weights.at[n - 1] = last;
     job.weights.count = n;
-    lengths = room_of(&job);
+    lengths = room_of(&job, LIGHT_WAY);
     put_job(&bytes, &job);
-    return try_job(&bytes, &lengths, tried);
+    return try_job(&bytes, LIGHT_WAY, &lengths, tried);
 }
 
 /* The most labels, all alike but the last, which is one less: k of them reach the k-th multiple and, with the last, what is one less. */

@@ -1,4 +1,4 @@
-/* What document 01 and the requests K1 and K3 say in numbers, each in one place: a request that moves a bound changes it here alone.
+/* What document 01 and the requests K1, K3 and K4 say in numbers, each in one place: a request that moves a bound changes it here alone.
  * Written from these and not from include/quabnester.h; header.c holds that to these. Buffers and loops of the tests take their sizes from
  * here. */
 #ifndef BOUNDS_H
@@ -39,7 +39,7 @@ enum {
 
 /* ---- the lent table */
 
-enum { WORD_BITS = 64 };       /* in a word of kind 4 */
+enum { WORD_BITS = 64 };       /* in a word of kind 4, and of a label in kind 1 (K4) */
 #define NO_WAY UINT32_MAX      /* a cell of kind 5: there is no way */
 #define NOT_REACHED UINT32_MAX /* a cell of kind 8 (K3): no labels reach it. Another rule, though the number is that of no way */
 #define FULL UINT64_MAX        /* a cell of kind 6: so many ways or more */
@@ -48,6 +48,7 @@ enum { WORD_BITS = 64 };       /* in a word of kind 4 */
 /* Rooms that have to be known when this is compiled: plain_room of plain.c has those of every kind. */
 #define ROW(budget) ((budget) + 1)
 #define FULL_TABLE(n, budget) (((n) + 1) * ROW(budget))
+#define WORDS_OF_BITS(budget) ((budget) / WORD_BITS + 1)          /* with a bit for each number up to the budget */
 #define CERTIFICATE(picks, cells) (8 + 4 * (picks) + 4 * (cells)) /* in bytes */
 
 /* ---- refusals */

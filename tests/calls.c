@@ -24,14 +24,23 @@ static void is_a_copy(const struct lent *lent, const struct bytes *bytes) {
 
 /* ---- the solver */
 
-void solve(struct solved *solved, const struct bytes *job, const struct plain_room *lengths, uint64_t salt) {
+uint32_t solve_in(enum plain_way way, const uint8_t *job, size_t job_len, const struct plain_room *lengths, uint32_t *cells,
+                  uint64_t *words, uint32_t *picks, uint64_t *first, uint64_t *second) {
+    if (way == FULL_WAY) {
+        return quabnester_solve_full(job, job_len, cells, lengths->cells, words, lengths->words, picks, lengths->picks, first, second);
+    }
+    return quabnester_solve(job, job_len, cells, lengths->cells, words, lengths->words, picks, lengths->picks, first, second);
+}
+
+void solve(struct solved *solved, const struct bytes *job, enum plain_way way, const struct plain_room *lengths, uint64_t salt) {
+    solved->way = way;
     lend_copy(&solved->job, job);
     lend(&solved->cells, lengths->cells, 4, salt);
     lend(&solved->words, lengths->words, 8, salt + 1);
     lend(&solved->picks, lengths->picks, 4, salt + 2);
     solved->first = solved->second = salt + 3;
-    solved->refused = quabnester_solve(solved->job.slice, job->length, solved->cells.slice, lengths->cells, solved->words.slice,
-                                       lengths->words, solved->picks.slice, lengths->picks, &solved->first, &solved->second);
+    solved->refused = solve_in(way, solved->job.slice, job->length, lengths, solved->cells.slice, solved->words.slice, solved->picks.slice,
+                               &solved->first, &solved->second);
 }
 
 void give_back_solved(struct solved *solved) {
@@ -72,24 +81,50 @@ static void agree(const struct plain_answer *table, const struct plain_answer *t
     same_content("its pick", table->picks, tried->picks, table->filled.picks, 4);
 }
 
-const struct plain_answer *expected_of(const struct bytes *job, const struct plain_room *lengths) {
+/* The job's answer in the full way, by a table, or a sort, and by trying; it isn't refused with 1 to 6 or 9. */
+static const struct plain_answer *answered_in_full(const struct plain_job *read) {
     static struct plain_answer answer, tried;
-    struct plain_job read = {0, 0, {NULL, 0}, {NULL, 0}, {NULL, 0}};
-    uint32_t refused = plain_solve_refusal(job->at, job->length, lengths);
-    plain_start(&answer, &read, refused);
-    if (refused != 0) return &answer;
-    read_back(job, &read);
-    if (!plain_has_room(&read)) {
+    if (!plain_has_room(read)) {
         printf("a job of the tests needs more than %d cells of the second program\n", PLAIN_CELLS);
         exit(1);
     }
-    if (read.kind == KIND_SHARES) plain_share(&read, &answer);
-    if (read.kind != KIND_SHARES) plain_table(&read, &answer);
-    if (!plain_try(&read, &tried)) return &answer;
+    if (read->kind == KIND_SHARES) plain_share(read, &answer);
+    if (read->kind != KIND_SHARES) plain_table(read, &answer);
+    if (!plain_try(read, &tried)) return &answer;
     agree(&answer, &tried);
     answer.as_good = tried.as_good;
     answer.tried = 1;
     return &answer;
+}
+
+/* What is expected in both ways, or in those that have lengths, with one look at all selections for both. */
+static struct both_ways expected_in(const struct bytes *job, const struct plain_room *const lengths[PLAIN_WAYS]) {
+    static struct plain_answer refusals[PLAIN_WAYS], light;
+    struct plain_job read = {0, 0, {NULL, 0}, {NULL, 0}, {NULL, 0}};
+    const struct plain_answer *full = NULL;
+    struct both_ways expected;
+    int way;
+    for (way = 0; way < PLAIN_WAYS; way++) {
+        uint32_t refused = lengths[way] == NULL ? 0 : plain_solve_refusal(job->at, job->length, lengths[way], way);
+        expected.of[way] = &refusals[way];
+        plain_start(&refusals[way], &read, refused, way);
+        if (refused != 0 || lengths[way] == NULL) continue;
+        if (full == NULL) {
+            read_back(job, &read);
+            full = answered_in_full(&read);
+        }
+        expected.of[way] = full;
+        if (way == FULL_WAY || read.kind != KIND_ONCE) continue;
+        plain_light(&read, full, &light);
+        expected.of[way] = &light;
+    }
+    return expected;
+}
+
+const struct plain_answer *expected_of(const struct bytes *job, enum plain_way way, const struct plain_room *lengths) {
+    const struct plain_room *asked[PLAIN_WAYS] = {NULL, NULL};
+    asked[way] = lengths;
+    return expected_in(job, asked).of[way];
 }
 
 static void say_list(struct plain_list list) {
@@ -105,8 +140,8 @@ static void say_job(const struct bytes *job, const struct solved *solved) {
     say_list(read.weights);
     say_list(read.values);
     say_list(read.copies);
-    printf(" %lu %lu %lu\n", (unsigned long)solved->cells.bytes / 4, (unsigned long)solved->words.bytes / 8,
-           (unsigned long)solved->picks.bytes / 4);
+    printf(" %lu %lu %lu%s\n", (unsigned long)solved->cells.bytes / 4, (unsigned long)solved->words.bytes / 8,
+           (unsigned long)solved->picks.bytes / 4, solved->way == FULL_WAY ? ", in the full way" : "");
 }
 
 void answers(const struct solved *solved, const struct bytes *job, const struct plain_answer *expected) {
@@ -121,12 +156,37 @@ void answers(const struct solved *solved, const struct bytes *job, const struct 
     is_a_copy(&solved->job, job);
 }
 
-const struct plain_answer *try_job(const struct bytes *job, const struct plain_room *lengths, uint64_t salt) {
-    const struct plain_answer *expected = expected_of(job, lengths);
+const struct plain_answer *try_job(const struct bytes *job, enum plain_way way, const struct plain_room *lengths, uint64_t salt) {
+    const struct plain_answer *expected = expected_of(job, way, lengths);
     struct solved solved;
-    solve(&solved, job, lengths, salt);
+    solve(&solved, job, way, lengths, salt);
     answers(&solved, job, expected);
     give_back_solved(&solved);
+    return expected;
+}
+
+/* Whether what was answered in the one way is what was in the other; n picks are filled. */
+static void ways_agree(const struct solved *light, const struct solved *full, const struct bytes *job, size_t n) {
+    int well;
+    if (light->refused == 6 || full->refused == 6) return;
+    well = same("the refusal, of the full way and the light one", full->refused, light->refused);
+    well &= same("first, of the full way and the light one", full->first, light->first);
+    well &= same("second, of the full way and the light one", full->second, light->second);
+    well &= same_content("the full way's pick and the light one's", full->picks.slice, light->picks.slice, n, 4);
+    if (!well && telling()) say_job(job, light);
+}
+
+struct both_ways try_both_ways(const struct bytes *job, const struct plain_room lengths[PLAIN_WAYS], uint64_t salt) {
+    const struct plain_room *const asked[PLAIN_WAYS] = {[LIGHT_WAY] = &lengths[LIGHT_WAY], [FULL_WAY] = &lengths[FULL_WAY]};
+    struct both_ways expected = expected_in(job, asked);
+    struct solved solved[PLAIN_WAYS];
+    int way;
+    for (way = 0; way < PLAIN_WAYS; way++) {
+        solve(&solved[way], job, way, &lengths[way], salt + 5 * (uint64_t)way); /* other dirt in each */
+        answers(&solved[way], job, expected.of[way]);
+    }
+    ways_agree(&solved[LIGHT_WAY], &solved[FULL_WAY], job, expected.of[FULL_WAY]->filled.picks);
+    for (way = 0; way < PLAIN_WAYS; way++) give_back_solved(&solved[way]);
     return expected;
 }
 

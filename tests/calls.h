@@ -12,29 +12,41 @@ void read_back(const struct bytes *bytes, struct plain_job *job);
 
 /* ---- the solver */
 
+/* The entry of a way, on slices as long as these lengths: quabnester_solve is the light one, quabnester_solve_full the full one. */
+uint32_t solve_in(enum plain_way way, const uint8_t *job, size_t job_len, const struct plain_room *lengths, uint32_t *cells,
+                  uint64_t *words, uint32_t *picks, uint64_t *first, uint64_t *second);
+
 struct solved {
+    enum plain_way way;
     struct lent job, cells, words, picks;
     uint64_t first, second;
     uint32_t refused;
 };
 
-/* Solves a job, at an odd address, with dirty slices of these lengths, which `give_back_solved` frees. */
-void solve(struct solved *solved, const struct bytes *job, const struct plain_room *lengths, uint64_t salt);
+/* Solves a job in a way, at an odd address, with dirty slices of these lengths, which `give_back_solved` frees. */
+void solve(struct solved *solved, const struct bytes *job, enum plain_way way, const struct plain_room *lengths, uint64_t salt);
 void give_back_solved(struct solved *solved);
 
 /* The slices past the needed places, and all round them, are as they were. */
 void kept_the_rest(const struct solved *solved, const struct plain_room *needed);
 
-/* What the second program answers: by its tables, or its sort, and where the job is small enough by trying every selection as well; then
- * the two have to say the same. The answer is there until the next call. Ends the tests where its tables have no room. */
-const struct plain_answer *expected_of(const struct bytes *job, const struct plain_room *lengths);
+/* What the second program answers in a way: by its tables, or its sort, and where the job is small enough by trying every selection as
+ * well; then the two have to say the same. The answer is there until the next call. Ends the tests where its tables have no room. */
+const struct plain_answer *expected_of(const struct bytes *job, enum plain_way way, const struct plain_room *lengths);
 
 /* The answer is the expected one, and the slices are, whole: what is filled of them, then what was there. Where it isn't so, the job is
  * told too, as crates/trials/stdin would list it. */
 void answers(const struct solved *solved, const struct bytes *job, const struct plain_answer *expected);
 
 /* All of that: what is expected is answered. */
-const struct plain_answer *try_job(const struct bytes *job, const struct plain_room *lengths, uint64_t salt);
+const struct plain_answer *try_job(const struct bytes *job, enum plain_way way, const struct plain_room *lengths, uint64_t salt);
+
+/* So it is in both ways, each on slices of its own lengths; and where neither is refused with 6, they give the same refusal, numbers and
+ * picks. Answers what is expected of each. */
+struct both_ways {
+    const struct plain_answer *of[PLAIN_WAYS];
+};
+struct both_ways try_both_ways(const struct bytes *job, const struct plain_room lengths[PLAIN_WAYS], uint64_t salt);
 
 /* Whether another tie rule than the kind's names other picks than these, of a job that was tried. Rule 1 reads the labels the other way
  * round, rule 2 wants the other counts, rule 3 does both. */

@@ -266,8 +266,8 @@ static void fresh(uint32_t kind) {
     struct plain_room room;
     case_a(&job, kind);
     put_job(&bytes, &job);
-    room = room_of(&job);
-    memcpy(best_cells, expected_of(&bytes, &room)->cells, room.cells * sizeof best_cells[0]);
+    room = room_of(&job, FULL_WAY);
+    memcpy(best_cells, expected_of(&bytes, FULL_WAY, &room)->cells, room.cells * sizeof best_cells[0]);
     put_certificate(&certificate, &job, best_picks, best_cells);
 }
 

@@ -19,9 +19,9 @@ static struct { unsigned long verdicts[LAST_REFUSAL + 1], above, no_copies; } ca
 
 /* The list that the second program finds best, or any; now and then with one pick more than is allowed, or many more. */
 static void draw_picks(struct draw *draw) {
-    struct plain_room room = room_of(&job);
+    struct plain_room room = room_of(&job, FULL_WAY);
     uint32_t n = job.weights.count, label, most;
-    memcpy(picks, expected_of(&bytes, &room)->picks, n * sizeof picks[0]);
+    memcpy(picks, expected_of(&bytes, FULL_WAY, &room)->picks, n * sizeof picks[0]);
     if (chance(draw, 4)) draw_any_picks(draw, &job, picks);
     if (n == 0 || !chance(draw, 12)) return;
     label = drawn(draw, 0, n - 1);

@@ -10,7 +10,7 @@ enum { EACH = 14, START = 2000000, WAYS = 5, MOST_N = 4, MOST_C = 12 }; /* small
 
 static struct job job;
 static struct bytes bytes, certificate;
-static struct plain_room room;
+static struct plain_room rooms[PLAIN_WAYS]; /* as the whole job needs them */
 static unsigned long tried, verdicts[LAST_REFUSAL + 1], solved_with[LAST_SOLVER_REFUSAL + 1];
 
 static uint8_t changed(uint8_t byte, int way) {
@@ -30,21 +30,22 @@ static void try_check(void) {
     tried++;
 }
 
-/* The solver and the writer too, with slices as the whole job needs them. */
-static void try_all(void) {
-    const struct plain_answer *answer = expected_of(&bytes, &room);
-    struct solved solved;
+/* The writer, on picks and cells of some job. */
+static void try_write(void) {
+    static uint32_t picks[MOST_N], cells[FULL_TABLE(MOST_N, MOST_C)];
+    const struct plain_room *room = &rooms[FULL_WAY];
+    uint32_t expected = plain_write_refusal(bytes.at, bytes.length, room->picks, room->cells, certificate.length);
     struct written written;
-    uint32_t expected;
-    solve(&solved, &bytes, &room, tried);
-    answers(&solved, &bytes, answer);
-    solved_with[answer->refused]++;
-    expected = plain_write_refusal(bytes.at, bytes.length, room.picks, room.cells, certificate.length);
-    write_out(&written, &bytes, solved.picks.slice, room.picks, solved.cells.slice, room.cells, certificate.length);
+    write_out(&written, &bytes, picks, room->picks, cells, room->cells, certificate.length);
     same("the writer's refusal", expected, written.refused);
     holds("what a refusal leaves", expected == 0 || (written.bytes == 0 && kept_from(&written.out, 0)));
     give_back(&written.out);
-    give_back_solved(&solved);
+}
+
+/* The solver, in both ways, and the writer too. */
+static void try_all(void) {
+    solved_with[try_both_ways(&bytes, rooms, tried).of[LIGHT_WAY]->refused]++;
+    try_write();
     try_check();
 }
 
@@ -74,8 +75,9 @@ static void draw_pair(uint32_t kind, uint64_t number) {
     about("damage", draw.state);
     draw_job(&draw, kind, MOST_N, MOST_C, &job);
     put_job(&bytes, &job);
-    room = room_of(&job);
-    solve(&solved, &bytes, &room, number);
+    rooms[LIGHT_WAY] = room_of(&job, LIGHT_WAY);
+    rooms[FULL_WAY] = room_of(&job, FULL_WAY);
+    solve(&solved, &bytes, FULL_WAY, &rooms[FULL_WAY], number);
     put_certificate(&certificate, &job, solved.picks.slice, solved.cells.slice);
     give_back_solved(&solved);
 }

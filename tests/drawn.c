@@ -1,5 +1,5 @@
 /* Small jobs of every kind, drawn: with ties, with faults, a third with damaged bytes, with slices too short or longer than needed. Each is
- * answered as document 01's second program has it. */
+ * answered as document 01's second program has it: what is drawn as kind 1, or reads so, in both ways, and of the rest one in eight. */
 #include "draw.h"
 #include "parts.h"
 #include "tally.h"
@@ -7,13 +7,16 @@
 #include <stdio.h>
 #include <string.h>
 
-enum { JOBS = 210000, DAMAGED_IN = 3 };
+enum { JOBS = 210000, DAMAGED_IN = 3, BOTH_IN = 8, WIDE_IN = 3 }; /* one in so many is damaged, asked in both ways, or of a wide row */
 
 /* How large a small job is, by kind, so that all its selections can be tried for each place of its table. */
 static const struct {
     uint32_t labels, budget;
 } most[LAST_KIND + 1] = {[KIND_ONCE] = {6, 20},   [KIND_COPIES] = {4, 16}, [KIND_ANY] = {5, 18},    [KIND_SUMS] = {5, 140},
                          [KIND_FEWEST] = {5, 50}, [KIND_WAYS] = {5, 36},   [KIND_SHARES] = {9, 99}, [KIND_LABELS_BEHIND] = {5, 40}};
+
+/* Some of kind 1 have fewer labels and a row of more than two words of bits. */
+enum { WIDE_LABELS = 3, WIDE_BUDGET = 2 * WORD_BITS + 20 };
 
 /* At least so often, by kind: answered, [0], and refused with 1 to 9; ties, and those that tell the rule from another; by trying. */
 static const struct tally least = {.came = {[0] = {[1] = 40000, [2] = 5000},
@@ -25,7 +28,7 @@ static const struct tally least = {.came = {[0] = {[1] = 40000, [2] = 5000},
                                             [KIND_WAYS] = {[0] = 12000, [3] = 1000, [4] = 900, [5] = 2000, [6] = 1000},
                                             [KIND_SHARES] = {[0] = 15000, [3] = 1000, [4] = 80, [6] = 900, [9] = 500},
                                             [KIND_LABELS_BEHIND] = {[0] = 7000, [3] = 900, [4] = 850, [5] = 900, [6] = 1700, [7] = 4200}},
-                                   .ties = {[KIND_ONCE] = {4500, 2000, 4500, 2800},
+                                   .ties = {[KIND_ONCE] = {4000, 1500, 4000, 2300},
                                             [KIND_COPIES] = {3500, 2000, 3500, 1800},
                                             [KIND_ANY] = {4000, 4000, 4000, 250},
                                             [KIND_FEWEST] = {2500, 50, 2500, 2400},
@@ -39,7 +42,28 @@ static struct bytes bytes, whole;
 
 /* ---- what else has to come up */
 
-enum { DAMAGED, JUDGED, ANSWERED, BEHIND, NO_LABELS, NO_BUDGET, CUT, FEW_CELLS, FEW_WORDS, FEW_PICKS, REACHED, MISSED, THINGS };
+enum {
+    DAMAGED,
+    JUDGED,
+    ANSWERED,
+    BEHIND,
+    NO_LABELS,
+    NO_BUDGET,
+    CUT,
+    FEW_CELLS,
+    FEW_WORDS,
+    FEW_PICKS,
+    REACHED,
+    MISSED,
+    BOTH_ONCE,
+    BOTH_DAMAGED,
+    BOTH_OTHERS,
+    LIGHT_ONLY,
+    FULL_ONLY,
+    FEW_BITS,
+    WIDE,
+    THINGS
+};
 
 static struct thing things[THINGS] = {
     [DAMAGED] = {"damaged", JOBS / DAMAGED_IN, 0},
@@ -54,6 +78,13 @@ static struct thing things[THINGS] = {
     [FEW_PICKS] = {"refused with 6 for its picks alone", 3000, 0},
     [REACHED] = {"kinds 4 and 8, asked the same: C is reached", 9500, 0},
     [MISSED] = {"kinds 4 and 8, asked the same: C isn't reached", 15000, 0},
+    [BOTH_ONCE] = {"kind 1, answered in both ways", 10000, 0},
+    [BOTH_DAMAGED] = {"kind 1, damaged, and answered in both ways", 650, 0},
+    [BOTH_OTHERS] = {"other kinds, answered in both ways", 8500, 0},
+    [LIGHT_ONLY] = {"kind 1, refused with 6 in the full way alone", 950, 0},
+    [FULL_ONLY] = {"kind 1, refused with 6 in the light way alone", 1400, 0},
+    [FEW_BITS] = {"kind 1, refused with 6 for the words of the light way alone", 450, 0},
+    [WIDE] = {"kind 1, answered in the light way, with three words for each of two labels or more", 370, 0},
 };
 
 static int has_cut_weight(const struct plain_job *read) {
@@ -80,41 +111,76 @@ static void count_things(const struct plain_answer *answer, const struct plain_r
     struct plain_room room;
     int cells, words, picks;
     if ((answer->refused != 0 && answer->refused != 6) || !plain_read(bytes.at, bytes.length, &read)) return;
-    room = plain_room(&read);
+    room = plain_room(&read, LIGHT_WAY);
     cells = lengths->cells < room.cells, words = lengths->words < room.words, picks = lengths->picks < room.picks;
     things[FEW_CELLS].came += cells && !words && !picks;
     things[FEW_WORDS].came += !cells && words && !picks;
     things[FEW_PICKS].came += !cells && !words && picks;
+    things[FEW_BITS].came += !cells && words && !picks && read.kind == KIND_ONCE;
     if (answer->refused != 0) return;
     things[NO_LABELS].came += read.weights.count == 0;
     things[NO_BUDGET].came += read.budget == 0;
     things[CUT].came += has_labels(read.kind) && has_cut_weight(&read);
+    things[WIDE].came += read.kind == KIND_ONCE && read.weights.count >= 2 && WORDS_OF_BITS(read.budget) >= 3;
+}
+
+/* Of a job that was asked in both ways. */
+static void count_ways(struct both_ways expected, uint64_t number) {
+    struct plain_job read;
+    uint32_t light = expected.of[LIGHT_WAY]->refused, full = expected.of[FULL_WAY]->refused;
+    if (!plain_read(bytes.at, bytes.length, &read)) return;
+    if (read.kind != KIND_ONCE) {
+        things[BOTH_OTHERS].came += light == 0 && full == 0;
+        return;
+    }
+    things[BOTH_ONCE].came += light == 0 && full == 0;
+    things[BOTH_DAMAGED].came += light == 0 && full == 0 && number % DAMAGED_IN == 0;
+    things[LIGHT_ONLY].came += light == 0 && full == 6;
+    things[FULL_ONLY].came += light == 6 && full == 0;
 }
 
 /* ---- the jobs */
 
-/* A job as its number has it, and lengths of slices, which are those of the job without its faults. */
-static struct plain_room draw_number(uint64_t number) {
+/* A job as its number has it, and lengths of slices in both ways, which are those of the job without its faults. Answers whether it was
+ * drawn as kind 1. */
+static int draw_number(uint64_t number, struct plain_room lengths[PLAIN_WAYS]) {
     struct draw draw = {number};
-    struct plain_room lengths;
     uint32_t kind = drawn(&draw, 1, LAST_KIND);
-    draw_job(&draw, kind, most[kind].labels, most[kind].budget, &job);
-    lengths = room_of(&job);
-    lengths = draw_lengths(&draw, &lengths);
+    int way, wide = kind == KIND_ONCE && chance(&draw, WIDE_IN);
+    draw_job(&draw, kind, wide ? WIDE_LABELS : most[kind].labels, wide ? WIDE_BUDGET : most[kind].budget, &job);
+    for (way = 0; way < PLAIN_WAYS; way++) {
+        struct plain_room room = room_of(&job, way);
+        lengths[way] = draw_lengths(&draw, &room);
+    }
     while (chance(&draw, 3)) draw_fault(&draw, &job);
     put_job(&bytes, &job);
     if (number % DAMAGED_IN == 0) draw_damage(&draw, &job, &bytes);
-    return lengths;
+    return kind == KIND_ONCE;
+}
+
+/* All of what was drawn as kind 1, or reads as such, and some of the rest. */
+static int in_both_ways(uint64_t number, int is_once) {
+    struct plain_job read;
+    return is_once || number % BOTH_IN == 0 || (plain_read(bytes.at, bytes.length, &read) && read.kind == KIND_ONCE);
+}
+
+static const struct plain_answer *try_ways(uint64_t number, int is_once, const struct plain_room lengths[PLAIN_WAYS]) {
+    struct both_ways expected;
+    if (!in_both_ways(number, is_once)) return try_job(&bytes, LIGHT_WAY, &lengths[LIGHT_WAY], number);
+    expected = try_both_ways(&bytes, lengths, number);
+    count_ways(expected, number);
+    return expected.of[LIGHT_WAY];
 }
 
 static void try_number(uint64_t number) {
-    struct plain_room lengths = draw_number(number);
+    struct plain_room lengths[PLAIN_WAYS];
     const struct plain_answer *answer;
+    int is_once = draw_number(number, lengths);
     about("drawn", number);
-    answer = try_job(&bytes, &lengths, number);
+    answer = try_ways(number, is_once, lengths);
     count_in(&tally, &bytes, answer);
     count_damage(answer);
-    count_things(answer, &lengths);
+    count_things(answer, &lengths[LIGHT_WAY]);
     if (asks_for_a_total(&bytes)) things[agree_on_totals(&bytes) ? REACHED : MISSED].came++;
 }
 

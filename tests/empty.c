@@ -33,7 +33,7 @@ static void small_job(uint32_t kind) {
     put_job(&bytes, &job);
 }
 
-static void try_solve(void) {
+static void try_solve(enum plain_way way) {
     static struct bytes given;
     uint64_t first = 5, second = 5;
     struct plain_room lengths;
@@ -43,10 +43,10 @@ static void try_solve(void) {
     lengths.picks = length_of(PICKS_SLICE, PICKS);
     given = bytes;
     given.length = length_of(JOB_SLICE, bytes.length);
-    expected = expected_of(&given, &lengths);
+    expected = expected_of(&given, way, &lengths);
     same("the refusal", expected->refused,
-         quabnester_solve(pointer_of(JOB_SLICE, given.at), given.length, pointer_of(CELLS_SLICE, cells), lengths.cells,
-                          pointer_of(WORDS_SLICE, words), lengths.words, pointer_of(PICKS_SLICE, picks), lengths.picks, &first, &second));
+         solve_in(way, pointer_of(JOB_SLICE, given.at), given.length, &lengths, pointer_of(CELLS_SLICE, cells),
+                  pointer_of(WORDS_SLICE, words), pointer_of(PICKS_SLICE, picks), &first, &second));
     same("first", expected->first, first);
     same("second", expected->second, second);
 }
@@ -80,7 +80,8 @@ void part_empty(void) {
         for (null = 0; null <= 1; null++) {
             for (mask = 0; mask < 1u << SLICES; mask++) {
                 about("empty slices", tried++);
-                try_solve();
+                try_solve(LIGHT_WAY);
+                try_solve(FULL_WAY);
                 try_write();
                 try_check();
             }

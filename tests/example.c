@@ -1,5 +1,6 @@
 /* A worked call: three labels that weigh 3, 4 and 5 and are worth 4, 5 and 6, with a budget of 7 (document 01's case A). Solves the job,
- * writes the certificate of the answer, and has it checked. tests/example.out is what it prints. */
+ * writes the certificate of the answer, and has it checked. A certificate of kind 1 is written from the full table, so it is solved in the
+ * full way. tests/example.out is what it prints. */
 #include "quabnester.h"
 #include <stdio.h>
 #include <stdlib.h>
@@ -21,7 +22,7 @@ static uint32_t *cells, *picks;
 static uint8_t *certificate;
 
 static int has_room(void) {
-    cells_len = (size_t)quabnester_cells_needed(KIND, LABELS, BUDGET);
+    cells_len = (size_t)quabnester_full_cells_needed(KIND, LABELS, BUDGET);
     picks_len = (size_t)quabnester_picks_needed(KIND, LABELS, BUDGET);
     certificate_len = (size_t)quabnester_certificate_bytes(KIND, LABELS, BUDGET);
     cells = malloc(cells_len * sizeof *cells);
@@ -33,7 +34,7 @@ static int has_room(void) {
 /* Solves the job, and writes the certificate of the answer: 0 or a refusal number. */
 static uint32_t solve_and_write(void) {
     uint64_t value, weight, written;
-    uint32_t refused = quabnester_solve(job, sizeof job, cells, cells_len, NULL, 0, picks, picks_len, &value, &weight);
+    uint32_t refused = quabnester_solve_full(job, sizeof job, cells, cells_len, NULL, 0, picks, picks_len, &value, &weight);
     if (refused != QUABNESTER_NOT_REFUSED) return refused;
     printf("value %d, weight %d, picks %d %d %d\n", (int)value, (int)weight, (int)picks[0], (int)picks[1], (int)picks[2]);
 

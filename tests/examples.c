@@ -1,5 +1,5 @@
-/* The example jobs through the solver, with slices as long as the program's: the answer, in the program's words, is what stands in the
- * file beside the job, and all is as the second program has it. */
+/* The example jobs through the solver, in the light way and with slices as long as the program's: the answer, in the program's words, is
+ * what stands in the file beside the job, and all is as the second program has it. */
 #include "calls.h"
 #include "parts.h"
 #include "tell.h"
@@ -63,8 +63,8 @@ static void try_example(const char *name) {
     if (!holds("an example's name, NAME.job", stem > 0 && stem < 240 && strcmp(name + stem, ".job") == 0)) return;
     snprintf(out, sizeof out, "%.*s.out", stem, name);
     if (!holds("reading an example", read_file(name, &job) && read_file(out, &expected))) return;
-    solve(&solved, &job, &lengths, job.length);
-    answers(&solved, &job, expected_of(&job, &lengths));
+    solve(&solved, &job, LIGHT_WAY, &lengths, job.length);
+    answers(&solved, &job, expected_of(&job, LIGHT_WAY, &lengths));
     say_answer(&text, &solved, &job);
     if (!holds(name, text.length == expected.length && memcmp(text.at, expected.at, text.length) == 0)) {
         printf("%.*s", (int)text.length, (const char *)text.at);

@@ -1,5 +1,6 @@
 /* Full bounds: the most labels and the greatest budget, from solving to checking, for each kind that has certificates; then one cell or one
- * pick changed. Kinds 1 and 2 share two slices, which take FULL_TABLE(MOST_LABELS, MOST_BUDGET) times 4 bytes each. */
+ * pick changed. Kinds 1 and 2 share two slices, which take FULL_TABLE(MOST_LABELS, MOST_BUDGET) times 4 bytes each. Kind 1 is solved in
+ * both ways: the full one leaves what a certificate is written from, and the light one is held to that. */
 #include "calls.h"
 #include "draw.h"
 #include "parts.h"
@@ -102,6 +103,44 @@ static void solve_again(void) {
                                       &solved.first, &solved.second);
 }
 
+/* ---- kind 1 in the light way, beside the table that was left in the full one */
+
+/* Word m of label i, by the label's row and the row before it. */
+static uint64_t bits_of(uint32_t i, uint32_t m) {
+    const uint32_t *with = row_of(i + 1) + m * WORD_BITS, *without = row_of(i) + m * WORD_BITS;
+    uint64_t bits = 0;
+    uint32_t b;
+    for (b = 0; b < WORD_BITS && m * WORD_BITS + b <= C; b++) bits |= (uint64_t)(with[b] > without[b]) << b;
+    return bits;
+}
+
+/* The last label's bits, and those of one in `every` before it. */
+static void bits_are_right(const struct solved *light, uint32_t every) {
+    const uint64_t *words = light->words.slice;
+    uint32_t i, m;
+    for (i = N; i > every; i -= every) {
+        about("full, the light way, label", i - 1);
+        for (m = 0; m < WORDS_OF_BITS(C) && words[(size_t)(i - 1) * WORDS_OF_BITS(C) + m] == bits_of(i - 1, m); m++) continue;
+        same("the words that are right", WORDS_OF_BITS(C), m);
+    }
+}
+
+static void in_the_light_way(void) {
+    struct plain_room needed = plain_room(&read, LIGHT_WAY);
+    struct solved light;
+    about("full, the light way", KIND_ONCE);
+    same("the words needed", (uint64_t)N * WORDS_OF_BITS(C), needed.words);
+    solve(&light, &bytes, LIGHT_WAY, &needed, 9);
+    same("the refusal", 0, light.refused);
+    same("the value", solved.first, light.first);
+    same("the weight", solved.second, light.second);
+    holds("the picks", memcmp(light.picks.slice, solved.picks.slice, N * 4) == 0);
+    holds("the row", memcmp(light.cells.slice, row_of(N), ROW(C) * 4) == 0);
+    kept_the_rest(&light, &needed);
+    bits_are_right(&light, 9);
+    give_back_solved(&light);
+}
+
 /* ---- writing */
 
 /* The writer on so many bytes of a slice. */
@@ -187,10 +226,11 @@ static void once(void) {
     draw_full(KIND_ONCE);
     about("full, solve", KIND_ONCE);
     same("the cells needed", FULL_TABLE((uint64_t)N, C), room.cells);
-    solve(&solved, &bytes, &room, 9);
+    solve(&solved, &bytes, FULL_WAY, &room, 9);
     is_solved();
     rows_are_best(1);
     picks_are_least();
+    in_the_light_way();
     lend(&written.out, plain_certificate_bytes(&read), 1, 9);
     write_full();
     verdict_now(0, solved.first);
@@ -222,7 +262,7 @@ static void copies(void) {
 static void any_number(void) {
     draw_full(KIND_ANY);
     about("full, solve", KIND_ANY);
-    solve(&solved, &bytes, &room, 9);
+    solve(&solved, &bytes, LIGHT_WAY, &room, 9);
     is_solved();
     lend(&written.out, plain_certificate_bytes(&read), 1, 9);
     write_full();

@@ -64,53 +64,67 @@ static void the_version(void) {
     same("its last number", QUABNESTER_VERSION_PATCH, QUABNESTER_VERSION_NUMBER % 1000);
     same("its second number", QUABNESTER_VERSION_MINOR, QUABNESTER_VERSION_NUMBER / 1000 % 1000);
     same("its first number", QUABNESTER_VERSION_MAJOR, QUABNESTER_VERSION_NUMBER / 1000000);
+    holds("that it is one of K4, which has kind 1 refused on slices that were enough before", QUABNESTER_VERSION_MAJOR >= 2);
 }
 
 /* ---- room */
 
-static struct plain_room room_by_header(void) {
+static struct plain_room room_by_header(enum plain_way way) {
     uint32_t n = job.weights.count;
     struct plain_room room;
-    room.cells = quabnester_cells_needed(job.kind, n, job.budget);
-    room.words = quabnester_words_needed(job.kind, n, job.budget);
+    room.cells = (way == FULL_WAY ? quabnester_full_cells_needed : quabnester_cells_needed)(job.kind, n, job.budget);
+    room.words = (way == FULL_WAY ? quabnester_full_words_needed : quabnester_words_needed)(job.kind, n, job.budget);
     room.picks = quabnester_picks_needed(job.kind, n, job.budget);
     return room;
 }
 
-/* The solver refuses the job, on slices of these lengths, with this number. */
-static void refused_on(const struct plain_room *lengths, uint32_t number) {
+/* The solver refuses the job in a way, on slices of these lengths, with this number. */
+static void refused_in(enum plain_way way, const struct plain_room *lengths, uint32_t number) {
     struct solved solved;
     about("header", tried++);
     put_job(&bytes, &job);
     same("the job's bytes", quabnester_job_bytes(job.weights.count, job.values.count, job.copies.count), bytes.length);
-    solve(&solved, &bytes, lengths, tried);
+    solve(&solved, &bytes, way, lengths, tried);
     if (same("the refusal", number, solved.refused)) met[number]++;
     give_back_solved(&solved);
 }
 
-/* On as many places as the header says the job is answered, and on one less of any it is refused. */
-static void answered_on_room(void) {
-    struct plain_room room = room_by_header(), least = room_of(&job), less;
+static void refused_on(const struct plain_room *lengths, uint32_t number) {
+    refused_in(LIGHT_WAY, lengths, number);
+}
+
+/* On as many places as the header says the job is answered in a way, and on one less of any it is refused. */
+static void answered_in(enum plain_way way) {
+    struct plain_room room = room_by_header(way), least = room_of(&job, way), less;
     about("header", tried);
     same("the cells", least.cells, room.cells);
     same("the words", least.words, room.words);
     same("the picks", least.picks, room.picks);
-    refused_on(&room, QUABNESTER_NOT_REFUSED);
+    refused_in(way, &room, QUABNESTER_NOT_REFUSED);
     less = room;
-    if (less.cells-- > 0) refused_on(&less, QUABNESTER_REFUSED_ROOM);
+    if (less.cells-- > 0) refused_in(way, &less, QUABNESTER_REFUSED_ROOM);
     less = room;
-    if (less.words-- > 0) refused_on(&less, QUABNESTER_REFUSED_ROOM);
+    if (less.words-- > 0) refused_in(way, &less, QUABNESTER_REFUSED_ROOM);
     less = room;
-    if (less.picks-- > 0) refused_on(&less, QUABNESTER_REFUSED_ROOM);
+    if (less.picks-- > 0) refused_in(way, &less, QUABNESTER_REFUSED_ROOM);
+}
+
+static void answered_on_room(void) {
+    answered_in(LIGHT_WAY);
+    answered_in(FULL_WAY);
 }
 
 /* Needs nothing, as the header says, and is refused. */
 static void refused_without_room(uint32_t number) {
-    struct plain_room room = room_by_header();
-    about("header", tried);
-    same("what is needed", 0, room.cells + room.words + room.picks);
+    struct plain_room room;
+    int way;
+    for (way = 0; way < PLAIN_WAYS; way++) {
+        room = room_by_header(way);
+        about("header", tried);
+        same("what is needed", 0, room.cells + room.words + room.picks);
+        refused_in(way, &room, number);
+    }
     same("the certificate's bytes", 0, quabnester_certificate_bytes(job.kind, job.weights.count, job.budget));
-    refused_on(&room, number);
 }
 
 /* ---- bounds */
@@ -148,7 +162,7 @@ static void bounds_of(uint32_t kind) {
 
 /* A number of the job from the least to the most, and one less and one more, where there are such. */
 static void least_and_most(uint32_t *number, uint32_t least, uint32_t most) {
-    struct plain_room room = room_by_header();
+    struct plain_room room = room_by_header(LIGHT_WAY);
     *number = least - 1;
     if (least > 0) refused_on(&room, QUABNESTER_REFUSED_RULE);
     *number = most + 1;
@@ -221,9 +235,9 @@ static void judged_with(uint32_t kind, uint32_t pick, uint32_t last_cell, size_t
     about("header", tried++);
     case_a(&job, kind);
     put_job(&bytes, &job);
-    quabnester_solve(bytes.at, bytes.length, cells, CASE_A_CELLS, NULL, 0, picks, CASE_A_LABELS, &first, &second);
+    quabnester_solve_full(bytes.at, bytes.length, cells, CASE_A_CELLS, NULL, 0, picks, CASE_A_LABELS, &first, &second);
     picks[CASE_A_LABELS - 1] = pick;
-    cells[quabnester_cells_needed(kind, CASE_A_LABELS, CASE_A_BUDGET) - 1] = last_cell;
+    cells[quabnester_full_cells_needed(kind, CASE_A_LABELS, CASE_A_BUDGET) - 1] = last_cell;
     put_certificate(&certificate, &job, picks, cells);
     certificate.length -= less;
     if (same("the verdict", number, judged(&bytes, certificate.at, certificate.length))) met[number]++;
@@ -243,11 +257,11 @@ static void verdicts(uint32_t kind, uint32_t most) {
 
 /* The solver on the job, which leaves this number in the last place of its table. */
 static void leaves(uint32_t number, uint64_t mark) {
-    struct plain_room room = room_by_header();
+    struct plain_room room = room_by_header(LIGHT_WAY);
     struct solved solved;
     about("header", tried++);
     put_job(&bytes, &job);
-    solve(&solved, &bytes, &room, tried);
+    solve(&solved, &bytes, LIGHT_WAY, &room, tried);
     if (same("the refusal", number, solved.refused)) met[number]++;
     if (room.cells > 0) same("the last cell", mark, ((const uint32_t *)solved.cells.slice)[room.cells - 1]);
     if (room.words > 0) same("the last word", mark, ((const uint64_t *)solved.words.slice)[room.words - 1]);
@@ -269,12 +283,12 @@ static void marks(void) {
 static void others(void) {
     struct plain_room room;
     case_a(&job, QUABNESTER_KIND_ONCE);
-    room = room_by_header();
+    room = room_by_header(LIGHT_WAY);
     job.values.count--;
     refused_on(&room, QUABNESTER_REFUSED_LENGTHS);
     valid_job(QUABNESTER_KIND_SHARES, 1, 9);
     job.weights.at[0] = 0;
-    room = room_by_header();
+    room = room_by_header(LIGHT_WAY);
     refused_on(&room, QUABNESTER_REFUSED_NO_CLAIMS);
     about("header", tried++);
     if (same("no bytes", QUABNESTER_REFUSED_BYTES, quabnester_check(NULL, 0, NULL, 0))) met[QUABNESTER_REFUSED_BYTES]++;

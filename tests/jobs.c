@@ -77,9 +77,9 @@ static struct plain_job outline(const struct job *job) {
     return outline;
 }
 
-struct plain_room room_of(const struct job *job) {
+struct plain_room room_of(const struct job *job, enum plain_way way) {
     struct plain_job known = outline(job);
-    return plain_room(&known);
+    return plain_room(&known, way);
 }
 
 uint32_t claims_of(const struct job *job) {

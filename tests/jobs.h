@@ -56,8 +56,8 @@ enum {
 };
 void case_a(struct job *job, uint32_t kind);
 
-/* What the job needs, how many cells its certificate has, and how often that may pick label i. */
-struct plain_room room_of(const struct job *job);
+/* What the job needs in a way, how many cells its certificate has, and how often that may pick label i. */
+struct plain_room room_of(const struct job *job, enum plain_way way);
 uint32_t claims_of(const struct job *job);
 uint32_t most_picked(const struct job *job, uint32_t i);
 

@@ -1,12 +1,13 @@
 /* Large jobs of every kind, drawn: few labels with large weights and budgets, many labels, more than 2^64 ways, products beyond 32 bits.
- * Each is answered as document 01's second program has it, by its tables and, where they aren't too many, by trying every selection. */
+ * Each is answered as document 01's second program has it, by its tables and, where they aren't too many, by trying every selection; those
+ * of kind 1 in both ways, and one in eight of the others. */
 #include "draw.h"
 #include "parts.h"
 #include "tally.h"
 #include "tell.h"
 #include <stdio.h>
 
-enum { EACH = 200, START = 3000000 }; /* jobs of each kind, and the number of the first one */
+enum { EACH = 200, START = 3000000, BOTH_IN = 8 }; /* jobs of each kind, the number of the first one, and who is asked in both ways */
 
 /* At least so often, as in drawn.c. */
 static const struct tally least = {
@@ -30,6 +31,11 @@ static struct plain_job read;
 /* ---- which loops they ran */
 
 enum {
+    BITS_NEAR,
+    BITS_FAR,
+    BITS_EVEN,
+    BITS_FULL,
+    BITS_MIXED,
     LIGHT,
     HEAVY,
     BITS,
@@ -55,6 +61,11 @@ enum {
 };
 
 static struct thing loops[LOOPS] = {
+    [BITS_NEAR] = {"kind 1, bits of 4 words or more above a weight below a word", 90, 0},
+    [BITS_FAR] = {"kind 1, bits of 4 words or more above a weight of a word or more", 120, 0},
+    [BITS_EVEN] = {"kind 1, bits of whole words above a weight", 35, 0},
+    [BITS_FULL] = {"kind 1, a row of whole words of bits", 24, 0},
+    [BITS_MIXED] = {"kind 1, ten words or more with bits set among others that aren't", 60, 0},
     [LIGHT] = {"kind 3, a weight below a stretch that fits so many times", 50, 0},
     [HEAVY] = {"kind 3, a weight of a stretch or more that fits 4 times", 120, 0},
     [BITS] = {"kind 4, more words than a stretch above a weight of bits", 90, 0},
@@ -119,16 +130,24 @@ static int has_product(void) {
     return i < job.weights.count;
 }
 
-/* Kind 8: whether the cells above a weight, which its pass goes over, are several stretches, for NEAR and FAR, or whole ones, for EVEN. */
-static int has_pass(int which) {
+/* Kinds 8 and 1: whether the cells above a weight, which its pass goes over, are several times the unit, for NEAR and FAR, or a multiple of
+ * it, for EVEN. */
+static int has_pass(int which, uint32_t unit) {
     uint32_t i;
     for (i = 0; i < job.weights.count; i++) {
         uint32_t weight = job.weights.at[i], above = ROW(job.budget) - weight;
         if (weight > job.budget) continue;
-        if (which == EVEN && above % STRETCH == 0) return 1;
-        if (above >= 4 * STRETCH && which == (weight < STRETCH ? NEAR : FAR)) return 1;
+        if (which == EVEN && above % unit == 0) return 1;
+        if (above >= 4 * unit && which == (weight < unit ? NEAR : FAR)) return 1;
     }
     return 0;
+}
+
+/* Kind 1, in the light way: whether ten words have some bits set, and some not. */
+static int has_mixed(const struct plain_answer *answer) {
+    uint32_t m, count = 0;
+    for (m = 0; m < answer->filled.words; m++) count += answer->words[m] != 0 && answer->words[m] != UINT64_MAX;
+    return count >= 10;
 }
 
 /* How many labels are picked. */
@@ -141,6 +160,9 @@ static uint32_t picked(const struct plain_answer *answer) {
 static void count_loops(const struct plain_answer *answer) {
     uint32_t kind = answer->refused == 0 ? job.kind : 0;
     int which;
+    for (which = NEAR; which <= EVEN; which++) loops[BITS_NEAR + which - NEAR].came += kind == KIND_ONCE && has_pass(which, WORD_BITS);
+    loops[BITS_FULL].came += kind == KIND_ONCE && ROW(job.budget) % WORD_BITS == 0;
+    loops[BITS_MIXED].came += kind == KIND_ONCE && has_mixed(answer);
     loops[LIGHT].came += kind == KIND_ANY && has_weight(1, STRETCH - 1, STRETCH);
     loops[HEAVY].came += kind == KIND_ANY && has_weight(STRETCH, UINT32_MAX, 4);
     for (which = BITS; which <= WHOLE; which++) loops[which].came += kind == KIND_SUMS && has_move(which);
@@ -151,7 +173,7 @@ static void count_loops(const struct plain_answer *answer) {
     loops[PASSED].came += kind == KIND_WAYS && first_full(answer) < job.budget;
     loops[PRODUCT].came += kind == KIND_SHARES && has_product();
     loops[SUM].came += kind == KIND_SHARES && plain_sum(read.weights) > UINT32_MAX;
-    for (which = NEAR; which <= EVEN; which++) loops[which].came += job.kind == KIND_LABELS_BEHIND && has_pass(which);
+    for (which = NEAR; which <= EVEN; which++) loops[which].came += job.kind == KIND_LABELS_BEHIND && has_pass(which, STRETCH);
     loops[TAKEN].came += kind == KIND_LABELS_BEHIND && picked(answer) >= 6;
     loops[LATE].came += kind == KIND_LABELS_BEHIND && job.weights.count >= 3 && answer->cells[job.budget] == job.weights.count;
     loops[MANY].came += kind != 0 && has_labels(kind) && job.weights.count >= MOST_LABELS / 5;
@@ -160,30 +182,38 @@ static void count_loops(const struct plain_answer *answer) {
 
 /* ---- the jobs */
 
-static struct plain_room put_and_read(void) {
+static struct plain_room put_and_read(enum plain_way way) {
     put_job(&bytes, &job);
     read_back(&bytes, &read);
-    return plain_room(&read);
+    return plain_room(&read, way);
 }
 
 /* Kind 6: moves C to the first amount that has too many ways, or to the one before it. */
 static void to_the_border(struct draw *draw) {
-    struct plain_room room = put_and_read();
-    job.budget = first_full(expected_of(&bytes, &room)) - drawn(draw, 0, 1);
+    struct plain_room room = put_and_read(LIGHT_WAY);
+    job.budget = first_full(expected_of(&bytes, LIGHT_WAY, &room)) - drawn(draw, 0, 1);
+}
+
+/* Slices of some places more than are needed. */
+static struct plain_room lengths_in(enum plain_way way, struct draw *draw) {
+    struct plain_room lengths = put_and_read(way);
+    lengths.cells += drawn(draw, 0, 20);
+    lengths.words += drawn(draw, 0, 20);
+    lengths.picks += drawn(draw, 0, 20);
+    return lengths;
 }
 
 static void try_number(uint64_t number) {
     struct draw draw = {START + number};
-    struct plain_room lengths;
+    struct plain_room lengths[PLAIN_WAYS];
     const struct plain_answer *answer;
     about("large", number);
     draw_large(&draw, 1 + (uint32_t)(number % LAST_KIND), &job);
     if (job.kind == KIND_WAYS && chance(&draw, 2)) to_the_border(&draw);
-    lengths = put_and_read();
-    lengths.cells += drawn(&draw, 0, 20);
-    lengths.words += drawn(&draw, 0, 20);
-    lengths.picks += drawn(&draw, 0, 20);
-    answer = try_job(&bytes, &lengths, number);
+    lengths[LIGHT_WAY] = lengths_in(LIGHT_WAY, &draw);
+    lengths[FULL_WAY] = lengths_in(FULL_WAY, &draw);
+    if (job.kind == KIND_ONCE || number / LAST_KIND % BOTH_IN == 0) answer = try_both_ways(&bytes, lengths, number).of[LIGHT_WAY];
+    else answer = try_job(&bytes, LIGHT_WAY, &lengths[LIGHT_WAY], number);
     count_in(&tally, &bytes, answer);
     count_loops(answer);
     if (asks_for_a_total(&bytes)) loops[agree_on_totals(&bytes) ? REACHED : MISSED].came++;

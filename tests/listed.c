@@ -1,5 +1,6 @@
-/* The trials that crates/trials/stdin lists, cases and bounds, through the solver: each is answered as document 01's second program has it.
- * A line that starts with - (or *) is a case, a name and a job; one that starts with > is a bound, a name and two jobs with a slash between
+/* The trials that crates/trials/stdin lists, cases and bounds, through the solver in both ways: each is answered as document 01's second
+ * program has it.
+ * A line that starts with - or = is a case, a name and a job; one that starts with > is a bound, a name and two jobs with a slash between
  * them; others are text. A job is `kind; budget; weights; values; copies; places lent`, and what is left out at the end is empty. */
 #include "calls.h"
 #include "parts.h"
@@ -11,7 +12,7 @@ enum { KIND, BUDGET, WEIGHTS, VALUES, COPIES, LENT, FIELDS };
 enum { CELLS_LENT, WORDS_LENT, PICKS_LENT, LENGTHS };
 enum { MOST_TEXT = 65536 };      /* of the file: no bound of document 01 */
 enum { MORE = 20 };              /* places that are lent beyond the needed ones, where the list says nothing of them */
-enum { JOBS = 125, TRIED = 55 }; /* at least so many have to be listed, and answered by trying too */
+enum { JOBS = 160, TRIED = 75 }; /* at least so many have to be listed, and answered by trying too */
 
 static char text[MOST_TEXT + 1];
 static unsigned long jobs, tried;
@@ -74,9 +75,9 @@ static int read_fields(const char **at, struct list *fields) {
 
 /* ---- trying */
 
-/* The places that the list has lent, or more than the job needs. */
-static struct plain_room lengths_of(const struct list *fields, const struct job *job) {
-    struct plain_room lengths = room_of(job);
+/* The places that the list has lent, or more than the job needs in a way. */
+static struct plain_room lengths_of(const struct list *fields, const struct job *job, enum plain_way way) {
+    struct plain_room lengths = room_of(job, way);
     lengths.cells += MORE;
     lengths.words += MORE;
     lengths.picks += MORE;
@@ -91,15 +92,16 @@ static struct plain_room lengths_of(const struct list *fields, const struct job 
 static void try_fields(const struct list *fields) {
     static struct job job;
     static struct bytes bytes;
-    struct plain_room lengths;
+    struct plain_room lengths[PLAIN_WAYS];
     job.kind = fields[KIND].at[0];
     job.budget = fields[BUDGET].at[0];
     job.weights = fields[WEIGHTS];
     job.values = fields[VALUES];
     job.copies = fields[COPIES];
     put_job(&bytes, &job);
-    lengths = lengths_of(fields, &job);
-    tried += (unsigned long)try_job(&bytes, &lengths, jobs)->tried;
+    lengths[LIGHT_WAY] = lengths_of(fields, &job, LIGHT_WAY);
+    lengths[FULL_WAY] = lengths_of(fields, &job, FULL_WAY);
+    tried += (unsigned long)try_both_ways(&bytes, lengths, jobs).of[LIGHT_WAY]->tried;
     jobs++;
 }
 
@@ -115,7 +117,7 @@ static int read_and_try(const char **at) {
 /* A line, up to its end; 0 where it can't be read. Text has no jobs. */
 static int try_line(const char *at) {
     int bound = *at == '>';
-    if (*at != '-' && *at != '*' && !bound) return 1;
+    if (*at != '-' && *at != '=' && !bound) return 1;
     while (*at != ':' && *at != '\n') at++;
     if (*at++ != ':' || !read_and_try(&at)) return 0;
     if (bound && (*at++ != '/' || !read_and_try(&at))) return 0;

@@ -7,6 +7,7 @@ void part_examples(int count, char **names); /* examples.c: job files, with what
 void part_solve(void);                       /* solve_cases.c: the solver's refusals, in order, and each bound */
 void part_ties(void);                        /* tie_cases.c: jobs for which every other tie rule names other picks */
 void part_totals(void);                      /* total_cases.c: the number of totals, over many words */
+void part_light(void);                       /* light_cases.c: kind 1 in the light way, its row and its bits */
 void part_behind(void);                      /* behind_cases.c: kind 8, cells and picks, rows of any length */
 void part_header(void);                      /* header.c: the constants and functions of include/quabnester.h */
 void part_slips(void);                       /* slips.c: the calls of docs/SLIPS.md */

@@ -1,5 +1,5 @@
 /* Document 01's second program: job bytes, refusals and the room that is needed. All files plain*.c were written from document 01, the
- * requests K1 and K3 and include/quabnester.h, without sight of the planner's sources: that is what makes them a second opinion, and
+ * requests K1, K3 and K4 and include/quabnester.h, without sight of the planner's sources: that is what makes them a second opinion, and
  * whoever changes them should keep it so. They allocate nothing and keep nothing between calls. */
 #include "plain.h"
 
@@ -66,17 +66,20 @@ const struct plain_kind *plain_kind(uint32_t kind) {
     return &kinds[kind <= LAST_KIND ? kind : 0];
 }
 
-struct plain_room plain_room(const struct plain_job *job) {
+struct plain_room plain_room(const struct plain_job *job, enum plain_way way) {
     struct plain_room room = {0, 0, 0};
     uint64_t n = job->weights.count, C = job->budget;
     if (plain_kind(job->kind)->picks) room.picks = n;
     switch (job->kind) {
     case KIND_ONCE:
+        room.cells = way == LIGHT_WAY ? ROW(C) : FULL_TABLE(n, C);
+        room.words = way == LIGHT_WAY ? n * WORDS_OF_BITS(C) : 0;
+        break;
     case KIND_COPIES: room.cells = FULL_TABLE(n, C); break;
     case KIND_ANY:
     case KIND_FEWEST:
     case KIND_LABELS_BEHIND: room.cells = ROW(C); break;
-    case KIND_SUMS: room.words = C / WORD_BITS + 1; break;
+    case KIND_SUMS: room.words = WORDS_OF_BITS(C); break;
     case KIND_WAYS: room.words = ROW(C); break;
     default: break;
     }
@@ -142,14 +145,14 @@ uint32_t plain_job_refusal(const struct plain_job *job, uint32_t last_kind) {
     return 0;
 }
 
-uint32_t plain_solve_refusal(const uint8_t *job, size_t job_len, const struct plain_room *lent) {
+uint32_t plain_solve_refusal(const uint8_t *job, size_t job_len, const struct plain_room *lent, enum plain_way way) {
     struct plain_job read;
     struct plain_room room;
     uint32_t refusal;
     if (!plain_read(job, job_len, &read)) return 1;
     refusal = plain_job_refusal(&read, LAST_KIND);
     if (refusal != 0) return refusal;
-    room = plain_room(&read);
+    room = plain_room(&read, way);
     if (lent->cells < room.cells || lent->words < room.words || lent->picks < room.picks) return 6;
     if (read.kind == KIND_SHARES && plain_sum(read.weights) == 0) return 9;
     return 0;
@@ -169,12 +172,34 @@ uint32_t plain_write_refusal(const uint8_t *job, size_t job_len, size_t picks, s
 
 /* ---- what the ways to an answer share */
 
-void plain_start(struct plain_answer *answer, const struct plain_job *job, uint32_t refused) {
+void plain_start(struct plain_answer *answer, const struct plain_job *job, uint32_t refused, enum plain_way way) {
     static const struct plain_room nothing = {0, 0, 0};
     answer->refused = refused;
     answer->first = answer->second = answer->as_good = 0;
     answer->tried = 0;
-    answer->filled = refused == 0 ? plain_room(job) : nothing;
+    answer->filled = refused == 0 ? plain_room(job, way) : nothing;
+}
+
+/* Whether the best value of labels 0 to i is above that of labels 0 to i-1 at budget c. */
+static int is_above(const struct plain_job *job, const uint32_t *cells, uint32_t i, uint32_t c) {
+    size_t width = ROW((size_t)job->budget), without = i * width + c, with = without + width;
+    return cells[with] > cells[without];
+}
+
+void plain_light(const struct plain_job *job, const struct plain_answer *full, struct plain_answer *light) {
+    uint32_t i, c, n = job->weights.count;
+    size_t m, width = ROW((size_t)job->budget), each = WORDS_OF_BITS(job->budget);
+    plain_start(light, job, 0, LIGHT_WAY);
+    light->first = full->first;
+    light->second = full->second;
+    light->as_good = full->as_good;
+    light->tried = full->tried;
+    for (m = 0; m < light->filled.words; m++) light->words[m] = 0;
+    for (c = 0; c < width; c++) {
+        light->cells[c] = full->cells[n * width + c];
+        for (i = 0; i < n; i++) light->words[i * each + c / WORD_BITS] |= (uint64_t)is_above(job, full->cells, i, c) << c % WORD_BITS;
+    }
+    for (i = 0; i < n; i++) light->picks[i] = full->picks[i];
 }
 
 uint64_t plain_most(const struct plain_job *job, uint32_t k) {

@@ -49,8 +49,12 @@ struct plain_room {
     uint64_t cells, words, picks;
 };
 
-/* What a job needs if it isn't refused with 2 to 5: by its kind, n and C. */
-struct plain_room plain_room(const struct plain_job *job);
+/* The two ways of kind 1 (K4). The light one is lent a row, and a bit for each label and budget; the full one the whole table. All else is
+ * the same, and in all other kinds everything is. */
+enum plain_way { LIGHT_WAY, FULL_WAY, PLAIN_WAYS };
+
+/* What a job needs in a way if it isn't refused with 2 to 5: by its kind, n and C. */
+struct plain_room plain_room(const struct plain_job *job, enum plain_way way);
 
 /* The picks and cells of its certificate, and the bytes; of a kind that has none, as if it were kind 1. */
 struct plain_room plain_certificate_room(const struct plain_job *job);
@@ -61,8 +65,8 @@ uint64_t plain_certificate_bytes(const struct plain_job *job);
 /* The lowest of 2 to 5 that applies, or 0. `last_kind` is the last kind there is for the entry. */
 uint32_t plain_job_refusal(const struct plain_job *job, uint32_t last_kind);
 
-/* The lowest of 1 to 6 and 9 that applies to the solver, or 0; 7 and 8 aren't asked. */
-uint32_t plain_solve_refusal(const uint8_t *job, size_t job_len, const struct plain_room *lent);
+/* The lowest of 1 to 6 and 9 that applies to the solver in a way, or 0; 7 and 8 aren't asked. */
+uint32_t plain_solve_refusal(const uint8_t *job, size_t job_len, const struct plain_room *lent, enum plain_way way);
 
 /* The lowest of 1 to 6 that applies to the writer, or 0. */
 uint32_t plain_write_refusal(const uint8_t *job, size_t job_len, size_t picks, size_t cells, size_t out);
@@ -71,7 +75,7 @@ uint32_t plain_write_refusal(const uint8_t *job, size_t job_len, size_t picks, s
 
 enum {
     PLAIN_CELLS = FULL_TABLE(MOST_SIZES, MOST_BUDGET), /* of a table that is compared whole, or made on the way to a row */
-    PLAIN_WORDS = ROW(MOST_BUDGET),
+    PLAIN_WORDS = GREATER(ROW(MOST_BUDGET), PLAIN_CELLS / WORD_BITS + MOST_LABELS), /* those of kind 6, or with a bit for each such cell */
     PLAIN_PICKS = MOST_IN_LIST
 };
 
@@ -85,8 +89,12 @@ struct plain_answer {
     int tried;        /* whether every selection was tried */
 };
 
-/* An answer of nothing, for a refusal with this number; or for 0, with the places that the job fills. */
-void plain_start(struct plain_answer *answer, const struct plain_job *job, uint32_t refused);
+/* An answer of nothing, for a refusal with this number; or for 0, with the places that the job fills in a way. */
+void plain_start(struct plain_answer *answer, const struct plain_job *job, uint32_t refused, enum plain_way way);
+
+/* What kind 1 answers in the light way, by what K4 says of each bit: of the answer in the full way, of which each cell is a small job. The
+ * answers below are all in the full way. */
+void plain_light(const struct plain_job *job, const struct plain_answer *full, struct plain_answer *light);
 
 /* How often label k may be taken. */
 uint64_t plain_most(const struct plain_job *job, uint32_t k);

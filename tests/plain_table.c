@@ -221,7 +221,7 @@ static void labels_behind(const struct plain_job *job, struct plain_answer *answ
 }
 
 void plain_table(const struct plain_job *job, struct plain_answer *answer) {
-    plain_start(answer, job, 0);
+    plain_start(answer, job, 0, FULL_WAY);
     switch (job->kind) {
     case KIND_ANY: any_number(job, answer); break;
     case KIND_SUMS: sums(job, answer); break;

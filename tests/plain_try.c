@@ -166,9 +166,22 @@ static uint64_t fewest_tried(const struct plain_job *job, const struct plain_ans
     return job->kind == KIND_LABELS_BEHIND ? places * (job->weights.count + 1) : places;
 }
 
+/* Whether they are too many for all places, told before all of them are tried: each selection of all labels comes up again for every budget
+ * from its weight to C. Not in kind 8, where fewer labels may do. */
+static int are_too_many(const struct plain_job *job) {
+    struct selection s = {{0}, 0, 0, 0};
+    uint64_t tries = 0;
+    left = SELECTIONS;
+    if (job->kind == KIND_LABELS_BEHIND) return 0;
+    do tries += ROW((uint64_t)job->budget) - s.weight;
+    while (tries <= SELECTIONS && next_selection(job, job->weights.count, job->budget, &s));
+    return tries > SELECTIONS;
+}
+
 int plain_try(const struct plain_job *job, struct plain_answer *answer) {
-    plain_start(answer, job, 0);
+    plain_start(answer, job, 0, FULL_WAY);
     if (job->kind == KIND_SHARES || job->weights.count > LABELS || fewest_tried(job, answer) > SELECTIONS) return 0;
+    if (are_too_many(job)) return 0;
     left = SELECTIONS;
     try_places(job, answer);
     try_answer(job, answer);

@@ -29,14 +29,16 @@ static uint64_t sum_over(const struct list *list, const uint32_t *picks) {
     return sum;
 }
 
-/* Solves the job with slices that are some places longer than needed. */
+/* Solves the job with slices that are some places longer than needed: in kind 1 in the full way, which leaves what a certificate is written
+ * from, and in other kinds in either. */
 static void try_solve(struct draw *draw, uint64_t number) {
-    struct plain_room lengths = room_of(&job);
+    enum plain_way way = job.kind == KIND_ONCE || number % 2 == 0 ? FULL_WAY : LIGHT_WAY;
+    struct plain_room lengths = room_of(&job, way);
     lengths.cells += drawn(draw, 0, 5);
     lengths.words += drawn(draw, 0, 2);
     lengths.picks += drawn(draw, 0, 3);
-    best = expected_of(&bytes, &lengths);
-    solve(&solved, &bytes, &lengths, number);
+    best = expected_of(&bytes, way, &lengths);
+    solve(&solved, &bytes, way, &lengths, number);
     answers(&solved, &bytes, best);
 }
 

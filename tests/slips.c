@@ -8,29 +8,46 @@
 
 enum { CELLS = 6 }; /* as many as any of them needs, or more */
 
-/* A job of one label of weight 1, on these cells and one pick, of which so many are lent; and what comes of it. */
+/* A job of one label of weight 1, in a way, on these cells, a word that holds 77 and one pick, of which so many are lent; and what comes of
+ * it. */
 struct call {
     uint32_t slip, kind, value, budget;
-    uint32_t cells[CELLS], cells_lent, pick, picks_lent;
-    uint32_t refused, first, second, cells_after[CELLS], pick_after;
+    enum plain_way way;
+    uint32_t cells[CELLS], cells_lent, words_lent, pick, picks_lent;
+    uint32_t refused, first, second, cells_after[CELLS], word_after, pick_after;
 };
 
 static const struct call calls[] = {
-    {.slip = 2, .kind = KIND_ONCE, .value = 3, .budget = 2,
-     .cells = {0, 9, 18, 0, 0, 0}, .cells_lent = CELLS, .pick = 77, .picks_lent = 1,
-     .first = 3, .second = 1, .cells_after = {0, 0, 0, 0, 3, 3}, .pick_after = 1},
-    {.slip = 3, .kind = KIND_ONCE, .value = 3, .budget = 1,
-     .cells = {0, 0, 0, 9, 0, 9}, .cells_lent = CELLS, .pick = 77, .picks_lent = 1,
-     .first = 3, .second = 1, .cells_after = {0, 0, 0, 3, 0, 9}, .pick_after = 1},
+    {.slip = 2, .kind = KIND_ONCE, .value = 3, .budget = 2, .way = FULL_WAY,
+     .cells = {0, 9, 18, 0, 0, 0}, .cells_lent = CELLS, .words_lent = 1, .pick = 77, .picks_lent = 1,
+     .first = 3, .second = 1, .cells_after = {0, 0, 0, 0, 3, 3}, .word_after = 77, .pick_after = 1},
+    {.slip = 2, .kind = KIND_ONCE, .value = 3, .budget = 2, .way = LIGHT_WAY, /* bits 1 and 2 are set */
+     .cells = {0, 9, 18, 0, 0, 0}, .cells_lent = CELLS, .words_lent = 1, .pick = 77, .picks_lent = 1,
+     .first = 3, .second = 1, .cells_after = {0, 3, 3, 0, 0, 0}, .word_after = 6, .pick_after = 1},
+    {.slip = 3, .kind = KIND_ONCE, .value = 3, .budget = 1, .way = FULL_WAY,
+     .cells = {0, 0, 0, 9, 0, 9}, .cells_lent = CELLS, .words_lent = 1, .pick = 77, .picks_lent = 1,
+     .first = 3, .second = 1, .cells_after = {0, 0, 0, 3, 0, 9}, .word_after = 77, .pick_after = 1},
+    {.slip = 3, .kind = KIND_ONCE, .value = 3, .budget = 1, .way = LIGHT_WAY,
+     .cells = {0, 0, 0, 9, 0, 9}, .cells_lent = CELLS, .words_lent = 1, .pick = 77, .picks_lent = 1,
+     .first = 3, .second = 1, .cells_after = {0, 3, 0, 9, 0, 9}, .word_after = 2, .pick_after = 1},
     {.slip = 16, .kind = KIND_SHARES, .budget = 2,
-     .cells = {7, 7, 7, 7, 7, 7}, .cells_lent = CELLS, .pick = 77, .picks_lent = 1,
-     .cells_after = {7, 7, 7, 7, 7, 7}, .pick_after = 2},
-    {.slip = 17, .kind = KIND_ONCE, .value = 3, .budget = 1,
-     .cells = {7, 7, 7, 77, 7, 7}, .cells_lent = 3, .pick = 77, .picks_lent = 1,
-     .refused = 6, .cells_after = {7, 7, 7, 77, 7, 7}, .pick_after = 77},
-    {.slip = 17, .kind = KIND_ONCE, .value = 3, .budget = 1,
-     .cells = {7, 7, 7, 7, 7, 7}, .cells_lent = 4, .pick = 77, .picks_lent = 0,
-     .refused = 6, .cells_after = {7, 7, 7, 7, 7, 7}, .pick_after = 77},
+     .cells = {7, 7, 7, 7, 7, 7}, .cells_lent = CELLS, .words_lent = 1, .pick = 77, .picks_lent = 1,
+     .cells_after = {7, 7, 7, 7, 7, 7}, .word_after = 77, .pick_after = 2},
+    {.slip = 17, .kind = KIND_ONCE, .value = 3, .budget = 1, .way = FULL_WAY,
+     .cells = {7, 7, 7, 77, 7, 7}, .cells_lent = 3, .words_lent = 1, .pick = 77, .picks_lent = 1,
+     .refused = 6, .cells_after = {7, 7, 7, 77, 7, 7}, .word_after = 77, .pick_after = 77},
+    {.slip = 17, .kind = KIND_ONCE, .value = 3, .budget = 1, .way = FULL_WAY,
+     .cells = {7, 7, 7, 7, 7, 7}, .cells_lent = 4, .words_lent = 1, .pick = 77, .picks_lent = 0,
+     .refused = 6, .cells_after = {7, 7, 7, 7, 7, 7}, .word_after = 77, .pick_after = 77},
+    {.slip = 17, .kind = KIND_ONCE, .value = 3, .budget = 1, .way = LIGHT_WAY,
+     .cells = {7, 77, 7, 7, 7, 7}, .cells_lent = 1, .words_lent = 1, .pick = 77, .picks_lent = 1,
+     .refused = 6, .cells_after = {7, 77, 7, 7, 7, 7}, .word_after = 77, .pick_after = 77},
+    {.slip = 17, .kind = KIND_ONCE, .value = 3, .budget = 1, .way = LIGHT_WAY,
+     .cells = {7, 7, 7, 7, 7, 7}, .cells_lent = 2, .words_lent = 0, .pick = 77, .picks_lent = 1,
+     .refused = 6, .cells_after = {7, 7, 7, 7, 7, 7}, .word_after = 77, .pick_after = 77},
+    {.slip = 17, .kind = KIND_ONCE, .value = 3, .budget = 1, .way = LIGHT_WAY,
+     .cells = {7, 7, 7, 7, 7, 7}, .cells_lent = 2, .words_lent = 1, .pick = 77, .picks_lent = 0,
+     .refused = 6, .cells_after = {7, 7, 7, 7, 7, 7}, .word_after = 77, .pick_after = 77},
 };
 
 /* A certificate for a job of one label worth 3, and what is said of it. */
@@ -58,17 +75,17 @@ static void one_label(struct bytes *bytes, uint32_t kind, uint32_t value, uint32
 
 static void try_call(const struct call *call) {
     static struct bytes bytes;
+    struct plain_room lengths = {call->cells_lent, call->words_lent, call->picks_lent};
     uint32_t cells[CELLS], pick = call->pick, i;
     uint64_t word = 77, first = 77, second = 77;
     about("slip", call->slip);
     memcpy(cells, call->cells, sizeof cells);
     one_label(&bytes, call->kind, call->value, call->budget);
-    same("the refusal", call->refused,
-         quabnester_solve(bytes.at, bytes.length, cells, call->cells_lent, &word, 1, &pick, call->picks_lent, &first, &second));
+    same("the refusal", call->refused, solve_in(call->way, bytes.at, bytes.length, &lengths, cells, &word, &pick, &first, &second));
     same("first", call->first, first);
     same("second", call->second, second);
     same("the pick", call->pick_after, pick);
-    same("the word", 77, word);
+    same("the word", call->word_after, word);
     for (i = 0; i < CELLS; i++) same_at("cell", i, call->cells_after[i], cells[i]);
 }
 

@@ -1,4 +1,5 @@
-/* The solver's refusals: each alone, all that can come together, in order; each bound; and 7 and 8, which leave the table complete. */
+/* The solver's refusals, in both ways: each alone, all that can come together, in order; each bound; and 7 and 8, which leave the table
+ * complete. */
 #include "calls.h"
 #include "parts.h"
 #include "tell.h"
@@ -6,12 +7,13 @@
 
 static unsigned long tried, by_number[LAST_SOLVER_REFUSAL + 1];
 
-/* A job with slices of these lengths is refused with this number, or with 0 it isn't, and all is as the second program has it. */
-static const struct plain_answer *is_refused(const struct bytes *job, const struct plain_room *lengths, uint32_t number) {
+/* In a way, a job with slices of these lengths is refused with this number, or with 0 it isn't, and all is as the second program has it. */
+static const struct plain_answer *is_refused(const struct bytes *job, enum plain_way way, const struct plain_room *lengths,
+                                             uint32_t number) {
     const struct plain_answer *answer;
     about("solve", tried++);
     by_number[number]++;
-    answer = try_job(job, lengths, tried);
+    answer = try_job(job, way, lengths, tried);
     same("the second program", number, answer->refused);
     return answer;
 }
@@ -58,14 +60,14 @@ static void spoil(struct job *job, uint32_t number) {
     }
 }
 
-/* The job with the faults of a mask; its slices are as long as it needs or, by 6, the last that it needs is one too short. */
-static void try_faults(uint32_t kind, unsigned mask) {
+/* The job with the faults of a mask; its slices are as long as it needs in a way or, by 6, the last that it needs is one too short. */
+static void try_faults(uint32_t kind, enum plain_way way, unsigned mask) {
     static struct job job;
     static struct bytes bytes;
     struct plain_room lengths;
     uint32_t number, lowest = 0;
     base_job(kind, &job);
-    lengths = room_of(&job);
+    lengths = room_of(&job, way);
     for (number = LAST_SOLVER_REFUSAL; number > 0; number--) {
         if (!has(mask, number)) continue;
         lowest = number;
@@ -75,24 +77,32 @@ static void try_faults(uint32_t kind, unsigned mask) {
     if (has(mask, 2)) job.kind = has(mask, 3) ? 0 : LAST_KIND + 1;
     put_job(&bytes, &job);
     if (has(mask, 1)) bytes.at[bytes.length++] = 0;
-    is_refused(&bytes, &lengths, lowest);
+    is_refused(&bytes, way, &lengths, lowest);
 }
 
 /* ---- each bound */
 
-/* A job with as many slices' places as it needs, and then with one too few of each that it needs: 6 goes before 7. */
+/* A job with as many slices' places as it needs in a way, and then with one too few of each that it needs: 6 goes before 7. */
+static void try_room(const struct bytes *bytes, enum plain_way way, const struct plain_room *room, uint32_t number) {
+    struct plain_room less;
+    is_refused(bytes, way, room, number);
+    if (number != 0 && number != 7) return;
+    less = *room;
+    if (less.cells-- > 0) is_refused(bytes, way, &less, 6);
+    less = *room;
+    if (less.words-- > 0) is_refused(bytes, way, &less, 6);
+    less = *room;
+    if (less.picks-- > 0) is_refused(bytes, way, &less, 6);
+}
+
 static void try_bound(const struct job *job, uint32_t number) {
     static struct bytes bytes;
-    struct plain_room room = room_of(job), less;
+    int way;
     put_job(&bytes, job);
-    is_refused(&bytes, &room, number);
-    if (number != 0 && number != 7) return;
-    less = room;
-    if (less.cells-- > 0) is_refused(&bytes, &less, 6);
-    less = room;
-    if (less.words-- > 0) is_refused(&bytes, &less, 6);
-    less = room;
-    if (less.picks-- > 0) is_refused(&bytes, &less, 6);
+    for (way = 0; way < PLAIN_WAYS; way++) {
+        struct plain_room room = room_of(job, way);
+        try_room(&bytes, way, &room, number);
+    }
 }
 
 /* n labels of kind K and budget C, all numbers as they have to be. */
@@ -173,7 +183,7 @@ static void try_blocks(uint32_t kind, uint32_t budget, uint32_t n, const uint32_
     static struct bytes bytes;
     set_job(&job, kind, budget, n, sizes, NULL, NULL);
     put_job(&bytes, &job);
-    same("what is counted", first, is_refused(&bytes, &lengths, number)->first);
+    same("what is counted", first, is_refused(&bytes, LIGHT_WAY, &lengths, number)->first);
 }
 
 /* Eleven even sizes, and ten odd ones of which each way to an odd C takes one: 2^64 - 2 ways, and 2^64 - 1 with another last size. */
@@ -201,7 +211,9 @@ void part_solve(void) {
     unsigned mask;
     for (kind = 1; kind <= LAST_KIND; kind++) {
         for (mask = 0; mask < 1u << (LAST_SOLVER_REFUSAL + 1); mask++) {
-            if (are_faults_of(kind, mask)) try_faults(kind, mask);
+            if (!are_faults_of(kind, mask)) continue;
+            try_faults(kind, LIGHT_WAY, mask);
+            try_faults(kind, FULL_WAY, mask);
         }
         try_sizes(kind);
         try_numbers(kind);

@@ -23,15 +23,16 @@ static void try_case(const struct tie_case *given) {
     static struct job job;
     static struct bytes bytes;
     const struct plain_answer *answer;
-    struct plain_room lengths;
+    struct plain_room lengths[PLAIN_WAYS];
     struct plain_job read;
     uint32_t i;
     int other;
     set_job(&job, given->kind, given->budget, given->n, given->weights, given->values, given->copies);
     put_job(&bytes, &job);
     read_back(&bytes, &read);
-    lengths = plain_room(&read);
-    answer = try_job(&bytes, &lengths, given->kind);
+    lengths[LIGHT_WAY] = plain_room(&read, LIGHT_WAY);
+    lengths[FULL_WAY] = plain_room(&read, FULL_WAY);
+    answer = try_both_ways(&bytes, lengths, given->kind).of[LIGHT_WAY];
     holds("that there is a tie", answer->as_good > 1);
     for (i = 0; i < given->n; i++) same_at("the second program's pick", i, given->picks[i], answer->picks[i]);
     for (other = 1; other < RULES && read.kind != KIND_SHARES; other++) {

@@ -19,9 +19,9 @@ static void try_multiples(uint32_t unit, uint32_t budget) {
     about("totals", tried++);
     set_job(&job, KIND_SUMS, budget, 0, NULL, NULL, NULL);
     for (weight = unit; weight <= budget; weight *= 2) job.weights.at[job.weights.count++] = weight;
-    lengths = room_of(&job);
+    lengths = room_of(&job, LIGHT_WAY);
     put_job(&bytes, &job);
-    answer = try_job(&bytes, &lengths, tried);
+    answer = try_job(&bytes, LIGHT_WAY, &lengths, tried);
     same("the second program's totals", budget / unit + 1, answer->second);
     for (m = 0; m < budget / WORD_BITS; m++) holds("that a word has a total", answer->words[m] != 0);
 }

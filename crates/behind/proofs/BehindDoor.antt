@@ -12,12 +12,12 @@ use Rattle.meaning.specs.Lists.{at}
 use Rattle.meaning.specs.Slices.{Holds}
 use Rattle.meaning.specs.Cells.{LeastShown, noWay}
 use Rattle.meaning.specs.Job.{Job, labels-behind, labels}
-use Rattle.meaning.specs.Lent.{lentOf, roomFor, roomOf}
+use Rattle.meaning.specs.Lent.{lentOf, roomBy, roomOf}
 use Rattle.meaning.specs.Bounds.{mostLabels}
 use Rattle.meaning.specs.Refusals.{rulesOf, weightRules}
 use Rattle.meaning.specs.Behind.{ReachedBy, FirstRow, Behind}
 use Rattle.meaning.specs.Answers.{answerNumbers}
-use Rattle.meaning.specs.Solved.{Weighed, Gives, TableHolds, Unrefused, a-sum, no-such-sum}
+use Rattle.meaning.specs.Solved.{Weighed, Gives, TableBy, Unrefused, a-sum, no-such-sum}
 use Rattle.meaning.specs.SolvedIn.{SolvedInCells}
 use Rattle.meaning.proofs.Shown.{marked-none}
 use Rattle.meaning.proofs.SolvedIn.{kept, holds-front, solved-in-cells}
@@ -32,7 +32,7 @@ pub record Kept (j : Job) (cells picks : List ℕ) : Type 0 where
   pub picks-room : labels j ≤ length picks
 
 pub keeps : (j : Job) (cells picks : List ℕ) → Unrefused labels-behind j (lentOf cells [] picks) → Kept j cells picks
-unfolding roomFor roomOf lentOf rulesOf weightRules
+unfolding roomBy roomOf lentOf rulesOf weightRules
 keeps j cells picks ok =
     let job = kept labels-behind j (lentOf cells [] picks) ok in
     record { few = job .few; cells-room = job .cells-room; picks-room = job .picks-room }
@@ -53,7 +53,7 @@ module _ (j : Job) (cells picks row : List ℕ) (ok : Unrefused labels-behind j 
   -- the table is complete, whatever is written over the picks
   leaves : (a : Answer) (found picks-after : List ℕ) → Gives labels-behind j (answerNumbers a) found → Holds found picks picks-after
       → SolvedInCells j cells picks a (row ++ drop (j .budget + 1) cells) picks-after
-  unfolding TableHolds FirstRow roomFor roomOf lentOf
+  unfolding TableBy FirstRow roomBy roomOf lentOf
   leaves a found picks-after gives in-picks =
       solved-in-cells labels-behind j a cells picks (row ++ drop (j .budget + 1) cells) picks-after row found ok refl gives shows long
       (holds-front row cells (j .budget + 1) long) in-picks

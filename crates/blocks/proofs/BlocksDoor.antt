@@ -12,12 +12,12 @@ use Rattle.meaning.specs.Lists.{at, sum, if}
 use Rattle.meaning.specs.Slices.{Holds}
 use Rattle.meaning.specs.Cells.{LeastShown, noWay}
 use Rattle.meaning.specs.Job.{Job, Kind, fewest-blocks, block-ways, labels, jobOf}
-use Rattle.meaning.specs.Lent.{Lent, lentOf, roomFor, roomOf}
+use Rattle.meaning.specs.Lent.{Lent, lentOf, roomBy, roomOf}
 use Rattle.meaning.specs.Bounds.{mostBudget}
 use Rattle.meaning.specs.Refusals.{rulesOf, weightRules}
 use Rattle.meaning.specs.Blocks.{Makes, MadeOf, Laid, FewestRow, WaysShown, WaysRow, tooMany}
 use Rattle.meaning.specs.Answers.{answerNumbers}
-use Rattle.meaning.specs.Solved.{Built, Gives, TableHolds, Unrefused, a-sum, no-such-sum, waysAnswer}
+use Rattle.meaning.specs.Solved.{Built, Gives, TableBy, Unrefused, a-sum, no-such-sum, waysAnswer}
 use Rattle.meaning.specs.SolvedIn.{SolvedInCells, SolvedInWords}
 use Rattle.meaning.proofs.Valid.{size-rule}
 use Rattle.meaning.proofs.Making.{few-blocks}
@@ -56,7 +56,7 @@ module _ (j : Job) (cells picks row : List ℕ) (ok : Unrefused fewest-blocks j 
   -- the table is complete, whatever is written over the picks
   leaves : (a : Answer) (found picks-after : List ℕ) → Gives fewest-blocks j (answerNumbers a) found → Holds found picks picks-after
       → SolvedInCells j cells picks a (row ++ drop (j .budget + 1) cells) picks-after
-  unfolding TableHolds FewestRow roomFor roomOf lentOf
+  unfolding TableBy FewestRow roomBy roomOf lentOf
   leaves a found picks-after gives in-picks =
       solved-in-cells fewest-blocks j a cells picks (row ++ drop (j .budget + 1) cells) picks-after row found ok refl gives shows long
       (holds-front row cells (j .budget + 1) long) in-picks
@@ -94,7 +94,7 @@ module _ (j : Job) (words row : List ℕ) (ok : Unrefused block-ways j (lentOf [
   -- the table is complete, and what is answered goes by the ways for the budget alone
   leaves-ways : (a : Answer) → ((many : ℕ) → at row (j .budget) ≡ min many tooMany → a ≡ waysAnswer many)
       → SolvedInWords j words a (row ++ drop (j .budget + 1) words)
-  unfolding Gives TableHolds WaysRow roomFor roomOf lentOf
+  unfolding Gives TableBy WaysRow roomBy roomOf lentOf
   leaves-ways a right =
       let d = ways-shown (j .budget) (omega arith) in
       solved-in-words block-ways j a words (row ++ drop (j .budget + 1) words) row ok refl refl
@@ -120,7 +120,7 @@ module _ (j : Job) (words row : List ℕ) (ok : Unrefused block-ways j (lentOf [
 -- a job of kind 5 asks for blocks
 pub asks-blocks : (budget kind : ℕ) (ws cells words picks : List ℕ) → kind ≡ 5 → LetIn (jobOf kind (budget ∷ []) ws [] []) (lentOf cells words picks)
     → Unrefused fewest-blocks (jobOf 5 (budget ∷ []) ws [] []) (lentOf cells [] picks)
-unfolding jobOf numberOf roomFor roomOf lentOf
+unfolding jobOf numberOf roomBy roomOf lentOf
 asks-blocks budget kind ws cells words picks e (blocks-asked ok) =
     subst (λ (k : ℕ). Unrefused fewest-blocks (jobOf k (budget ∷ []) ws [] []) (lentOf cells [] picks)) e
     (still-unrefused fewest-blocks (jobOf kind (budget ∷ []) ws [] []) (lentOf cells words picks) (lentOf cells [] picks)
@@ -131,7 +131,7 @@ asks-blocks budget kind ws cells words picks e (ways-asked ok) = absurd (omega (
 pub asks-ways : (budget kind : ℕ) (ws cells words picks : List ℕ) → ¬ (kind ≡ 5)
     → LetIn (jobOf kind (budget ∷ []) ws [] []) (lentOf cells words picks)
     → (kind ≡ 6) × Unrefused block-ways (jobOf 6 (budget ∷ []) ws [] []) (lentOf [] words [])
-unfolding jobOf numberOf roomFor roomOf lentOf
+unfolding jobOf numberOf roomBy roomOf lentOf
 asks-ways budget kind ws cells words picks other (blocks-asked ok) = absurd (other (kind-number kind fewest-blocks (ok .of-kind)))
 asks-ways budget kind ws cells words picks other (ways-asked ok) =
     let six : kind ≡ 6 = kind-number kind block-ways (ok .of-kind) in (

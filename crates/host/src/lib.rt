@@ -6,7 +6,7 @@ ghost use mathlib.Core.Path.{_≡_};
 ghost use Rattle.meaning.specs.Lent.{lentOf};
 ghost use Rattle.meaning.specs.Answers.{answerNumbers};
 ghost use Rattle.meaning.specs.Certificates.{verdictOf};
-ghost use Rattle.meaning.specs.Host.{refusalNumber, valueOrPlace, firstNumber, secondNumber, SolvedHost, WritesHost};
+ghost use Rattle.meaning.specs.Host.{refusalNumber, valueOrPlace, firstNumber, secondNumber, SolvedHost, SolvedFullHost, WritesHost};
 
 // ---- the numbers of a verdict and of an answer
 
@@ -66,6 +66,16 @@ fn second_number(answer: Answer) -> u64
     }
 }
 
+// Gives an answer as numbers: 0 or the refusal number, and two in first and second.
+fn give(answer: Answer, first: &mut u64, second: &mut u64) -> u32
+    ensures { λ r. ⌜ (r ≡ answerNumbers answer .refusal) × ((now (first .exit) ≡ firstNumber (answerNumbers answer))
+        × (now (second .exit) ≡ secondNumber (answerNumbers answer))) ⌝ }
+{
+    *first = first_number(answer);
+    *second = second_number(answer);
+    answer_refusal(answer)
+}
+
 // ---- the entries
 
 // 0 for accepted, or the refusal number.
@@ -98,9 +108,24 @@ pub extern "C" fn quabnester_solve(
         r (now (first .exit)) (now (second .exit)) (lentOf (now (cells .exit)) (now (words .exit)) (now (picks .exit))) ⌝ }
 {
     let answer = planner::solve_bytes(job, cells, words, picks);
-    *first = first_number(answer);
-    *second = second_number(answer);
-    answer_refusal(answer)
+    give(answer, first, second)
+}
+
+// The same, kind 1 with the full table.
+#[no_mangle]
+pub extern "C" fn quabnester_solve_full(
+    job: &[u8],
+    cells: &mut [u32],
+    words: &mut [u64],
+    picks: &mut [u32],
+    first: &mut u64,
+    second: &mut u64,
+) -> u32
+    ensures { λ r. ⌜ SolvedFullHost (now (job .entry)) (lentOf (now (cells .entry)) (now (words .entry)) (now (picks .entry)))
+        r (now (first .exit)) (now (second .exit)) (lentOf (now (cells .exit)) (now (words .exit)) (now (picks .exit))) ⌝ }
+{
+    let answer = planner::solve_full_bytes(job, cells, words, picks);
+    give(answer, first, second)
 }
 
 // 0 or the refusal number; how many bytes were written in `written`, 0 on a refusal.

@@ -1,27 +1,23 @@
 -- Kinds 1 and 2: the table as it is filled holds the best values, and the trace back through it finds the picks.
 -- Assumes nothing.
-use mathlib.Core.Path.{_≡_, refl, sym, _∙_, subst}
-use Prim.Native.Nat.{ℕ, zero, suc, _+_, _-_, _*_, _≤_, _<_}
+use mathlib.Core.Path.{_≡_, sym, _∙_}
+use Prim.Native.Nat.{ℕ, zero, suc, _+_, _*_, _≤_, _<_}
 use native.Mathlib.Nat.{suc-mul, mul-le-mul-right, zero-mul}
 use native.Mathlib.Numerals.{add-one}
 use native.Mathlib.Omega.{arith}
-use mathlib.Core.List.{List, [], _∷_, _++_, append-nil}
-use lib.ListN.{length, drop, set, length-append}
-use lib.Seq.{append-snoc}
+use mathlib.Core.List.{List, _++_}
+use lib.ListN.{length}
 use Rattle.meaning.specs.Lists.{at, total}
 use Rattle.meaning.specs.Job.{Job, Knapsack, labels}
 use Rattle.meaning.specs.Orders.{last-least}
 use Rattle.meaning.specs.Bounds.{mostValue}
 use Rattle.meaning.specs.Knapsacks.{MayPick, BestValue, BestPicks, orderOf}
-use Rattle.meaning.proofs.Totals.{total-with}
-use Rattle.meaning.proofs.OneOfEach.{best-value-unique}
-use Rattle.meaning.proofs.Steps.{best-none}
-use Rattle.meaning.proofs.Trace.{trace-step, picks-worth}
-use Rattle.rows.specs.Rows.{Worth, SomeCount, GreatestRow, Least, Stored, NextRow, Capped}
-use Rattle.rows.proofs.Stores.{by, stored-first}
-use Rattle.rows.proofs.Counts.{greatest-same, greatest-may, greatest-capped, greatest-best}
+use Rattle.rows.specs.Rows.{SomeCount, GreatestRow, Stored, NextRow, Capped}
+use Rattle.rows.proofs.Stores.{by}
+use Rattle.rows.proofs.Counts.{greatest-same, greatest-may, greatest-capped}
 use Rattle.knapsack.specs.Tables.{Bounded, rowOf, Filled}
-use Rattle.knapsack.specs.Traces.{TraceBack, begin, back}
+use Rattle.knapsack.specs.Traces.{TraceBack}
+use Rattle.knapsack.proofs.AnyRows.{rows-best, count-back, picks-back, weight-back}
 
 -- ---- the table as it is filled
 
@@ -74,23 +70,6 @@ module _ (ws vs : List ℕ) (limit : ℕ → ℕ) (width : ℕ) where
       greatest-capped (λ x. x ≤ limit i) (rowOf t width i) (rowOf t width (suc i)) (at ws i) (at vs i) width
       (b .heavy i (omega arith)) (b .cheap i (omega arith)) (filled-capped b n t few d i (omega arith)) (d .next i h) c l
 
--- ---- the trace back as it goes
-
--- one label more
-pub trace-more : (row : ℕ → ℕ → ℕ) (ws vs : List ℕ) (n budget i c x : ℕ) (picks : List ℕ) → 0 < i → i ≤ length picks
-    → TraceBack row ws vs n budget i c (drop i picks) → Least (row (i - 1)) (at ws (i - 1)) (at vs (i - 1)) c (row (suc (i - 1)) c) x
-    → TraceBack row ws vs n budget (i - 1) (c - at ws (i - 1) * x) (drop (i - 1) (set picks (i - 1) x))
-trace-more row ws vs n budget i c x picks pos inside trace l =
-    let here : i ≡ suc (i - 1) = omega arith in
-    let before = subst (λ (m : ℕ). TraceBack row ws vs n budget m c (drop m picks)) here trace in
-    rw (stored-first picks (i - 1) x (omega arith)) (back {rest = c - at ws (i - 1) * x} before l (omega (arith, l .made .spent)))
-
--- it has come to a row of the table, and no more is left than there was
-pub trace-within : {row : ℕ → ℕ → ℕ} {ws vs : List ℕ} {n budget i c : ℕ} {found : List ℕ} → TraceBack row ws vs n budget i c found
-    → (i ≤ n) × (c ≤ budget)
-trace-within begin = (omega arith, omega arith)
-trace-within (back trace l e) = let (a, b) = trace-within trace in (omega arith, omega arith)
-
 -- ---- what it holds
 
 -- where the limits are those of a knapsack
@@ -111,56 +90,19 @@ module _ (k : Knapsack) (j : Job) (limit : ℕ → ℕ) (width : ℕ) (cells : L
 
   -- each cell is the best value of its labels and its budget
   pub row-best : (i c : ℕ) → i ≤ labels j → c < width → BestValue k j i c (row i c)
-  row-best zero c h l = rw (d .first c l) (best-none k j c)
-  row-best (suc i) c h l = greatest-best k j i width (row i) (row (suc i)) (λ b m. row-best i b (omega arith) m) (row-greatest i h) c l
+  row-best = rows-best k j width row (d .first) row-greatest
 
   -- some count leads back from each cell
   pub some-back : (i c : ℕ) → i < labels j → c < width → SomeCount (row i) (at (j .weights) i) (at (j .values) i) c (row (suc i) c)
-  unfolding GreatestRow
-  some-back i c h l = let t = row-greatest i h c l in record { count = t .count; made = t .made }
+  some-back = count-back k j width row (d .first) row-greatest
 
-  -- ---- the trace back
-
-  module _ (least : orderOf k ≡ last-least) (budget : ℕ) (wide : budget < width) where
-    abbrev Trace : ℕ → ℕ → List ℕ → Type 0
-    Trace = TraceBack row (j .weights) (j .values) (labels j) budget
-
-    -- one label: the least count that its row leaves is the chosen one
-    one-back : (i c x rest : ℕ) (p : List ℕ) → i < labels j → c ≤ budget
-        → Least (row i) (at (j .weights) i) (at (j .values) i) c (row (suc i) c) x → rest + at (j .weights) i * x ≡ c
-        → BestPicks k j i rest p → BestPicks k j (suc i) c (p ++ (x ∷ []))
-    unfolding GreatestRow BestPicks
-    one-back i c x rest p h hc l e best =
-        let w = at (j .weights) i in
-        let v = at (j .values) i in
-        let t = row-greatest i h c (omega arith) in
-        let here : c - w * x ≡ rest = omega arith in
-        let left : l .made .left ≡ rest = omega (arith, l .made .spent) in
-        let no-more : x ≤ t .count = by (t .count) x (λ u. absurd (l .fewer (t .count) u (t .made))) (λ u. u) in
-        let worth : row i rest ≡ total (j .values) p = picks-worth k j i rest p best (row-best i rest (omega arith) (omega arith)) in
-        trace-step k least j i c (row (suc i) c) x p (row-best (suc i) c h (omega arith))
-        (may i x h (omega (arith, few i (t .count) h (t .may)))) (omega arith) (rw here best)
-        (l .made .worth ∙ rw (left, ← worth))
-        (λ y u may-y light r br.
-        let is : r ≡ row i (c - w * y) = best-value-unique br (row-best i (c - w * y) (omega arith) (omega arith)) in
-        let made : Worth (row i) w v c y (row i (c - w * y) + v * y) = record { left = c - w * y; spent = omega arith; worth = refl } in
-        by (r + v * y) (row (suc i) c) (λ lt. lt)
-        (λ ge.
-        let same : row i (c - w * y) + v * y ≡ row (suc i) c = omega (arith, t .above y (row i (c - w * y) + v * y) may-y made) in
-        absurd (l .fewer y u (rw same at made))))
-        (λ y light. (row i (c - w * y), row-best i (c - w * y) (omega arith) (omega arith)))
-
-    -- the chosen picks of the labels to come, and after them those found, are the chosen picks of all
-    pub back-picks : {i c : ℕ} {found : List ℕ} → Trace i c found → (p : List ℕ) → BestPicks k j i c p → BestPicks k j (labels j) budget (p ++ found)
-    back-picks begin p best = rw append-nil best
-    back-picks (back {i} {c} {x} {rest} {found} trace l e) p best =
-        let (h, hc) = trace-within trace in
-        rw (← append-snoc p x found) (back-picks trace (p ++ (x ∷ [])) (one-back i c x rest p h hc l e best))
+  -- the trace back finds the chosen picks
+  pub back-picks : orderOf k ≡ last-least → (budget : ℕ) → budget < width → {i c : ℕ} {found : List ℕ}
+      → TraceBack row (j .weights) (j .values) (labels j) budget i c found → (p : List ℕ) → BestPicks k j i c p
+      → BestPicks k j (labels j) budget (p ++ found)
+  back-picks least budget wide = picks-back k j width row (d .first) row-greatest least budget wide
 
   -- what they weigh, and what is left of the budget
   pub back-weight : {budget i c : ℕ} {found : List ℕ} → TraceBack row (j .weights) (j .values) (labels j) budget i c found
       → (p : List ℕ) → length p ≡ i → total (j .weights) (p ++ found) + c ≡ total (j .weights) p + budget
-  back-weight begin p long = rw append-nil
-  back-weight (back {i} {c} {x} {rest} {found} trace l e) p long =
-      rw (← append-snoc p x found)
-      (omega (arith, back-weight trace (p ++ (x ∷ [])) (length-append p (x ∷ []) ∙ omega arith), total-with (j .weights) p x i long))
+  back-weight = weight-back row j

@@ -1,21 +1,23 @@
 -- From a job that is let in to what the functions ask, and from what they leave to what `meaning` promises.
 -- Assumes nothing.
-use mathlib.Core.Path.{_≡_, refl, sym, _∙_, subst}
+use mathlib.Core.Path.{_≡_, refl, sym, ap, _∙_, subst}
 use Prim.Native.Nat.{ℕ, _+_, _-_, _*_, _≤_, _<_}
 use native.Mathlib.Omega.{arith}
 use mathlib.Core.List.{List, [], _∷_, _++_}
 use lib.ListN.{length, drop}
 use Rattle.meaning.specs.declared.Answer.the-variants as Says
+use Rattle.meaning.specs.declared.Way.the-variants.{Full}
 use Rattle.meaning.specs.Lists.{at, total, if}
 use Rattle.meaning.specs.Slices.{Holds}
 use Rattle.meaning.specs.Job.{Job, Knapsack, once, limited, free, packing, labels, jobOf}
-use Rattle.meaning.specs.Lent.{lentOf, roomFor, roomOf, cellCount}
+use Rattle.meaning.specs.Lent.{Lent, Room, lentOf, roomBy, onceRoom, roomOf, cellCount}
 use Rattle.meaning.specs.Refusals.{hasCopies}
 use Rattle.meaning.specs.Orders.{last-least}
 use Rattle.meaning.specs.Knapsacks.{MayPick, BestValue, BestPicks, orderOf, ValueTable, FullTable, OneRow, cellNumber}
-use Rattle.meaning.specs.Solved.{Gives, TableHolds, Unrefused}
-use Rattle.meaning.specs.SolvedIn.{SolvedInCells}
+use Rattle.meaning.specs.Solved.{Gives, UnrefusedBy}
+use Rattle.meaning.specs.SolvedIn.{SolvedInCellsBy}
 use Rattle.meaning.proofs.Valid.{Valid, is-cleared, is-valid, weight-rule, value-rule}
+use Rattle.meaning.proofs.EachKind.{full-claims}
 use Rattle.meaning.proofs.Laws.{numberOf, kind-number}
 use Rattle.meaning.proofs.SolvedIn.{kept, holds-front, solved-in-cells}
 use Rattle.meaning.proofs.Totals.{total-none, empty-of}
@@ -31,21 +33,23 @@ use Rattle.knapsack.proofs.FreeRow.{climbed-best, along-picks, along-we
 -- a knapsack that keeps the rules, with room in cells and picks
 pub record Ready (k : Knapsack) (j : Job) (cells picks : List ℕ) : Type 0 where
   pub valid : Valid k j
-  pub cells-room : roomFor (packing k) j .cells ≤ length cells
+  pub cells-room : roomBy Full (packing k) j .cells ≤ length cells
   pub picks-room : labels j ≤ length picks
 
--- picks need n places in each of the three
-picks-needed : (k : Knapsack) (j : Job) → roomFor (packing k) j .picks ≡ labels j
-unfolding roomFor roomOf
-picks-needed once j = refl
-picks-needed limited j = refl
-picks-needed free j = refl
+-- picks need n places in each of the three, and words none
+picks-needed : (k : Knapsack) (j : Job) → roomBy Full (packing k) j .picks ≡ labels j
+unfolding roomOf
+picks-needed k j = ap (λ (r : Room). r .picks) (full-claims k j .room)
 
-pub ready : (k : Knapsack) (j : Job) (cells picks : List ℕ) → Unrefused (packing k) j (lentOf cells [] picks) → Ready k j cells picks
+pub words-needed : (k : Knapsack) (j : Job) → roomBy Full (packing k) j .words ≡ 0
+unfolding roomOf
+words-needed k j = ap (λ (r : Room). r .words) (full-claims k j .room)
+
+pub ready : (k : Knapsack) (j : Job) (cells picks : List ℕ) → UnrefusedBy Full (packing k) j (lentOf cells [] picks) → Ready k j cells picks
 unfolding lentOf
 ready k j cells picks a =
     let lent = lentOf cells [] picks in
-    let c = is-cleared (roomFor (packing k) j) (packing k) j lent (a .no-refusal) in
+    let c = is-cleared (roomBy Full (packing k) j) (packing k) j lent (a .no-refusal) in
     let keeps = kept (packing k) j lent a in
     record { valid = is-valid k j _ (c .keeps); cells-room = keeps .cells-room; picks-room = rw (picks-needed k j) at (keeps .picks-room) }
 
@@ -85,8 +89,8 @@ limit-may once-is j i x m = m
 limit-may limited-is j i x m = m
 
 -- as many cells as the full table has
-pub full-room : {k : Knapsack} → Rowed k → (j : Job) → roomFor (packing k) j .cells ≡ cellCount j
-unfolding roomFor roomOf
+pub full-room : {k : Knapsack} → Rowed k → (j : Job) → roomBy Full (packing k) j .cells ≡ cellCount j
+unfolding roomBy onceRoom roomOf
 full-room once-is j = refl
 full-room limited-is j = refl
 
@@ -108,25 +112,20 @@ full-value limited-is j table t = t
 
 -- ---- what an answer comes to
 
-pub words-needed : (k : Knapsack) (j : Job) → 0 ≡ roomFor (packing k) j .words
-unfolding roomFor roomOf
-words-needed once j = refl
-words-needed limited j = refl
-words-needed free j = refl
-
 -- the table and the picks that were written are those of the knapsack, and the numbers are those of the picks
-packs : (k : Knapsack) (j : Job) (cells picks : List ℕ) → Unrefused (packing k) j (lentOf cells [] picks)
+packs : (k : Knapsack) (j : Job) (cells picks : List ℕ) → UnrefusedBy Full (packing k) j (lentOf cells [] picks)
     → (cells-after picks-after table found : List ℕ) (value weight : ℕ)
-    → length table ≡ roomFor (packing k) j .cells → ValueTable k j table → BestPicks k j (labels j) (j .budget) found
+    → length table ≡ roomBy Full (packing k) j .cells → ValueTable k j table → BestPicks k j (labels j) (j .budget) found
     → value ≡ total (j .values) found → weight ≡ total (j .weights) found → Holds table cells cells-after → Holds found picks picks-after
-    → SolvedInCells j cells picks (Says.Knapsack value weight) cells-after picks-after
-unfolding Gives TableHolds lentOf
+    → SolvedInCellsBy Full j cells picks (Says.Knapsack value weight) cells-after picks-after
+unfolding Gives lentOf
 packs k j cells picks a cells-after picks-after table found value weight long right chosen v w in-cells in-picks =
-    solved-in-cells (packing k) j (Says.Knapsack value weight) cells picks cells-after picks-after table found a (sym (words-needed k j))
-    (record { picked = chosen; numbers = rw (v, w) }) right long in-cells in-picks
+    solved-in-cells (packing k) j (Says.Knapsack value weight) cells picks cells-after picks-after table found a (words-needed k j)
+    (record { picked = chosen; numbers = rw (v, w) })
+    (subst (λ (holds : Lent → Type 0). holds (lentOf table [] found)) (sym (full-claims k j .table)) right) long in-cells in-picks
 
 -- kinds 1 and 2, by the table that was filled and the trace back through it
-module _ (k : Knapsack) (j : Job) (cells picks table found : List ℕ) (left : ℕ) (is : Rowed k) (a : Unrefused (packing k) j (lentOf cells [] picks))
+module _ (k : Knapsack) (j : Job) (cells picks table found : List ℕ) (left : ℕ) (is : Rowed k) (a : UnrefusedBy Full (packing k) j (lentOf cells [] picks))
     (long : length table ≡ cellCount j)
     (filled : Filled (j .weights) (j .values) (limitOf (numberOf (packing k)) (j .copies)) (j .budget + 1) (labels j) table)
     (trace : TraceBack (rowOf table (j .budget + 1)) (j .weights) (j .values) (labels j) (j .budget) 0 left found) where
@@ -143,7 +142,7 @@ module _ (k : Knapsack) (j : Job) (cells picks table found : List ℕ) (left : �
   chosen = back-picks k j limits (j .budget + 1) table few may filled (order-back is) (j .budget) (omega arith) trace [] (picks-none k j left)
 
   pub packs-full : (needed n value : ℕ) → needed ≡ cellCount j → n ≡ labels j → value ≡ at table (labels j * (j .budget + 1) + j .budget)
-      → SolvedInCells j cells picks (Says.Knapsack value (j .budget - left)) (table ++ drop needed cells) (found ++ drop n picks)
+      → SolvedInCellsBy Full j cells picks (Says.Knapsack value (j .budget - left)) (table ++ drop needed cells) (found ++ drop n picks)
   unfolding FullTable cellNumber BestPicks
   packs-full needed n value e₁ e₂ e₃ =
       let best = row-best k j limits (j .budget + 1) table few may filled in
@@ -155,15 +154,15 @@ module _ (k : Knapsack) (j : Job) (cells picks table found : List ℕ) (left : �
       (holds-front found picks n (chosen .one-of .fits .selection .one-each ∙ sym e₂))
 
 -- kind 3, by the row that was filled and the trace along the labels
-module _ (j : Job) (cells picks row found : List ℕ) (left : ℕ) (a : Unrefused (packing free) j (lentOf cells [] picks))
+module _ (j : Job) (cells picks row found : List ℕ) (left : ℕ) (a : UnrefusedBy Full (packing free) j (lentOf cells [] picks))
     (long : length row ≡ j .budget + 1) (climbed : Climbed (j .weights) (j .values) (j .budget + 1) (labels j) row)
     (trace : TraceAlong (at row) (j .weights) (j .values) (j .budget) left found) where
   row-best-values : (c : ℕ) → c ≤ j .budget → BestValue free j (labels j) c (at row c)
   row-best-values c h = climbed-best j (j .budget + 1) row climbed c (omega arith)
 
   pub packs-free : (n value : ℕ) → n ≡ labels j → value ≡ at row (j .budget)
-      → SolvedInCells j cells picks (Says.Knapsack value (j .budget - left)) (row ++ drop (j .budget + 1) cells) (found ++ drop n picks)
-  unfolding ValueTable OneRow BestPicks roomFor roomOf
+      → SolvedInCellsBy Full j cells picks (Says.Knapsack value (j .budget - left)) (row ++ drop (j .budget + 1) cells) (found ++ drop n picks)
+  unfolding ValueTable OneRow BestPicks roomBy roomOf
   packs-free n value e₁ e₂ =
       let chosen = along-picks j (at row) (j .budget) row-best-values left found trace in
       packs free j cells picks a (row ++ drop (j .budget + 1) cells) (found ++ drop n picks) row found value (j .budget - left)
@@ -177,12 +176,12 @@ module _ (j : Job) (cells picks row found : List ℕ) (left : ℕ) (a : Unrefuse
 
 -- kind 3 has no copies, and is the knapsack of any number
 any-free : (j : Job) (cells picks : List ℕ) → j .kind-number ≡ 3 → LetIn j cells picks
-    → Unrefused (packing free) j (lentOf cells [] picks) × (j .copies ≡ [])
+    → UnrefusedBy Full (packing free) j (lentOf cells [] picks) × (j .copies ≡ [])
 unfolding numberOf hasCopies if
 any-free j cells picks e a = go (a .knapsack) (sym (kind-number (j .kind-number) (packing (a .knapsack)) (a .unrefused .of-kind)) ∙ e) (a .unrefused)
   where
-    go : (k : Knapsack) → numberOf (packing k) ≡ 3 → Unrefused (packing k) j (lentOf cells [] picks)
-        → Unrefused (packing free) j (lentOf cells [] picks) × (j .copies ≡ [])
+    go : (k : Knapsack) → numberOf (packing k) ≡ 3 → UnrefusedBy Full (packing k) j (lentOf cells [] picks)
+        → UnrefusedBy Full (packing free) j (lentOf cells [] picks) × (j .copies ≡ [])
     go once n r = absurd (omega arith)
     go limited n r = absurd (omega arith)
     go free n r = (r, empty-of (j .copies) (ready free j cells picks r .valid .copied))
@@ -200,9 +199,9 @@ any-below j cells picks other a = go (a .knapsack) (kind-number (j .kind-number)
 -- so a job of kind 3 is one without copies
 pub job-free : (kind budget : ℕ) (ws vs cs cells picks : List ℕ) → kind ≡ 3 → LetIn (jobOf kind (budget ∷ []) ws vs cs) cells picks
     → (jobOf kind (budget ∷ []) ws vs cs ≡ jobOf 3 (budget ∷ []) ws vs [])
-    × Unrefused (packing free) (jobOf 3 (budget ∷ []) ws vs []) (lentOf cells [] picks)
+    × UnrefusedBy Full (packing free) (jobOf 3 (budget ∷ []) ws vs []) (lentOf cells [] picks)
 unfolding jobOf
 job-free kind budget ws vs cs cells picks e a =
     let (r, none-of) = any-free (jobOf kind (budget ∷ []) ws vs cs) cells picks e a in
     let same : jobOf kind (budget ∷ []) ws vs cs ≡ jobOf 3 (budget ∷ []) ws vs [] = cc in
-    (same, subst (λ (j : Job). Unrefused (packing free) j (lentOf cells [] picks)) same r)
+    (same, subst (λ (j : Job). UnrefusedBy Full (packing free) j (lentOf cells [] picks)) same r)

@@ -1,4 +1,4 @@
-// Kinds 1 to 3: the table of best values within a budget, and the picks that it leads to.
+// Kinds 1 to 3: the table of best values within a budget, and the picks that it leads to; kind 1 the full way.
 // A list comes as numbers or as a part of the job bytes (`listFrom`), so each has two slices.
 use meaning::Answer;
 ghost use mathlib.Core.Path.{_≡_};
@@ -6,10 +6,11 @@ ghost use mathlib.Core.List.{[], _∷_};
 ghost use Prim.Native.Nat.{ℕ, suc, _+_, _-_, _*_, _<_};
 ghost use lib.ListN.{length};
 ghost use Rattle.meaning.specs.Lists.{at};
+ghost use Rattle.meaning.specs.declared.Way.the-variants.{Full};
 ghost use Rattle.meaning.specs.Job.{jobOf, packing, free};
 ghost use Rattle.meaning.specs.Lent.{lentOf};
-ghost use Rattle.meaning.specs.Solved.{Unrefused};
-ghost use Rattle.meaning.specs.SolvedIn.{SolvedInCells};
+ghost use Rattle.meaning.specs.Solved.{UnrefusedBy};
+ghost use Rattle.meaning.specs.SolvedIn.{SolvedInCellsBy};
 ghost use Rattle.numbers.specs.TwoSlices.{listFrom, jobFrom};
 ghost use Rattle.rows.specs.Rows.{SomeCount, Capped};
 ghost use Rattle.knapsack.specs.Tables.{Bounded, limitOf, rowOf, Filled, Climbed};
@@ -166,7 +167,7 @@ fn full_table(
     requires { ⌜ LetIn (jobFrom kind (budget ∷ []) (now weights) (now wbytes) (now values) (now vbytes) (now copies) (now cbytes))
         (now cells) (now picks) ⌝ }
     requires { ⌜ kind < 3 ⌝ }
-    ensures { λ r. ⌜ SolvedInCells (jobFrom kind (budget ∷ []) (now (weights .entry)) (now (wbytes .entry))
+    ensures { λ r. ⌜ SolvedInCellsBy Full (jobFrom kind (budget ∷ []) (now (weights .entry)) (now (wbytes .entry))
         (now (values .entry)) (now (vbytes .entry)) (now (copies .entry)) (now (cbytes .entry)))
         (now (cells .entry)) (now (picks .entry)) r (now (cells .exit)) (now (picks .exit)) ⌝ }
 {
@@ -209,9 +210,9 @@ fn one_row(
     cells: &mut [u32],
     picks: &mut [u32],
 ) -> Answer
-    requires { ⌜ Unrefused (packing free) (jobOf 3 (budget ∷ []) (listFrom (now weights) (now wbytes)) (listFrom (now values) (now vbytes)) [])
+    requires { ⌜ UnrefusedBy Full (packing free) (jobOf 3 (budget ∷ []) (listFrom (now weights) (now wbytes)) (listFrom (now values) (now vbytes)) [])
         (lentOf (now cells) [] (now picks)) ⌝ }
-    ensures { λ r. ⌜ SolvedInCells (jobOf 3 (budget ∷ []) (listFrom (now (weights .entry)) (now (wbytes .entry)))
+    ensures { λ r. ⌜ SolvedInCellsBy Full (jobOf 3 (budget ∷ []) (listFrom (now (weights .entry)) (now (wbytes .entry)))
         (listFrom (now (values .entry)) (now (vbytes .entry))) [])
         (now (cells .entry)) (now (picks .entry)) r (now (cells .exit)) (now (picks .exit)) ⌝ }
 {
@@ -247,7 +248,7 @@ pub fn solve(
 ) -> Answer
     requires { ⌜ LetIn (jobFrom kind (budget ∷ []) (now weights) (now wbytes) (now values) (now vbytes) (now copies) (now cbytes))
         (now cells) (now picks) ⌝ }
-    ensures { λ r. ⌜ SolvedInCells (jobFrom kind (budget ∷ []) (now (weights .entry)) (now (wbytes .entry))
+    ensures { λ r. ⌜ SolvedInCellsBy Full (jobFrom kind (budget ∷ []) (now (weights .entry)) (now (wbytes .entry))
         (now (values .entry)) (now (vbytes .entry)) (now (copies .entry)) (now (cbytes .entry)))
         (now (cells .entry)) (now (picks .entry)) r (now (cells .exit)) (now (picks .exit)) ⌝ }
 {

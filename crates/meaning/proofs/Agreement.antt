@@ -16,14 +16,14 @@ use Rattle.meaning.specs.Counting.{Counted}
 use Rattle.meaning.specs.Cells.{LeastShown, noWay}
 use Rattle.meaning.specs.Bounds.{mostLabels}
 use Rattle.meaning.specs.Job.{Job, Kind, allKinds, jobOf, kindOf, labels, labels-behind, subset-sums}
-use Rattle.meaning.specs.Lent.{Lent, roomFor, roomOf}
+use Rattle.meaning.specs.Lent.{Lent, roomBy, roomFor, roomOf}
 use Rattle.meaning.specs.Refusals.{boundsFit, claimsFit, jobRefusal, kindRefusal, listsFit, numbersFit, roomFits, rulesOf, weightRules}
 use Rattle.meaning.specs.Bytes.{readJob, readable}
 use Rattle.meaning.specs.Knapsacks.{MayPick}
 use Rattle.meaning.specs.Sums.{Reached, ReachedWithin, Tells, TotalCount, Weighs, YesOrNo, bit, is-not, is-so}
 use Rattle.meaning.specs.Behind.{FirstRow, ReachedBy}
 use Rattle.meaning.specs.Answers.{answerNumbers}
-use Rattle.meaning.specs.Solved.{Answered, Gives, Outcome, Solved, SolvedBytes, TableHolds, Unrefused, Weighed, a-sum, no-such-sum}
+use Rattle.meaning.specs.Solved.{Answered, Gives, Outcome, Solved, SolvedBytes, TableBy, TableHolds, Unrefused, Weighed, a-sum, no-such-sum}
 use Rattle.meaning.specs.Agreement.{Agreed, GetsPast6, Unmarked}
 use Rattle.meaning.proofs.Counting.{counted-iff}
 use Rattle.meaning.proofs.Shown.{shown-by, shown-some}
@@ -135,13 +135,13 @@ module _ (j j′ : Job) (before after before′ after′ : Lent) (four eight : A
 
   -- each bit, and each cell, as the calls left them
   bits-left : (t : ℕ) → t ≤ j .budget → Tells (ReachedWithin j (labels j) t) (bit (after .words) t)
-  unfolding TableHolds roomFor roomOf bit
+  unfolding TableBy roomBy roomOf bit
   bits-left t h =
       let there : t / 64 < length (x .content .words) = omega (arith, x .words-needed) in
       rw (held-at (x .content .words) (before .words) (after .words) (t / 64) (x .words-hold) there) (x .table-right .set t (omega arith))
 
   firsts-left : (t : ℕ) → t ≤ j .budget → LeastShown (ReachedBy j′ (labels j′) t) (at (after′ .cells) t)
-  unfolding TableHolds FirstRow roomFor roomOf
+  unfolding TableBy FirstRow roomBy roomOf
   firsts-left t h =
       rw (held-at (y .content .cells) (before′ .cells) (after′ .cells) t (y .cells-hold) (omega (arith, y .cells-needed)))
       (y .table-right t (omega arith))

@@ -9,14 +9,16 @@ use lib.Dec.{lit≤}
 use lib.ListN.{replicate}
 use Rattle.meaning.specs.declared.Answer.{Answer}
 use Rattle.meaning.specs.declared.Answer.the-variants.{Knapsack, Sums, Blocks, Ways, Shares, Weight}
+use Rattle.meaning.specs.declared.Way.{Way}
+use Rattle.meaning.specs.declared.Way.the-variants.{Light, Full}
 use Rattle.meaning.specs.Lists.{at}
 use Rattle.meaning.specs.Job.{Job, Kind, block-ways, fewest-blocks, free, jobOf, limited, once, packing, sharing, subset-sums}
 use Rattle.meaning.specs.Job.{labels-behind, kindOf}
-use Rattle.meaning.specs.Lent.{Lent, lentOf, roomFor}
+use Rattle.meaning.specs.Lent.{Lent, lentOf, roomBy}
 use Rattle.meaning.specs.Refusals.{kindRefusal}
 use Rattle.meaning.specs.Bytes.{jobBytes, readJob, readable}
 use Rattle.meaning.specs.Answers.{answerNumbers}
-use Rattle.meaning.specs.Solved.{Gives, Unrefused, Weighed, a-sum}
+use Rattle.meaning.specs.Solved.{Gives, UnrefusedBy, Weighed, a-sum}
 use Rattle.meaning.specs.Host.{firstNumber}
 use Rattle.meaning.specs.Trials.{AllGo, Goes, Trial, _and_, done, justEnough, solve, trials}
 use Rattle.meaning.proofs.EachKind.{refusals, tableOf}
@@ -76,9 +78,9 @@ goes-at zero (g and gs) = g
 goes-at (suc i) (g and gs) = goes-at i gs
 
 -- slices with just the room that the trial of kind k needs, and x in every place
-unfoldable pub filled : ℕ → Kind → Lent
-filled x k =
-    let room = roomFor k (tried k .job) in
+unfoldable pub filled : Way → ℕ → Kind → Lent
+filled way x k =
+    let room = roomBy way k (tried k .job) in
     lentOf (replicate (room .cells) x) (replicate (room .words) x) (replicate (room .picks) x)
 
 -- it goes as the sixteen say (kind 8's as F, which is among them, says), and is read back from its bytes; its answer is no refusal, and its first number isn't 0; with `filled` slices it isn't
@@ -88,15 +90,17 @@ pub record TrialFacts (k : Kind) : Type 0 where
   pub back : readJob (jobBytes (tried k .job)) ≡ readable (tried k .job)
   pub no-refusal : refusals (answerNumbers (tried k .answer) .case) ≡ 0
   pub not-0 : 1 ≤ firstNumber (answerNumbers (tried k .answer))
-  pub unrefused : (x : ℕ) → Unrefused k (tried k .job) (filled x k)
-  pub first-filled : ¬ (k ≡ sharing) → (x : ℕ) → at (tableOf k (filled x k)) 0 ≡ x
+  pub unrefused : (way : Way) (x : ℕ) → UnrefusedBy way k (tried k .job) (filled way x k)
+  pub first-filled : ¬ (k ≡ sharing) → (way : Way) (x : ℕ) → at (tableOf k (filled way x k)) 0 ≡ x
 
-unrefused-by : {k : Kind} {j : Job} {lent : Lent} → kindOf (j .kind-number) ≡ some k → kindRefusal (roomFor k j) k j lent ≡ 0 → Unrefused k j lent
+unrefused-by : {way : Way} {k : Kind} {j : Job} {lent : Lent} → kindOf (j .kind-number) ≡ some k → kindRefusal (roomBy way k j) k j lent ≡ 0
+    → UnrefusedBy way k j lent
 unrefused-by e f = record { of-kind = e; no-refusal = f }
 
 facts-by : {k : Kind} → Goes (solve (tried k .job) (tried k .answer) (tried k .picks)) → readJob (jobBytes (tried k .job)) ≡ readable (tried k .job)
     → refusals (answerNumbers (tried k .answer) .case) ≡ 0 → 1 ≤ firstNumber (answerNumbers (tried k .answer))
-    → ((x : ℕ) → Unrefused k (tried k .job) (filled x k)) → (¬ (k ≡ sharing) → (x : ℕ) → at (tableOf k (filled x k)) 0 ≡ x) → TrialFacts k
+    → ((way : Way) (x : ℕ) → UnrefusedBy way k (tried k .job) (filled way x k))
+    → (¬ (k ≡ sharing) → (way : Way) (x : ℕ) → at (tableOf k (filled way x k)) 0 ≡ x) → TrialFacts k
 facts-by g b r n u f = record { goes = g; back = b; no-refusal = r; not-0 = n; unrefused = u; first-filled = f }
 
 -- F as kind 8
@@ -104,13 +108,24 @@ behind-F : Goes (solve (tried labels-behind .job) (tried labels-behind .answer) 
 unfolding opens Goes justEnough Gives Weighed isBehind
 behind-F = goes labels-behind refl refl (a-sum (behind-weighs _ _ tt) (behind-out _ _ tt) refl)
 
+-- kind 1's, by either way
+once-unrefused : (way : Way) (x : ℕ) → UnrefusedBy way (packing once) (tried (packing once) .job) (filled way x (packing once))
+unfolding opens filled
+once-unrefused Light x = unrefused-by refl refl
+once-unrefused Full x = unrefused-by refl refl
+
+once-filled : (way : Way) (x : ℕ) → at (tableOf (packing once) (filled way x (packing once))) 0 ≡ x
+unfolding opens filled tableOf
+once-filled Light x = refl
+once-filled Full x = refl
+
 pub trial-facts : (k : Kind) → TrialFacts k
 unfolding opens trials GoesAt refusals firstNumber filled tableOf
-trial-facts (packing once) = facts-by (goes-at 0 sixteen) refl refl (lit≤ tt) (λ x. unrefused-by refl refl) (λ has x. refl)
-trial-facts (packing limited) = facts-by (goes-at 3 sixteen) refl refl (lit≤ tt) (λ x. unrefused-by refl refl) (λ has x. refl)
-trial-facts (packing free) = facts-by (goes-at 4 sixteen) refl refl (lit≤ tt) (λ x. unrefused-by refl refl) (λ has x. refl)
-trial-facts subset-sums = facts-by (goes-at 6 sixteen) refl refl (lit≤ tt) (λ x. unrefused-by refl refl) (λ has x. refl)
-trial-facts fewest-blocks = facts-by (goes-at 8 sixteen) refl refl (lit≤ tt) (λ x. unrefused-by refl refl) (λ has x. refl)
-trial-facts block-ways = facts-by (goes-at 10 sixteen) refl refl (lit≤ tt) (λ x. unrefused-by refl refl) (λ has x. refl)
-trial-facts sharing = facts-by (goes-at 12 sixteen) refl refl (lit≤ tt) (λ x. unrefused-by refl refl) (λ has x. absurd (has refl))
-trial-facts labels-behind = facts-by behind-F refl refl (lit≤ tt) (λ x. unrefused-by refl refl) (λ has x. refl)
+trial-facts (packing once) = facts-by (goes-at 0 sixteen) refl refl (lit≤ tt) once-unrefused (λ has. once-filled)
+trial-facts (packing limited) = facts-by (goes-at 3 sixteen) refl refl (lit≤ tt) (λ way x. unrefused-by refl refl) (λ has way x. refl)
+trial-facts (packing free) = facts-by (goes-at 4 sixteen) refl refl (lit≤ tt) (λ way x. unrefused-by refl refl) (λ has way x. refl)
+trial-facts subset-sums = facts-by (goes-at 6 sixteen) refl refl (lit≤ tt) (λ way x. unrefused-by refl refl) (λ has way x. refl)
+trial-facts fewest-blocks = facts-by (goes-at 8 sixteen) refl refl (lit≤ tt) (λ way x. unrefused-by refl refl) (λ has way x. refl)
+trial-facts block-ways = facts-by (goes-at 10 sixteen) refl refl (lit≤ tt) (λ way x. unrefused-by refl refl) (λ has way x. refl)
+trial-facts sharing = facts-by (goes-at 12 sixteen) refl refl (lit≤ tt) (λ way x. unrefused-by refl refl) (λ has way x. absurd (has refl))
+trial-facts labels-behind = facts-by behind-F refl refl (lit≤ tt) (λ way x. unrefused-by refl refl) (λ has way x. refl)

@@ -5,8 +5,10 @@ use mathlib.Core.Option.{Option, none, some}
 use Prim.Native.Nat.{ℕ}
 use mathlib.Core.List.{List, map}
 use lib.ListN.{replicate}
+use Rattle.meaning.specs.declared.Way.{Way}
+use Rattle.meaning.specs.declared.Way.the-variants.{Light}
 use Rattle.meaning.specs.Job.{Job, Kind, kindOf}
-use Rattle.meaning.specs.Lent.{Lent, lentOf, roomFor}
+use Rattle.meaning.specs.Lent.{Lent, lentOf, roomBy}
 use Rattle.meaning.specs.Refusals.{kindRefusal}
 
 -- ---- tables: what goes in, and what comes out
@@ -37,9 +39,13 @@ plenty = room 99 99 99
 abbrev pub nothing : Lent
 nothing = room 0 0 0
 
-abbrev pub as-kind : Option Kind → Job → Lent → ℕ
-as-kind none j lent = 2
-as-kind (some k) j lent = kindRefusal (roomFor k j) k j lent
+abbrev pub as-kind : Way → Option Kind → Job → Lent → ℕ
+as-kind way none j lent = 2
+as-kind way (some k) j lent = kindRefusal (roomBy way k j) k j lent
 
+abbrev pub refusalBy : Way → Job × Lent → ℕ
+refusalBy way (j, lent) = as-kind way (kindOf (j .kind-number)) j lent
+
+-- by the light way
 abbrev pub refusalOf : Job × Lent → ℕ
-refusalOf (j, lent) = as-kind (kindOf (j .kind-number)) j lent
+refusalOf asked = refusalBy Light asked

@@ -14,21 +14,24 @@ use mir.Facts.{and-yes, eqb-yes}
 use borrow.Author.Tests.{ltb-false}
 use Rattle.meaning.specs.declared.Answer.{Answer}
 use Rattle.meaning.specs.declared.Answer.the-variants as Says
+use Rattle.meaning.specs.declared.Way.{Way}
+use Rattle.meaning.specs.declared.Way.the-variants.{Light, Full}
 use Rattle.meaning.specs.Lists.{at, if, sum, total}
 use Rattle.meaning.specs.Slices.{Holds}
 use Rattle.meaning.specs.Cells.{LeastShown}
 use Rattle.meaning.specs.Job.{Job, Kind, Knapsack, allKinds, block-ways, fewest-blocks, free}
 use Rattle.meaning.specs.Job.{kindOf, labels, labels-behind, limited, once, packing, sharing, subset-sums}
-use Rattle.meaning.specs.Lent.{Lent, Room, cellCount, roomFor, roomOf}
-use Rattle.meaning.specs.Knapsacks.{ValueTable}
+use Rattle.meaning.specs.Lent.{Lent, Room, bitWords, cellCount, onceRoom, roomBy, roomOf}
+use Rattle.meaning.specs.Knapsacks.{FullTable, ValueTable}
 use Rattle.meaning.specs.Sums.{Weighs}
 use Rattle.meaning.specs.Behind.{FirstRow}
 use Rattle.meaning.specs.Blocks.{FewestRow, Makes, WaysFor, WaysRow, tooMany}
 use Rattle.meaning.specs.Shares.{spareOf}
 use Rattle.meaning.specs.Answers.{AnswerNumbers, Which, is-blocks, is-knapsack, is-refusal, is-shares, is-sums, is-ways, is-weight}
 use Rattle.meaning.specs.Answers.{answerNumbers}
-use Rattle.meaning.specs.Solved.{Answered, Built, Gives, TableHolds, Weighed, a-sum, no-such-sum, waysAnswer}
-use Rattle.meaning.proofs.OneOfEach.{same-list, rows-unique, row-unique, bits-table-unique, least-shown-unique, ways-shown-unique}
+use Rattle.meaning.specs.Certificates.{certificateCells}
+use Rattle.meaning.specs.Solved.{Answered, Built, Gives, OnceTable, TableBy, Weighed, a-sum, no-such-sum, waysAnswer}
+use Rattle.meaning.proofs.OneOfEach.{same-list, rows-unique, row-unique, bits-table-unique, label-words-unique, least-shown-unique, ways-shown-unique}
 use Rattle.meaning.proofs.OneOfEach.{packed-unique, summed-unique, sum-or-none-unique, laid-unique, ways-given-unique, behind-unique}
 
 -- ---- the number
@@ -94,28 +97,41 @@ shown-places budget picks s t a b = record {
   words = none-needed (s .words) (t .words);
 }
 
-same-places : (k : Kind) (j : Job) (s t : Lent) → TableHolds k j s → TableHolds k j t → SamePlaces (roomFor k j) s t
-unfolding TableHolds ValueTable FewestRow WaysRow FirstRow roomFor roomOf
-same-places (packing once) j s t a b = record { cells = rows-unique once j (s .cells) (t .cells) a b; words = none-needed (s .words) (t .words) }
-same-places (packing limited) j s t a b =
-    record { cells = rows-unique limited j (s .cells) (t .cells) a b; words = none-needed (s .words) (t .words) }
-same-places (packing free) j s t a b = record { cells = row-unique free j (s .cells) (t .cells) a b; words = none-needed (s .words) (t .words) }
-same-places subset-sums j s t a b = record { cells = none-needed (s .cells) (t .cells); words = bits-table-unique j (s .words) (t .words) a b }
-same-places fewest-blocks j s t a b = shown-places (j .budget) (labels j) s t a b
-same-places block-ways j s t a b = record {
+-- a full table
+full-places : (k : Knapsack) (j : Job) (picks : ℕ) (s t : Lent) → FullTable k j (s .cells) → FullTable k j (t .cells)
+    → SamePlaces (roomOf (cellCount j) 0 picks) s t
+unfolding roomOf
+full-places k j picks s t a b = record { cells = rows-unique k j (s .cells) (t .cells) a b; words = none-needed (s .words) (t .words) }
+
+once-places : (way : Way) (j : Job) (s t : Lent) → OnceTable way j s → OnceTable way j t → SamePlaces (onceRoom way j) s t
+unfolding OnceTable ValueTable onceRoom roomOf
+once-places Light j s t a b = record {
+  cells = row-unique once j (s .cells) (t .cells) (a .best) (b .best);
+  words = label-words-unique j (s .words) (t .words) a b;
+}
+once-places Full j s t a b = full-places once j (labels j) s t a b
+
+same-places : (way : Way) (k : Kind) (j : Job) (s t : Lent) → TableBy way k j s → TableBy way k j t → SamePlaces (roomBy way k j) s t
+unfolding TableBy ValueTable FewestRow WaysRow FirstRow roomBy roomOf
+same-places way (packing once) j s t a b = once-places way j s t a b
+same-places way (packing limited) j s t a b = full-places limited j (labels j) s t a b
+same-places way (packing free) j s t a b = record { cells = row-unique free j (s .cells) (t .cells) a b; words = none-needed (s .words) (t .words) }
+same-places way subset-sums j s t a b = record { cells = none-needed (s .cells) (t .cells); words = bits-table-unique j (s .words) (t .words) a b }
+same-places way fewest-blocks j s t a b = shown-places (j .budget) (labels j) s t a b
+same-places way block-ways j s t a b = record {
   cells = none-needed (s .cells) (t .cells);
   words = λ m h. ways-shown-unique (a m (omega arith)) (b m (omega arith));
 }
-same-places sharing j s t a b = record { cells = none-needed (s .cells) (t .cells); words = none-needed (s .words) (t .words) }
-same-places labels-behind j s t a b = shown-places (j .budget) (labels j) s t a b
+same-places way sharing j s t a b = record { cells = none-needed (s .cells) (t .cells); words = none-needed (s .words) (t .words) }
+same-places way labels-behind j s t a b = shown-places (j .budget) (labels j) s t a b
 
--- each kind's table leaves one content
-pub table-unique : (k : Kind) (j : Job) → OneTable (roomFor k j) (TableHolds k j)
+-- each kind's table leaves one content, whichever way kind 1 goes
+pub table-unique : (way : Way) (k : Kind) (j : Job) → OneTable (roomBy way k j) (TableBy way k j)
 unfolding OneTable
-table-unique k j s t a b u v =
-    let same = same-places k j s t a b in (
-      same-list (roomFor k j .cells) (s .cells) (t .cells) (u .cells) (v .cells) (same .cells),
-      same-list (roomFor k j .words) (s .words) (t .words) (u .words) (v .words) (same .words),
+table-unique way k j s t a b u v =
+    let same = same-places way k j s t a b in (
+      same-list (roomBy way k j .cells) (s .cells) (t .cells) (u .cells) (v .cells) (same .cells),
+      same-list (roomBy way k j .words) (s .words) (t .words) (u .words) (v .words) (same .words),
     )
 
 -- ---- where a table stands
@@ -134,17 +150,57 @@ pub record TableLeft (k : Kind) (content before after : Lent) : Type 0 where
   pub held : Holds (tableOf k content) (tableOf k before) (tableOf k after)
   pub needed : ¬ (k ≡ sharing) → 1 ≤ length (tableOf k content)
 
-pub table-left : (k : Kind) {j : Job} {before after : Lent} {s : AnswerNumbers} (x : Answered (roomFor k j) (TableHolds k j) k j before s after)
-    → TableLeft k (x .content) before after
-unfolding tableOf Holds roomFor roomOf cellCount
-table-left (packing once) x = record { held = x .cells-hold; needed = λ has. omega (arith, x .cells-needed) }
-table-left (packing limited) x = record { held = x .cells-hold; needed = λ has. omega (arith, x .cells-needed) }
-table-left (packing free) x = record { held = x .cells-hold; needed = λ has. omega (arith, x .cells-needed) }
-table-left subset-sums x = record { held = x .words-hold; needed = λ has. omega (arith, x .words-needed) }
-table-left fewest-blocks x = record { held = x .cells-hold; needed = λ has. omega (arith, x .cells-needed) }
-table-left block-ways x = record { held = x .words-hold; needed = λ has. omega (arith, x .words-needed) }
-table-left sharing x = record { held = refl; needed = λ has. absurd (has refl) }
-table-left labels-behind x = record { held = x .cells-hold; needed = λ has. omega (arith, x .cells-needed) }
+once-cells : (way : Way) (j : Job) → 1 ≤ onceRoom way j .cells
+unfolding onceRoom roomOf cellCount
+once-cells Light j = omega arith
+once-cells Full j = omega arith
+
+pub table-left : (way : Way) (k : Kind) {j : Job} {before after : Lent} {s : AnswerNumbers}
+    (x : Answered (roomBy way k j) (TableBy way k j) k j before s after) → TableLeft k (x .content) before after
+unfolding tableOf Holds roomBy roomOf cellCount
+table-left way (packing once) {j} x = record { held = x .cells-hold; needed = λ has. omega (arith, x .cells-needed, once-cells way j) }
+table-left way (packing limited) x = record { held = x .cells-hold; needed = λ has. omega (arith, x .cells-needed) }
+table-left way (packing free) x = record { held = x .cells-hold; needed = λ has. omega (arith, x .cells-needed) }
+table-left way subset-sums x = record { held = x .words-hold; needed = λ has. omega (arith, x .words-needed) }
+table-left way fewest-blocks x = record { held = x .cells-hold; needed = λ has. omega (arith, x .cells-needed) }
+table-left way block-ways x = record { held = x .words-hold; needed = λ has. omega (arith, x .words-needed) }
+table-left way sharing x = record { held = refl; needed = λ has. absurd (has refl) }
+table-left way labels-behind x = record { held = x .cells-hold; needed = λ has. omega (arith, x .cells-needed) }
+
+-- ---- the two ways
+
+-- a job whose number isn't 1 is of another kind than 1
+pub not-once : (j : Job) (k : Kind) → kindOf (j .kind-number) ≡ some k → ¬ (j .kind-number ≡ 1) → ¬ (k ≡ packing once)
+unfolding numberOf
+not-once j k of-kind not-1 is = not-1 (kind-number (j .kind-number) k of-kind ∙ ap numberOf is)
+
+-- a kind that isn't kind 1 needs the same room and leaves the same table by either way
+pub record OneWay (way other : Way) (k : Kind) (j : Job) : Type 1 where
+  pub room : roomBy way k j ≡ roomBy other k j
+  pub table : TableBy way k j ≡ TableBy other k j
+
+pub one-way : (way other : Way) (k : Kind) (j : Job) → ¬ (k ≡ packing once) → OneWay way other k j
+unfolding roomBy TableBy
+one-way way other (packing once) j not-1 = absurd (not-1 refl)
+one-way way other (packing limited) j not-1 = record { room = refl; table = refl }
+one-way way other (packing free) j not-1 = record { room = refl; table = refl }
+one-way way other subset-sums j not-1 = record { room = refl; table = refl }
+one-way way other fewest-blocks j not-1 = record { room = refl; table = refl }
+one-way way other block-ways j not-1 = record { room = refl; table = refl }
+one-way way other sharing j not-1 = record { room = refl; table = refl }
+one-way way other labels-behind j not-1 = record { room = refl; table = refl }
+
+-- by such a way the table of a knapsack is what its certificate needs, and holds the values
+pub record ClaimTable (way : Way) (k : Knapsack) (j : Job) : Type 1 where
+  pub room : roomBy way (packing k) j ≡ roomOf (certificateCells k j) 0 (labels j)
+  pub table : TableBy way (packing k) j ≡ (λ content. ValueTable k j (content .cells))
+
+-- by the full way it is so for each of the three
+pub full-claims : (k : Knapsack) (j : Job) → ClaimTable Full k j
+unfolding roomBy onceRoom TableBy OnceTable certificateCells
+full-claims once j = record { room = refl; table = refl }
+full-claims limited j = record { room = refl; table = refl }
+full-claims free j = record { room = refl; table = refl }
 
 -- ---- what a kind says and writes
 

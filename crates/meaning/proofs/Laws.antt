@@ -1,4 +1,4 @@
--- Laws of `Solved`, `SolvedBytes` and `Writes` that the operations' proofs cite in place of their text.
+-- Laws of the planner's promise, by either way, and of `Writes` that the operations' proofs cite in place of their text.
 -- Assumes nothing.
 use mathlib.Core.Path.{_∙_, _≡_, ap, refl, subst, sym}
 use mathlib.Core.Logic.{_⊎_, inl, inr}
@@ -11,16 +11,17 @@ use lib.ListN.{List·getD-append, drop, getElem?, length, take}
 use lib.Seq.{take-at}
 use Rattle.meaning.specs.declared.Answer.{Answer}
 use Rattle.meaning.specs.declared.Answer.the-variants as Says
+use Rattle.meaning.specs.declared.Way.{Way}
 use Rattle.meaning.specs.declared.Written.{Written}
 use Rattle.meaning.specs.Lists.{at}
 use Rattle.meaning.specs.Slices.{Holds}
 use Rattle.meaning.specs.Job.{Job, Kind, Knapsack, kindOf, allKinds}
-use Rattle.meaning.specs.Lent.{Lent, roomFor}
+use Rattle.meaning.specs.Lent.{Lent, roomBy}
 use Rattle.meaning.specs.Refusals.{kindRefusal}
 use Rattle.meaning.specs.Bytes.{readJob, readable, unreadable}
 use Rattle.meaning.specs.Answers.{answerNumbers}
-use Rattle.meaning.specs.Solved.{Unrefused, Answered, Gives, Outcome, Solved, SolvedAs}
-use Rattle.meaning.specs.Solved.{SolvedBytes, SolvedRead, TableHolds, TurnedDown, SolvedLists}
+use Rattle.meaning.specs.Solved.{UnrefusedBy, Answered, Gives, Outcome, SolvedAs, SolvedBy}
+use Rattle.meaning.specs.Solved.{SolvedBytesBy, SolvedRead, TableBy, TurnedDown, SolvedLists}
 use Rattle.meaning.specs.Certificates.{certifiedKnapsack}
 use Rattle.meaning.specs.Writer.{Writes, WritesAs, WritesFor, bytesNeeded, certificate, writerRefusal}
 use Rattle.meaning.proofs.EachKind.{gives-unique, table-unique}
@@ -60,61 +61,61 @@ pub turned-down : (r : ℕ) (before : Lent) → TurnedDown r before (answerNumbe
 turned-down r before = record { numbers = refl; nothing-written = refl }
 
 -- a job of no kind is refused with 2
-pub solved-no-kind : (j : Job) (before : Lent) → kindOf (j .kind-number) ≡ none → Solved j before (Says.Refused 2) before
-unfolding Solved SolvedLists SolvedAs
-solved-no-kind j before e = rw e (turned-down 2 before)
+pub solved-no-kind : {way : Way} (j : Job) (before : Lent) → kindOf (j .kind-number) ≡ none → SolvedBy way j before (Says.Refused 2) before
+unfolding SolvedLists SolvedAs
+solved-no-kind j before e = record { kept = rw e (turned-down 2 before) }
 
--- `Solved` for a job of kind k, by its refusal number
-pub solved-kind : (j : Job) (before : Lent) (k : Kind) (r : ℕ) (a : Answer) (after : Lent)
-    → kindOf (j .kind-number) ≡ some k → kindRefusal (roomFor k j) k j before ≡ r
-    → Outcome r (roomFor k j) (TableHolds k j) k j before (answerNumbers a) after → Solved j before a after
-unfolding Solved SolvedLists SolvedAs
-solved-kind j before k r a after e f h = rw (e, f) h
+-- `SolvedBy` for a job of kind k, by its refusal number
+pub solved-kind : {way : Way} (j : Job) (before : Lent) (k : Kind) (r : ℕ) (a : Answer) (after : Lent)
+    → kindOf (j .kind-number) ≡ some k → kindRefusal (roomBy way k j) k j before ≡ r
+    → Outcome r (roomBy way k j) (TableBy way k j) k j before (answerNumbers a) after → SolvedBy way j before a after
+unfolding SolvedLists SolvedAs
+solved-kind j before k r a after e f h = record { kept = rw (e, f) h }
 
 -- and back
-pub kind-solved : (j : Job) (before : Lent) (k : Kind) (r : ℕ) (a : Answer) (after : Lent)
-    → kindOf (j .kind-number) ≡ some k → kindRefusal (roomFor k j) k j before ≡ r
-    → Solved j before a after → Outcome r (roomFor k j) (TableHolds k j) k j before (answerNumbers a) after
-unfolding Solved SolvedLists SolvedAs
-kind-solved j before k r a after e f h = rw (e, f) at h
+pub kind-solved : {way : Way} (j : Job) (before : Lent) (k : Kind) (r : ℕ) (a : Answer) (after : Lent)
+    → kindOf (j .kind-number) ≡ some k → kindRefusal (roomBy way k j) k j before ≡ r
+    → SolvedBy way j before a after → Outcome r (roomBy way k j) (TableBy way k j) k j before (answerNumbers a) after
+unfolding SolvedLists SolvedAs
+kind-solved j before k r a after e f h = rw (e, f) at (h .kept)
 
 -- ---- job bytes
 
 -- job bytes that can be read are solved as the job that they hold
-pub solved-bytes : (bytes : List ℕ) (j : Job) (before after : Lent) (a : Answer) → readJob bytes ≡ readable j → Solved j before a after
-    → SolvedBytes bytes before a after
-unfolding SolvedBytes SolvedRead Solved
-solved-bytes bytes j before after a e h = rw e h
+pub solved-bytes : {way : Way} (bytes : List ℕ) (j : Job) (before after : Lent) (a : Answer) → readJob bytes ≡ readable j → SolvedBy way j before a after
+    → SolvedBytesBy way bytes before a after
+unfolding SolvedRead
+solved-bytes bytes j before after a e h = record { kept = rw e (h .kept) }
 
 -- and back
-pub bytes-solved : (bytes : List ℕ) (j : Job) (before after : Lent) (a : Answer) → readJob bytes ≡ readable j → SolvedBytes bytes before a after
-    → Solved j before a after
-unfolding SolvedBytes SolvedRead Solved
-bytes-solved bytes j before after a e h = rw e at h
+pub bytes-solved : {way : Way} (bytes : List ℕ) (j : Job) (before after : Lent) (a : Answer) → readJob bytes ≡ readable j → SolvedBytesBy way bytes before a after
+    → SolvedBy way j before a after
+unfolding SolvedRead
+bytes-solved bytes j before after a e h = record { kept = rw e at (h .kept) }
 
 -- those that can't are refused with 1
-pub solved-unreadable : (bytes : List ℕ) (place : ℕ) (before : Lent) → readJob bytes ≡ unreadable place
-    → SolvedBytes bytes before (Says.Refused 1) before
-unfolding SolvedBytes SolvedRead
-solved-unreadable bytes place before e = rw e (turned-down 1 before)
+pub solved-unreadable : {way : Way} (bytes : List ℕ) (place : ℕ) (before : Lent) → readJob bytes ≡ unreadable place
+    → SolvedBytesBy way bytes before (Says.Refused 1) before
+unfolding SolvedRead
+solved-unreadable bytes place before e = record { kept = rw e (turned-down 1 before) }
 
 -- ---- a call on a job that is not refused
 
 -- it is answered
-pub unrefused-answered : (k : Kind) (j : Job) (before after : Lent) (a : Answer) → Unrefused k j before → Solved j before a after
-    → Answered (roomFor k j) (TableHolds k j) k j before (answerNumbers a) after
+pub unrefused-answered : {way : Way} (k : Kind) (j : Job) (before after : Lent) (a : Answer) → UnrefusedBy way k j before → SolvedBy way j before a after
+    → Answered (roomBy way k j) (TableBy way k j) k j before (answerNumbers a) after
 unfolding Outcome
 unrefused-answered k j before after a ok h = kind-solved j before k 0 a after (ok .of-kind) (ok .no-refusal) h
 
 -- and what answers it solves it
-pub answered-solved : (k : Kind) (j : Job) (before after : Lent) (a : Answer) → Unrefused k j before
-    → Answered (roomFor k j) (TableHolds k j) k j before (answerNumbers a) after → Solved j before a after
+pub answered-solved : {way : Way} (k : Kind) (j : Job) (before after : Lent) (a : Answer) → UnrefusedBy way k j before
+    → Answered (roomBy way k j) (TableBy way k j) k j before (answerNumbers a) after → SolvedBy way j before a after
 unfolding Outcome
 answered-solved k j before after a ok h = solved-kind j before k 0 a after (ok .of-kind) (ok .no-refusal) h
 
 -- whoever solves a job that the meanings answer by b and p answers b and writes p
-pub solved-says : (k : Kind) (j : Job) (before after : Lent) (a b : Answer) (p : List ℕ)
-    → Unrefused k j before → Gives k j (answerNumbers b) p → Solved j before a after
+pub solved-says : {way : Way} (k : Kind) (j : Job) (before after : Lent) (a b : Answer) (p : List ℕ)
+    → UnrefusedBy way k j before → Gives k j (answerNumbers b) p → SolvedBy way j before a after
     → (a ≡ b) × Holds p (before .picks) (after .picks)
 solved-says k j before after a b p ok g h =
     let answered = unrefused-answered k j before after a ok h in
@@ -135,12 +136,12 @@ pub record Uninfluenced (a a′ : Answer) (before after before′ after′ : Len
   pub in-second : ContentIn content before′ after′
 
 -- what stood in the table before has no influence
-pub uninfluenced : (k : Kind) (j : Job) (before after before′ after′ : Lent) (a a′ : Answer) → Unrefused k j before → Unrefused k j before′
-    → Solved j before a after → Solved j before′ a′ after′ → Uninfluenced a a′ before after before′ after′
-uninfluenced k j before after before′ after′ a a′ ok ok′ h h′ =
+pub uninfluenced : {way : Way} (k : Kind) (j : Job) (before after before′ after′ : Lent) (a a′ : Answer) → UnrefusedBy way k j before → UnrefusedBy way k j before′
+    → SolvedBy way j before a after → SolvedBy way j before′ a′ after′ → Uninfluenced a a′ before after before′ after′
+uninfluenced {way} k j before after before′ after′ a a′ ok ok′ h h′ =
     let x = unrefused-answered k j before after a ok h in
     let y = unrefused-answered k j before′ after′ a′ ok′ h′ in
-    let (said, same) = no-influence k j before before′ after after′ (answerNumbers a) (answerNumbers a′) (table-unique k j) x y in
+    let (said, same) = no-influence k j before before′ after after′ (answerNumbers a) (answerNumbers a′) (table-unique way k j) x y in
     record {
       answer = answer-numbers-unique said;
       content = x .content;
@@ -151,9 +152,9 @@ uninfluenced k j before after before′ after′ a a′ ok ok′ h h′ =
     }
 
 -- nor where the job comes as bytes
-pub uninfluenced-bytes : (bytes : List ℕ) (k : Kind) (j : Job) (before after before′ after′ : Lent) (a a′ : Answer) → readJob bytes ≡ readable j
-    → Unrefused k j before → Unrefused k j before′
-    → SolvedBytes bytes before a after → SolvedBytes bytes before′ a′ after′ → Uninfluenced a a′ before after before′ after′
+pub uninfluenced-bytes : {way : Way} (bytes : List ℕ) (k : Kind) (j : Job) (before after before′ after′ : Lent) (a a′ : Answer) → readJob bytes ≡ readable j
+    → UnrefusedBy way k j before → UnrefusedBy way k j before′
+    → SolvedBytesBy way bytes before a after → SolvedBytesBy way bytes before′ a′ after′ → Uninfluenced a a′ before after before′ after′
 uninfluenced-bytes bytes k j before after before′ after′ a a′ reads ok ok′ h h′ =
     uninfluenced k j before after before′ after′ a a′ ok ok′ (bytes-solved bytes j before after a reads h)
     (bytes-solved bytes j before′ after′ a′ reads h′)

@@ -24,6 +24,7 @@ pub mod SharesSum
 -- no second choice is left
 pub mod CellNumbers
 pub mod OneOfEach
+pub mod Light
 pub mod EachKind
 pub mod Unique
 pub mod Laws
@@ -41,8 +42,9 @@ pub mod Certified
 pub mod Ours
 pub mod Ring
 pub mod Entries
--- kinds 4 and 8 agree
+-- kinds 4 and 8 agree, and so do the two ways of kind 1
 pub mod Agreement
+pub mod Ways
 -- trials, and wrong versions
 pub mod Small
 pub mod SmallTables

@@ -2,7 +2,8 @@
 -- Assumes nothing.
 use mathlib.Core.Path.{_∙_, _≡_, ap, subst, sym, ap₂, refl}
 use Prim.Native.Nat.{_%_, _*_, _+_, _-_, _/_, _<_, _^_, min, suc, suc-le-suc, zero, zero-le, ℕ}
-use native.Mathlib.Nat.{div-div-eq-div-mul, div-one, le-antisymm, le-of-suc-le-suc, le-refl, le-trans, mul-comm, not-suc-le-zero, pow-suc, le-of-eq}
+use native.Mathlib.Nat.{div-add-mod', div-div-eq-div-mul, div-lt-iff-lt-mul, div-one, le-antisymm, le-of-suc-le-suc, le-refl, le-trans, mod-lt}
+use native.Mathlib.Nat.{mul-comm, not-suc-le-zero, pow-suc, le-of-eq}
 use native.Mathlib.Omega.{arith}
 use mathlib.Core.Bool.{Bool, false, true}
 use mathlib.Core.List.{List}
@@ -14,10 +15,11 @@ use Rattle.meaning.specs.declared.Answer.the-variants as Says
 use Rattle.meaning.specs.Lists.{at, if, total}
 use Rattle.meaning.specs.Cells.{LeastShown, none-shown, shown}
 use Rattle.meaning.specs.Job.{Job, Knapsack, labels}
-use Rattle.meaning.specs.Lent.{cellCount}
+use Rattle.meaning.specs.Lent.{cellCount, bitWords}
 use Rattle.meaning.specs.Orders.{AgreeEarlier, Chosen, Earlier, NoWorse, Order, first-most, last-least, last-most}
 use Rattle.meaning.specs.Knapsacks.{BestValue, FullTable, OneRow, Best, BestPicks, orderOf}
 use Rattle.meaning.specs.Sums.{Weighs, BitTable, Tells, bit, is-not, is-so, TotalCount, YesOrNo}
+use Rattle.meaning.specs.Light.{LightTable, labelBit}
 use Rattle.meaning.specs.Behind.{Behind, totalOrder}
 use Rattle.meaning.specs.Blocks.{WaysFor, WaysShown, tooMany, Fewest, Laid, blockOrder}
 use Rattle.meaning.specs.Answers.{AnswerNumbers, answerNumbers}
@@ -118,10 +120,28 @@ bit-at : (words : List ℕ) (m b : ℕ) → b < 64 → bit words (m * 64 + b) �
 unfolding bit
 bit-at words m b h = rw (digits-div m h, digits-mod m h)
 
-pub bits-table-unique : (j : Job) (s t : List ℕ) → BitTable j s → BitTable j t → (m : ℕ) → m < j .budget / 64 + 1 → at s m ≡ at t m
+-- two words of 64 bits with the same bits are the same
+words-unique : (s t : List ℕ) (m : ℕ) → at s m < 2 ^ 64 → at t m < 2 ^ 64 → ((b : ℕ) → b < 64 → bit s (m * 64 + b) ≡ bit t (m * 64 + b)) → at s m ≡ at t m
+words-unique s t m hs ht same = bits-unique 64 (at s m) (at t m) hs ht (λ b l. sym (bit-at s m b l) ∙ same b l ∙ bit-at t m b l)
+
+pub bits-table-unique : (j : Job) (s t : List ℕ) → BitTable j s → BitTable j t → (m : ℕ) → m < bitWords j → at s m ≡ at t m
 bits-table-unique j s t a b m h =
-    bits-unique 64 (at s m) (at t m) (a .narrow m h) (b .narrow m h)
-    (λ i l. sym (bit-at s m i l) ∙ tells-unique (a .set (m * 64 + i) (omega arith)) (b .set (m * 64 + i) (omega arith)) ∙ bit-at t m i l)
+    words-unique s t m (a .narrow m h) (b .narrow m h)
+    (λ i l. tells-unique (a .set (m * 64 + i) (omega arith)) (b .set (m * 64 + i) (omega arith)))
+
+-- a word of the light table is one of a label's own
+pub label-words-unique : (j : Job) {cells cells′ : List ℕ} (s t : List ℕ) → LightTable j cells s → LightTable j cells′ t
+    → (m : ℕ) → m < labels j * bitWords j → at s m ≡ at t m
+unfolding labelBit
+label-words-unique j s t a b m h =
+    let per = bitWords j in
+    let pos : 0 < per = omega arith in
+    let label : m / per < labels j = div-lt-iff-lt-mul pos .1 h in
+    let within : m % per < per = mod-lt m pos in
+    words-unique s t m (a .narrow m h) (b .narrow m h)
+    (λ i l.
+    let place : 64 * (m / per * per) + (m % per * 64 + i) ≡ m * 64 + i = omega (arith, div-add-mod' m per) in
+    rw place at (tells-unique (a .set (m / per) (m % per * 64 + i) label (omega arith)) (b .set (m / per) (m % per * 64 + i) label (omega arith))))
 
 -- a cell that shows the least of some numbers, or that there is none
 pub least-shown-unique : {P : ℕ → Type 0} {x y : ℕ} → LeastShown P x → LeastShown P y → x ≡ y

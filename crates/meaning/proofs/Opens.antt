@@ -2,13 +2,14 @@
 -- Assumes nothing.
 use Rattle.meaning.specs.Lists.{sum, total, every, upTo, if, tally}
 use Rattle.meaning.specs.Job.{jobOf, budgetsOf, labels, allKinds, kindOf}
-use Rattle.meaning.specs.Lent.{lentOf, roomOf, cellCount, roomFor}
+use Rattle.meaning.specs.Lent.{lentOf, roomOf, cellCount, onceRoom, roomBy}
 use Rattle.meaning.specs.Bounds.{mostLabels, mostSizes, mostClaims, mostBudget, mostShared, mostValue, mostCopies, leastCopies, mostOfOne}
 use Rattle.meaning.specs.Refusals.{positive, ascendingFrom, anything, eachWithin, hasCopies, leastValue, knapsackRules, weightRules}
 use Rattle.meaning.specs.Refusals.{rulesOf, listsFit, boundsFit, numbersFit, roomFits, claimsFit, jobRefusal, kindRefusal}
 use Rattle.meaning.specs.Bytes.{numberAt, numbersIn, between, isNeeded, wholeSection, readSection, withSection}
 use Rattle.meaning.specs.Bytes.{atEnd, readJob, bytesOf, bytesOfAll, sectionBytes, jobBytes}
 use Rattle.meaning.specs.Knapsacks.{orderOf, cellNumber}
+use Rattle.meaning.specs.Light.{labelBit}
 use Rattle.meaning.specs.Behind.{totalOrder}
 use Rattle.meaning.specs.Blocks.{blockOrder, tooMany}
 use Rattle.meaning.specs.Shares.{startOf, remainderOf, spareOf, precedes, rankOf, shareOf, sharesOf}
@@ -21,13 +22,13 @@ use Rattle.meaning.specs.Certificates.{verdictOnCertificate, certifiedKn
 unfoldable pub opens : Unit {0}
 unfolding sum total every upTo if tally
     jobOf budgetsOf labels allKinds kindOf
-    lentOf roomOf cellCount roomFor
+    lentOf roomOf cellCount onceRoom roomBy
     mostLabels mostSizes mostClaims mostBudget mostShared mostValue mostCopies leastCopies mostOfOne
     positive ascendingFrom anything eachWithin hasCopies leastValue knapsackRules weightRules
     rulesOf listsFit boundsFit numbersFit roomFits claimsFit jobRefusal kindRefusal
     numberAt numbersIn between isNeeded wholeSection readSection withSection
     atEnd readJob bytesOf bytesOfAll sectionBytes jobBytes
-    orderOf cellNumber
+    orderOf cellNumber labelBit
     totalOrder
     blockOrder tooMany
     startOf remainderOf spareOf precedes rankOf shareOf sharesOf

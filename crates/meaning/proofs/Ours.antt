@@ -12,22 +12,25 @@ use lib.Seq.{length-take-le}
 use mir.Facts.{and-yes, leb-yes, yes-and, yes-leb}
 use Rattle.meaning.specs.declared.Answer.{Answer}
 use Rattle.meaning.specs.declared.Answer.the-variants as Says
+use Rattle.meaning.specs.declared.Way.{Way}
+use Rattle.meaning.specs.declared.Way.the-variants.{Full}
 use Rattle.meaning.specs.declared.Written.the-variants.{Bytes, Refused}
 use Rattle.meaning.specs.Lists.{if, total}
 use Rattle.meaning.specs.Slices.{Holds}
-use Rattle.meaning.specs.Job.{Job, Kind, packing, labels, once, limited, free, Knapsack}
-use Rattle.meaning.specs.Lent.{Lent, Room, roomFor, roomOf}
+use Rattle.meaning.specs.Job.{Job, Kind, kindOf, packing, labels, Knapsack}
+use Rattle.meaning.specs.Lent.{Lent, Room, roomBy, roomOf}
 use Rattle.meaning.specs.Refusals.{jobRefusal, kindRefusal, rulesOf, roomFits}
 use Rattle.meaning.specs.Bytes.{JobRead, readJob, readable, sectionBytes, unreadable}
 use Rattle.meaning.specs.Knapsacks.{BestPicks}
 use Rattle.meaning.specs.Answers.{answerNumbers, writtenNumbers, AnswerNumbers}
-use Rattle.meaning.specs.Solved.{Answered, Gives, Outcome, Packed, Solved, SolvedBytes, SolvedRead, TableHolds}
+use Rattle.meaning.specs.Solved.{Answered, Gives, Outcome, Packed, SolvedBy, SolvedBytesBy, TableBy}
 use Rattle.meaning.specs.Certificates.{Checked, certificateCells, certifiedKnapsack, verdictOf, verdictOnJob}
 use Rattle.meaning.specs.Writer.{Writes, WritesBytes, WritesFor, WritesRead, bytesNeeded, newBytes}
 use Rattle.meaning.specs.Writer.{certificate, slicesFit, writerRefusal, writtenAs, WritesAs}
-use Rattle.meaning.specs.Demands.{AcceptedWith, BestList, OursAccepted}
+use Rattle.meaning.specs.Demands.{AcceptedWith, BestList, LeavesClaims, OursAccepted, full-way, other-kind}
+use Rattle.meaning.proofs.EachKind.{ClaimTable, full-claims, not-once, one-way}
 use Rattle.meaning.proofs.Unique.{answer-numbers-unique, written-numbers-unique}
-use Rattle.meaning.proofs.Laws.{holds-first, kind-solved}
+use Rattle.meaning.proofs.Laws.{bytes-solved, holds-first, kind-solved}
 use Rattle.meaning.proofs.Numbers.{section-long}
 use Rattle.meaning.proofs.Valid.{Passed, has-passed, not-refused, past-if}
 use Rattle.meaning.proofs.Covering.{exact-table}
@@ -89,17 +92,17 @@ answered-after zero room table k j before after s e f h = h
 answered-after (suc r) room table k j before after s e f h =
     absurd (omega (arith, e, f, ap (λ (l : Lent). kindRefusal room k j l) (h .nothing-written)))
 
--- the table of a knapsack is what its certificate needs
-pub table-room : (k : Knapsack) (j : Job) → roomFor (packing k) j ≡ roomOf (certificateCells k j) 0 (labels j)
-unfolding roomFor certificateCells
-table-room once j = refl
-table-room limited j = refl
-table-room free j = refl
+-- a way that leaves claims leaves the table that a certificate is written from
+pub claim-table : {way : Way} (k : Knapsack) (j : Job) → kindOf (j .kind-number) ≡ some (packing k) → LeavesClaims j way → ClaimTable way k j
+claim-table k j of-kind full-way = full-claims k j
+claim-table {way} k j of-kind (other-kind not-1) =
+    let same = one-way way Full (packing k) j (not-once j (packing k) of-kind not-1) in
+    record { room = same .room ∙ full-claims k j .room; table = same .table ∙ full-claims k j .table }
 
 -- ---- the ring: solve, write, check
 
-module _ (j : Job) (before after : Lent) (a : Answer) (out out′ : List ℕ) (n : ℕ)
-    (solved : Solved j before a after) (writes : Writes j (after .picks) (after .cells) out (Bytes n) out′) where
+module _ (way : Way) (j : Job) (leaves : LeavesClaims j way) (before after : Lent) (a : Answer) (out out′ : List ℕ) (n : ℕ)
+    (solved : SolvedBy way j before a after) (writes : Writes j (after .picks) (after .cells) out (Bytes n) out′) where
   wrote : WroteAll j (after .picks) (after .cells) out n out′
   unfolding Writes
   wrote = wrote-all (certifiedKnapsack (j .kind-number)) j (after .picks) (after .cells) out n out′ refl writes
@@ -109,6 +112,12 @@ module _ (j : Job) (before after : Lent) (a : Answer) (out out′ : List ℕ) (n
 
   abbrev kind : Kind
   kind = packing k
+
+  of-kind : kindOf (j .kind-number) ≡ some kind
+  of-kind = certified-kind (j .kind-number) k (wrote .of-knapsack)
+
+  claims : ClaimTable way k j
+  claims = claim-table k j of-kind leaves
 
   -- refusal 6, or none
   abbrev later : ℕ
@@ -133,20 +142,20 @@ module _ (j : Job) (before after : Lent) (a : Answer) (out out′ : List ℕ) (n
       let (picks-do, cells-do) = and-yes picks-fit cells-fit inputs in
       (leb-yes picks-do, leb-yes cells-do)
 
-  enough : T (roomFits (roomFor kind j) after)
+  enough : T (roomFits (roomBy way kind j) after)
   unfolding roomOf roomFits
   enough =
       let cells-fit : Bool = leb (certificateCells k j) (length (after .cells)) in
-      rw (table-room k j)
+      rw (claims .room)
       (yes-and (cells-fit && leb 0 (length (after .words))) (leb (labels j) (length (after .picks)))
       (yes-and cells-fit (leb 0 (length (after .words))) (yes-leb (rooms .1)) (yes-leb {b = length (after .words)} zero-le)) (yes-leb (rooms .0)))
 
-  answered : Answered (roomFor kind j) (TableHolds kind j) kind j before (answerNumbers a) after
+  answered : Answered (roomBy way kind j) (TableBy way kind j) kind j before (answerNumbers a) after
   answered =
-      answered-after (kindRefusal (roomFor kind j) kind j before) (roomFor kind j) (TableHolds kind j) kind j before after (answerNumbers a) refl
-      (not-refused (roomFor kind j) k j after later keeps enough)
-      (kind-solved j before kind (kindRefusal (roomFor kind j) kind j before) a after (certified-kind (j .kind-number) k (wrote .of-knapsack)) refl
-      solved)
+      let room = roomBy way kind j in
+      answered-after (kindRefusal room kind j before) room (TableBy way kind j) kind j before after (answerNumbers a) refl
+      (not-refused room k j after later keeps enough)
+      (kind-solved j before kind (kindRefusal room kind j before) a after of-kind refl solved)
 
   abbrev picks : List ℕ
   picks = answered .content .picks
@@ -165,7 +174,7 @@ module _ (j : Job) (before after : Lent) (a : Answer) (out out′ : List ℕ) (n
 
   long-cells : length (answered .content .cells) ≡ certificateCells k j
   unfolding roomOf
-  long-cells = answered .cells-needed ∙ ap (λ (r : Room). r .cells) (table-room k j)
+  long-cells = answered .cells-needed ∙ ap (λ (r : Room). r .cells) (claims .room)
 
   same-cells : take (certificateCells k j) (after .cells) ≡ answered .content .cells
   same-cells = holds-first _ _ _ _ (answered .cells-hold) long-cells
@@ -180,7 +189,7 @@ module _ (j : Job) (before after : Lent) (a : Answer) (out out′ : List ℕ) (n
   -- the bytes written are accepted, with the value of the answer
   ours : (jobB : List ℕ) → readJob jobB ≡ readable j
       → (value weight : ℕ) × (a ≡ Says.Knapsack value weight) × AcceptedWith Checked jobB (take n out′) value
-  unfolding verdictOf TableHolds
+  unfolding verdictOf
   ours jobB reads = (
     total (j .values) picks,
     total (j .weights) picks,
@@ -188,20 +197,22 @@ module _ (j : Job) (before after : Lent) (a : Answer) (out out′ : List ℕ) (n
     accepted-with jobB (take n out′) (total (j .values) picks)
         (ap₂ verdictOnJob reads output
         ∙ accepted-written k j picks (answered .content .cells) (record { of-knapsack = wrote .of-knapsack; not-refused = ok }) best long-cells
-        (exact-table k j (answered .content .cells) (answered .table-right))),
+        (exact-table k j (answered .content .cells) (subst (λ (holds : Lent → Type 0). holds (answered .content)) (claims .table) (answered .table-right)))),
   )
 
 -- the same where the job comes as bytes to all three
-ours-bytes : (r : JobRead) (jobB : List ℕ) (before after : Lent) (a : Answer) (out out′ : List ℕ) (n : ℕ) → readJob jobB ≡ r
-    → SolvedRead roomFor TableHolds r before a after → WritesRead r (after .picks) (after .cells) out (Bytes n) out′
+ours-bytes : (way : Way) (r : JobRead) (jobB : List ℕ) (before after : Lent) (a : Answer) (out out′ : List ℕ) (n : ℕ) → readJob jobB ≡ r
+    → ((j : Job) → readJob jobB ≡ readable j → LeavesClaims j way)
+    → SolvedBytesBy way jobB before a after → WritesRead r (after .picks) (after .cells) out (Bytes n) out′
     → (value weight : ℕ) × (a ≡ Says.Knapsack value weight) × AcceptedWith Checked jobB (take n out′) value
-unfolding SolvedRead WritesRead Solved writtenAs
-ours-bytes (unreadable place) jobB before after a out out′ n e s w = absurd (bytes≢refused n 1 (w .numbers))
-ours-bytes (readable j) jobB before after a out out′ n e s w = ours j before after a out out′ n s w jobB e
+unfolding WritesRead writtenAs
+ours-bytes way (unreadable place) jobB before after a out out′ n e leaves s w = absurd (bytes≢refused n 1 (w .numbers))
+ours-bytes way (readable j) jobB before after a out out′ n e leaves s w =
+    ours way j (leaves j e) before after a out out′ n (bytes-solved jobB j before after a e s) w jobB e
 
 pub ours-accepted : OursAccepted Checked
-unfolding SolvedBytes WritesBytes
+unfolding WritesBytes
 ours-accepted = record {
-  by-lists = λ jobB j reads before after a s out out′ n w. ours j before after a out out′ n s w jobB reads;
-  by-bytes = λ jobB before after a s out out′ n w. ours-bytes (readJob jobB) jobB before after a out out′ n refl s w;
+  by-lists = λ way jobB j reads leaves before after a s out out′ n w. ours way j leaves before after a out out′ n s w jobB reads;
+  by-bytes = λ way jobB leaves before after a s out out′ n w. ours-bytes way (readJob jobB) jobB before after a out out′ n refl leaves s w;
 }

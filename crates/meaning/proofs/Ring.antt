@@ -1,4 +1,4 @@
--- Solve, write, check: where a job of kinds 1 to 3 was answered, a writer with room doesn't refuse, and whoever checks what it wrote accepts
+-- Solve, write, check: where a job of kinds 1 to 3 was answered, kind 1 by the full way, a writer with room doesn't refuse, and whoever checks what it wrote accepts
 -- the answer's value.
 -- Assumes nothing.
 use mathlib.Core.Path.{_≡_, ap, refl, subst}
@@ -10,25 +10,26 @@ use mathlib.Core.List.{List}
 use lib.ListN.{drop, length, length-append, take}
 use borrow.Author.Tests.{le-leb}
 use Rattle.meaning.specs.declared.Answer.the-variants as Says
+use Rattle.meaning.specs.declared.Way.{Way}
 use Rattle.meaning.specs.declared.Written.{Written}
 use Rattle.meaning.specs.declared.Written.the-variants.{Bytes}
 use Rattle.meaning.specs.Lists.{if}
 use Rattle.meaning.specs.Slices.{Holds}
-use Rattle.meaning.specs.Job.{Job, Kind, Knapsack, packing, labels}
-use Rattle.meaning.specs.Lent.{Lent, Room, roomFor, roomOf}
+use Rattle.meaning.specs.Job.{Job, Kind, Knapsack, kindOf, packing, labels}
+use Rattle.meaning.specs.Lent.{Lent, Room, roomBy, roomOf}
 use Rattle.meaning.specs.Refusals.{jobRefusal, kindRefusal, rulesOf}
 use Rattle.meaning.specs.Bytes.{readJob, readable}
 use Rattle.meaning.specs.Knapsacks.{BestPicks}
 use Rattle.meaning.specs.Answers.{answerNumbers}
-use Rattle.meaning.specs.Solved.{Answered, Gives, Outcome, Solved, SolvedBytes, TableHolds}
+use Rattle.meaning.specs.Solved.{Answered, Gives, Outcome, SolvedBy, SolvedBytesBy, TableBy}
 use Rattle.meaning.specs.Certificates.{Checked, certificateCells, certifiedKnapsack}
 use Rattle.meaning.specs.Writer.{Writes, WritesBytes, WritesRead, bytesNeeded, certificate, slicesFit, writerRefusal, writtenAs, WritesAs}
-use Rattle.meaning.specs.Demands.{AcceptedWith}
+use Rattle.meaning.specs.Demands.{AcceptedWith, LeavesClaims}
 use Rattle.meaning.proofs.Unique.{answer-numbers-unique, written-numbers-unique}
 use Rattle.meaning.proofs.Laws.{bytes-solved, kind-solved, writes-knapsack}
 use Rattle.meaning.proofs.Valid.{is-cleared}
 use Rattle.meaning.proofs.Certified.{certified-kind}
-use Rattle.meaning.proofs.Ours.{ours-accepted, table-room}
+use Rattle.meaning.proofs.Ours.{claim-table, ours-accepted}
 
 -- the writer wrote all of it, and whoever checks what it wrote accepts it
 pub record RingClosed (jobB : List ℕ) (k : Knapsack) (j : Job) (value : ℕ) (w : Written) (out′ : List ℕ) : Type 0 where
@@ -51,22 +52,27 @@ module _ (room : Room) (table : Lent → Type 0) (k : Kind) (j : Job) (before af
       let z : _≡_ {A = ℕ} 0 1 = cc in
       absurd (omega arith)
 
-module _ (k : Knapsack) (j : Job) (of-knapsack : certifiedKnapsack (j .kind-number) ≡ some k) (before after : Lent) (value weight : ℕ)
-    (solved : Solved j before (Says.Knapsack value weight) after) where
+module _ (way : Way) (k : Knapsack) (j : Job) (of-knapsack : certifiedKnapsack (j .kind-number) ≡ some k) (leaves : LeavesClaims j way)
+    (before after : Lent) (value weight : ℕ) (solved : SolvedBy way j before (Says.Knapsack value weight) after) where
   abbrev kind : Kind
   kind = packing k
 
-  answered : (kindRefusal (roomFor kind j) kind j before ≡ 0) × Answered (roomFor kind j)
-      (TableHolds kind j) kind j before (answerNumbers (Says.Knapsack value weight)) after
+  abbrev room : Room
+  room = roomBy way kind j
+
+  of-kind : kindOf (j .kind-number) ≡ some kind
+  of-kind = certified-kind (j .kind-number) k of-knapsack
+
+  answered : (kindRefusal room kind j before ≡ 0) × Answered room (TableBy way kind j) kind j before (answerNumbers (Says.Knapsack value weight)) after
   answered =
-      not-turned-down (roomFor kind j) (TableHolds kind j) kind j before after value weight (kindRefusal (roomFor kind j) kind j before)
-      (kind-solved j before kind _ (Says.Knapsack value weight) after (certified-kind (j .kind-number) k of-knapsack) refl solved)
+      not-turned-down room (TableBy way kind j) kind j before after value weight (kindRefusal room kind j before)
+      (kind-solved j before kind _ (Says.Knapsack value weight) after of-kind refl solved)
 
   -- so it may have a certificate
   keeps-rules : jobRefusal (rulesOf kind) j 0 ≡ 0
   unfolding kindRefusal
   keeps-rules =
-      subst (λ (later : ℕ). jobRefusal (rulesOf kind) j later ≡ 0) (is-cleared (roomFor kind j) kind j before (answered .0) .keeps .later-none)
+      subst (λ (later : ℕ). jobRefusal (rulesOf kind) j later ≡ 0) (is-cleared room kind j before (answered .0) .keeps .later-none)
       (answered .0)
 
   -- and left its picks and cells in the slices
@@ -77,7 +83,7 @@ module _ (k : Knapsack) (j : Job) (of-knapsack : certifiedKnapsack (j .kind-numb
   cells-there : certificateCells k j ≤ length (after .cells)
   unfolding roomOf
   cells-there =
-      omega (arith, holds-long _ _ _ (answered .1 .cells-hold), answered .1 .cells-needed, ap (λ (r : Room). r .cells) (table-room k j))
+      omega (arith, holds-long _ _ _ (answered .1 .cells-hold), answered .1 .cells-needed, ap (λ (r : Room). r .cells) (claim-table k j of-kind leaves .room))
 
   module _ (out : List ℕ) (roomy : bytesNeeded k j ≤ length out) where
     fits : slicesFit k j (after .picks) (after .cells) out ≡ true
@@ -101,7 +107,7 @@ module _ (k : Knapsack) (j : Job) (of-knapsack : certifiedKnapsack (j .kind-numb
     ring-by-lists jobB reads w out′ writes =
         let written = all-written w out′ writes in
         let (value′, weight′, same, accepted) =
-        ours-accepted .by-lists jobB j reads before after (Says.Knapsack value weight) solved out out′ (bytesNeeded k j) (rw written at writes) in
+        ours-accepted .by-lists way jobB j reads leaves before after (Says.Knapsack value weight) solved out out′ (bytesNeeded k j) (rw written at writes) in
         let worth : value′ ≡ value = cc in
         record {
           written = written;
@@ -109,11 +115,11 @@ module _ (k : Knapsack) (j : Job) (of-knapsack : certifiedKnapsack (j .kind-numb
         }
 
 -- the same where the job comes as bytes to all three
-pub ring-by-bytes : (jobB : List ℕ) (k : Knapsack) (j : Job) → readJob jobB ≡ readable j → certifiedKnapsack (j .kind-number) ≡ some k
-    → (before after : Lent) (value weight : ℕ) → SolvedBytes jobB before (Says.Knapsack value weight) after
+pub ring-by-bytes : (way : Way) (jobB : List ℕ) (k : Knapsack) (j : Job) → readJob jobB ≡ readable j → certifiedKnapsack (j .kind-number) ≡ some k
+    → LeavesClaims j way → (before after : Lent) (value weight : ℕ) → SolvedBytesBy way jobB before (Says.Knapsack value weight) after
     → (out : List ℕ) → bytesNeeded k j ≤ length out → (w : Written) (out′ : List ℕ) → WritesBytes jobB (after .picks) (after .cells) out w out′
     → RingClosed jobB k j value w out′
 unfolding WritesBytes WritesRead
-ring-by-bytes jobB k j reads of-knapsack before after value weight solved out roomy w out′ writes =
-    ring-by-lists k j of-knapsack before after value weight
+ring-by-bytes way jobB k j reads of-knapsack leaves before after value weight solved out roomy w out′ writes =
+    ring-by-lists way k j of-knapsack leaves before after value weight
     (bytes-solved jobB j before after (Says.Knapsack value weight) reads solved) out roomy jobB reads w out′ (rw reads at writes)

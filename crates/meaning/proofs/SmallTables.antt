@@ -2,7 +2,7 @@
 -- Assumes nothing.
 use mathlib.Core.Path.{subst}
 use mathlib.Core.Logic.{inl, inr}
-use Prim.Native.Nat.{_*_, _+_, _/_, _^_, _≤_, min, suc, suc-le-suc, zero, ℕ}
+use Prim.Native.Nat.{_*_, _+_, _/_, _<_, _^_, _≤_, min, suc, suc-le-suc, zero, ℕ}
 use native.Mathlib.Decide.{decLe}
 use native.Mathlib.Omega.{arith}
 use mathlib.Core.Bool.{Bool, _&&_, _||_}
@@ -13,13 +13,16 @@ use mir.Facts.{and-yes, eqb-yes, leb-yes, ltb-yes, or-yes, yes-eqb, yes-leb}
 use Rattle.meaning.specs.Lists.{at, sum, total}
 use Rattle.meaning.specs.Cells.{LeastShown, noWay, none-shown, shown}
 use Rattle.meaning.specs.Job.{Job, Knapsack, free, labels, once}
+use Rattle.meaning.specs.Lent.{bitWords}
 use Rattle.meaning.specs.Knapsacks.{BestValue, FullTable, OneRow, cellNumber}
 use Rattle.meaning.specs.Sums.{BitTable, ReachedWithin, Tells, bit, is-not, is-so}
+use Rattle.meaning.specs.Light.{LightTable, Raises, labelBit}
 use Rattle.meaning.specs.Behind.{FirstRow, ReachedBy}
 use Rattle.meaning.specs.Blocks.{FewestRow, MadeOf, WaysRow, tooMany}
 use Rattle.meaning.specs.Certificates.{someOf}
 use Rattle.meaning.proofs.Tests.{_implies_, all, all-out, below, below-out, implied}
 use Rattle.meaning.proofs.Steps.{best-by}
+use Rattle.meaning.proofs.Light.{raises-by, raises-none}
 use Rattle.meaning.proofs.Reaching.{reached-as, reached-more}
 use Rattle.meaning.proofs.Small.{areWays, block-limits, exact, fitting, isMaking, isSelection, limits-hold}
 use Rattle.meaning.proofs.Small.{limits-right, makes-out, makes-within, misses, misses-out, once-limits, reached-by}
@@ -101,6 +104,66 @@ module _ (k : Knapsack) (j : Job) (cells : List ℕ) where
       best-out k j i c (at cells (cellNumber j i c))
       (below-out (suc (j .budget)) (λ c′. isBest k j i c′ (at cells (cellNumber j i c′)))
       (below-out (suc (labels j)) isFullRow t i (suc-le-suc hi)) c (suc-le-suc hc))
+
+-- ---- kind 1 the light way, beside its full table
+
+module _ (j : Job) (full cells words : List ℕ) where
+  abbrev cell : ℕ → ℕ → ℕ
+  cell i c = at full (cellNumber j i c)
+
+  -- bit c of label m is set, and label m raises the cell
+  abbrev isRise : ℕ → ℕ → Bool
+  isRise m c = eqb (labelBit j words m c) 1 && (leb c (j .budget) && ltb (cell m c) (cell (suc m) c))
+
+  -- it isn't set, and label m doesn't, or c is above C
+  abbrev isNoRise : ℕ → ℕ → Bool
+  isNoRise m c = eqb (labelBit j words m c) 0 && (leb c (j .budget) implies leb (cell (suc m) c) (cell m c))
+
+  abbrev isBitOf : ℕ → Bool
+  isBitOf m = below (64 * bitWords j) (λ c. isRise m c || isNoRise m c)
+
+  -- `LightTable` as a test
+  unfoldable pub isLightTable : Bool
+  unfolding below isFullTable isRow labelBit bit
+  isLightTable =
+      isFullTable once j full && isRow once j cells && (below (labels j) isBitOf && below (labels j * bitWords j) (λ m. ltb (at words m) (2 ^ 64)))
+
+  module _ (table : FullTable once j full) (m c : ℕ) (inside : m < labels j) where
+    bit-of-out : T (isRise m c || isNoRise m c) → Tells (Raises j m c) (labelBit j words m c)
+    unfolding FullTable
+    bit-of-out t =
+        let bit-is = labelBit j words m c in
+        elim (or-yes (isRise m c) (isNoRise m c) t) [
+          | inl a ↦
+              let (e, up) = and-yes (eqb bit-is 1) (leb c (j .budget) && ltb (cell m c) (cell (suc m) c)) a in
+              let (in-budget, above) = and-yes (leb c (j .budget)) (ltb (cell m c) (cell (suc m) c)) up in
+              let within : c ≤ j .budget = leb-yes in-budget in
+              raises-by j m c _ _ bit-is (table m c (omega arith) within) (table (suc m) c inside within) within (is-so (ltb-yes above) (eqb-yes e))
+          | inr b ↦
+              let (e, up) = and-yes (eqb bit-is 0) (leb c (j .budget) implies leb (cell (suc m) c) (cell m c)) b in
+              elim (decLe c (j .budget)) [
+                | yes within ↦
+                    let no-more : cell (suc m) c ≤ cell m c = leb-yes (implied (leb c (j .budget)) (leb (cell (suc m) c) (cell m c)) up (yes-leb within)) in
+                    raises-by j m c _ _ bit-is (table m c (omega arith) within) (table (suc m) c inside within) within
+                    (is-not (λ above. absurd (omega (arith, no-more, above))) (eqb-yes e))
+                | no past ↦ raises-none j m c bit-is (omega arith) (eqb-yes e)
+              ]
+        ]
+
+  pub light-table-out : T isLightTable → LightTable j cells words
+  unfolding isLightTable
+  light-table-out t =
+      let narrows : Bool = below (labels j * bitWords j) (λ m. ltb (at words m) (2 ^ 64)) in
+      let (tables, bits-narrow) = and-yes (isFullTable once j full && isRow once j cells) (below (labels j) isBitOf && narrows) t in
+      let (full-right, row-right) = and-yes (isFullTable once j full) (isRow once j cells) tables in
+      let (bits, narrow) = and-yes (below (labels j) isBitOf) narrows bits-narrow in
+      record {
+        best = row-out once j cells row-right;
+        set = λ m c inside l.
+            bit-of-out (full-table-out once j full full-right) m c inside
+            (below-out (64 * bitWords j) (λ c′. isRise m c′ || isNoRise m c′) (below-out (labels j) isBitOf bits m inside) c l);
+        narrow = λ m l. ltb-yes (below-out (labels j * bitWords j) (λ m′. ltb (at words m′) (2 ^ 64)) narrow m l);
+      }
 
 -- ---- kind 4
 

@@ -8,33 +8,35 @@ use lib.Dec.{T, leb, leb·zero}
 use lib.ListN.{drop, length}
 use mir.Facts.{and-yes, leb-yes}
 use Rattle.meaning.specs.declared.Answer.{Answer}
+use Rattle.meaning.specs.declared.Way.{Way}
+use Rattle.meaning.specs.declared.Way.the-variants.{Light}
 use Rattle.meaning.specs.Slices.{Holds}
 use Rattle.meaning.specs.Job.{Job, Kind, labels}
-use Rattle.meaning.specs.Lent.{Lent, lentOf, roomFor}
+use Rattle.meaning.specs.Lent.{Lent, lentOf, roomBy, roomFor}
 use Rattle.meaning.specs.Bounds.{leastCopies, mostCopies, mostValue}
 use Rattle.meaning.specs.Refusals.{boundsFit, claimsFit, eachWithin, kindRefusal, numbersFit, roomFits, rulesOf}
 use Rattle.meaning.specs.Answers.{answerNumbers}
-use Rattle.meaning.specs.Solved.{Gives, TableHolds, Unrefused}
-use Rattle.meaning.specs.SolvedIn.{SolvedInCells, SolvedInWords, SolvedInPicks}
+use Rattle.meaning.specs.Solved.{Gives, TableBy, TableHolds, Unrefused, UnrefusedBy}
+use Rattle.meaning.specs.SolvedIn.{SolvedInCellsBy, SolvedInWords, SolvedInPicks}
 use Rattle.meaning.proofs.Valid.{is-cleared}
 use Rattle.meaning.proofs.Laws.{answered-solved}
 use Rattle.meaning.proofs.Unique.{no-second-choice}
 
 -- ---- what a job that is not refused keeps
 
-pub record Kept (k : Kind) (j : Job) (lent : Lent) : Type 0 where
+pub record KeptBy (way : Way) (k : Kind) (j : Job) (lent : Lent) : Type 0 where
   pub few : labels j ≤ rulesOf k .label-bound
   pub small : j .budget ≤ rulesOf k .budget-bound
   pub weights-right : T ((rulesOf k .weight-rule) (j .weights))
-  pub cells-room : roomFor k j .cells ≤ length (lent .cells)
-  pub words-room : roomFor k j .words ≤ length (lent .words)
-  pub picks-room : roomFor k j .picks ≤ length (lent .picks)
+  pub cells-room : roomBy way k j .cells ≤ length (lent .cells)
+  pub words-room : roomBy way k j .words ≤ length (lent .words)
+  pub picks-room : roomBy way k j .picks ≤ length (lent .picks)
   pub claimed : T (claimsFit (rulesOf k) j)
 
-pub kept : (k : Kind) (j : Job) (lent : Lent) → Unrefused k j lent → Kept k j lent
+pub kept : {way : Way} (k : Kind) (j : Job) (lent : Lent) → UnrefusedBy way k j lent → KeptBy way k j lent
 unfolding boundsFit numbersFit roomFits
-kept k j lent ok =
-    let room = roomFor k j in
+kept {way} k j lent ok =
+    let room = roomBy way k j in
     let rules = rulesOf k in
     let c = is-cleared room k j lent (ok .no-refusal) in
     let (n, b) = and-yes (leb (labels j) (rules .label-bound)) (leb (j .budget) (rules .budget-bound)) (c .keeps .bounds) in
@@ -56,6 +58,10 @@ kept k j lent ok =
       claimed = c .claimed;
     }
 
+-- by the light way
+abbrev pub Kept : Kind → Job → Lent → Type 0
+Kept k j lent = KeptBy Light k j lent
+
 -- ---- of a lent slice only its length counts, and of one that isn't needed not even that
 
 pub data Alike (needed : ℕ) (s t : List ℕ) : Type 0 where
@@ -66,9 +72,9 @@ alike-room : {needed : ℕ} {s t : List ℕ} → Alike needed s t → leb needed
 alike-room {s = s} {t = t} (not-needed e) = rw (e, leb·zero (length s), leb·zero (length t))
 alike-room (as-long e) = rw e
 
-pub still-unrefused : (k : Kind) (j : Job) (before after : Lent) → Alike (roomFor k j .cells) (before .cells) (after .cells)
-    → Alike (roomFor k j .words) (before .words) (after .words) → Alike (roomFor k j .picks) (before .picks) (after .picks)
-    → Unrefused k j before → Unrefused k j after
+pub still-unrefused : {way : Way} (k : Kind) (j : Job) (before after : Lent) → Alike (roomBy way k j .cells) (before .cells) (after .cells)
+    → Alike (roomBy way k j .words) (before .words) (after .words) → Alike (roomBy way k j .picks) (before .picks) (after .picks)
+    → UnrefusedBy way k j before → UnrefusedBy way k j after
 unfolding kindRefusal roomFits
 still-unrefused k j before after c w p ok = record {
   of-kind = ok .of-kind;
@@ -84,10 +90,10 @@ holds-front new old n long = rw long
 
 module _ (k : Kind) (j : Job) (a : Answer) where
   -- `table` and `found` are written over the first cells and picks
-  pub solved-in-cells : (cells picks cells-after picks-after table found : List ℕ) → Unrefused k j (lentOf cells [] picks) → roomFor k j .words ≡ 0
-      → Gives k j (answerNumbers a) found → TableHolds k j (lentOf table [] found) → length table ≡ roomFor k j .cells
-      → Holds table cells cells-after → Holds found picks picks-after → SolvedInCells j cells picks a cells-after picks-after
-  unfolding SolvedInCells Holds lentOf
+  pub solved-in-cells : {way : Way} (cells picks cells-after picks-after table found : List ℕ) → UnrefusedBy way k j (lentOf cells [] picks)
+      → roomBy way k j .words ≡ 0 → Gives k j (answerNumbers a) found → TableBy way k j (lentOf table [] found) → length table ≡ roomBy way k j .cells
+      → Holds table cells cells-after → Holds found picks picks-after → SolvedInCellsBy way j cells picks a cells-after picks-after
+  unfolding SolvedInCellsBy Holds lentOf
   solved-in-cells cells picks cells-after picks-after table found ok none gives right long in-cells in-picks words =
       answered-solved k j (lentOf cells words picks) (lentOf cells-after words picks-after) a
       (still-unrefused k j (lentOf cells [] picks) (lentOf cells words picks) (as-long refl) (not-needed none) (as-long refl) ok)
@@ -142,10 +148,10 @@ module _ (k : Kind) (j : Job) (a : Answer) where
 -- ---- no second choice is left: the answer, and what the slices hold
 
 module _ (j : Job) (a a′ : Answer) where
-  pub one-in-cells : (cells picks c c′ p p′ : List ℕ) → SolvedInCells j cells picks a c p → SolvedInCells j cells picks a′ c′ p′
+  pub one-in-cells : (way : Way) (cells picks c c′ p p′ : List ℕ) → SolvedInCellsBy way j cells picks a c p → SolvedInCellsBy way j cells picks a′ c′ p′
       → (a ≡ a′) × (c ≡ c′) × (p ≡ p′)
-  unfolding SolvedInCells lentOf
-  one-in-cells cells picks c c′ p p′ x y =
+  unfolding SolvedInCellsBy lentOf
+  one-in-cells way cells picks c c′ p p′ x y =
       let one = no-second-choice j (lentOf cells [] picks) (lentOf c [] p) (lentOf c′ [] p′) a a′ (x []) (y []) in
       (one .answer, ap (λ (l : Lent). l .cells) (one .left), ap (λ (l : Lent). l .picks) (one .left))
 

@@ -2,71 +2,123 @@
 -- The lent slices are longer than needed, and what they hold past the needed places stays.
 -- Assumes nothing.
 use mathlib.Core.Path.{_≡_, ap, refl, sym}
+use mathlib.Core.Option.{some}
 use Prim.Native.Nat.{suc, ℕ}
 use mathlib.Core.Bool.{true}
 use mathlib.Core.List.{List, [], _∷_, _++_}
 use lib.Dec.{lit≤}
-use lib.ListN.{getD, length}
+use lib.ListN.{getD, length, replicate}
+use Rattle.meaning.specs.declared.Answer.{Answer}
 use Rattle.meaning.specs.declared.Answer.the-variants as Says
+use Rattle.meaning.specs.declared.Way.{Way}
 use Rattle.meaning.specs.Slices.{Holds}
-use Rattle.meaning.specs.Job.{Job, Kind, allKinds, block-ways, fewest-blocks, free, jobOf, labels, labels-behind}
+use Rattle.meaning.specs.Job.{Job, Kind, allKinds, block-ways, fewest-blocks, free, jobOf, kindOf, labels, labels-behind}
 use Rattle.meaning.specs.Job.{limited, once, packing, sharing, subset-sums}
-use Rattle.meaning.specs.Lent.{Lent, lentOf, roomFor}
+use Rattle.meaning.specs.Lent.{Lent, lentOf, roomBy}
+use Rattle.meaning.specs.Refusals.{kindRefusal}
 use Rattle.meaning.specs.Bytes.{jobBytes}
 use Rattle.meaning.specs.Knapsacks.{FullTable, OneRow, ValueTable}
 use Rattle.meaning.specs.Sums.{BitTable, ReachedWithin, TotalCount, YesOrNo, is-so}
+use Rattle.meaning.specs.Light.{LightTable}
 use Rattle.meaning.specs.Behind.{FirstRow}
 use Rattle.meaning.specs.Blocks.{FewestRow, WaysFor, WaysRow, WaysShown}
-use Rattle.meaning.specs.Answers.{AnswerNumbers, answerNumbers}
-use Rattle.meaning.specs.Solved.{Answered, Built, Gives, Outcome, Solved, SolvedAs}
-use Rattle.meaning.specs.Solved.{SolvedBytes, SolvedLists, SolvedRead, TableHolds, Weighed, a-sum, no-such-sum}
-use Rattle.meaning.specs.Agreement.{Agreed, GetsPast6}
+use Rattle.meaning.specs.Answers.{answerNumbers}
+use Rattle.meaning.specs.Solved.{Built, Gives, OnceTable, Outcome, Solved, SolvedAs, SolvedBy, SolvedBytes, SolvedFull}
+use Rattle.meaning.specs.Solved.{SolvedLists, SolvedRead, TableBy, Weighed, a-sum, no-such-sum}
+use Rattle.meaning.specs.Agreement.{Agreed, GetsPast6, SameAnswer}
 use Rattle.meaning.proofs.Agreement.{kinds-agree}
+use Rattle.meaning.proofs.Ways.{ways-agree}
 use Rattle.meaning.proofs.EachKind.{not-said, refusals}
+use Rattle.meaning.proofs.Laws.{answered-solved}
 use Rattle.meaning.proofs.Reaching.{no-labels}
 use Rattle.meaning.proofs.Small.{behind-out, behind-weighs, counted-out, isBehind, isCounted, isLaid, isSelection, laid-makes, laid-out}
 use Rattle.meaning.proofs.Small.{misses, misses-out, picked, picked-out, reached-by, totalled, totalled-out, unmade, unmade-out}
 use Rattle.meaning.proofs.SmallTables.{bit-table-out, fewest-row-out, first-row-out, full-table-out, isBitTable, isFewestRow, isFirstRow}
-use Rattle.meaning.proofs.SmallTables.{isFullTable, isRow, isWaysRow, row-out, ways-row-out}
+use Rattle.meaning.proofs.SmallTables.{isFullTable, isLightTable, isRow, isWaysRow, light-table-out, row-out, ways-row-out}
 use Rattle.meaning.proofs.Opens.{opens}
 use Rattle.meaning.proofs.Cases.{caseJ}
 
--- a call that leaves `content` in the needed places
-leaves : (k : Kind) (j : Job) (content : Lent) {before after : Lent} {s : AnswerNumbers} → Gives k j s (content .picks) → TableHolds k j content
-    → length (content .cells) ≡ roomFor k j .cells → length (content .words) ≡ roomFor k j .words
+-- a call that no refusal meets and that leaves `content` in the needed places
+leaves : {way : Way} (k : Kind) (j : Job) (content : Lent) {before after : Lent} {a : Answer} → Gives k j (answerNumbers a) (content .picks)
+    → TableBy way k j content → kindOf (j .kind-number) ≡ some k → kindRefusal (roomBy way k j) k j before ≡ 0
+    → length (content .cells) ≡ roomBy way k j .cells → length (content .words) ≡ roomBy way k j .words
     → Holds (content .cells) (before .cells) (after .cells) → Holds (content .words) (before .words) (after .words)
-    → Holds (content .picks) (before .picks) (after .picks) → Answered (roomFor k j) (TableHolds k j) k j before s after
-leaves k j content given table cells words cells′ words′ picks′ = record {
-  content = content;
-  gives = given;
-  table-right = table;
-  cells-needed = cells;
-  words-needed = words;
-  cells-hold = cells′;
-  words-hold = words′;
-  picks-hold = picks′;
-}
+    → Holds (content .picks) (before .picks) (after .picks) → SolvedBy way j before a after
+leaves k j content {before} {after} {a} given table of-kind no-refusal cells words cells′ words′ picks′ =
+    answered-solved k j before after a (record { of-kind = of-kind; no-refusal = no-refusal })
+    (record {
+      content = content;
+      gives = given;
+      table-right = table;
+      cells-needed = cells;
+      words-needed = words;
+      cells-hold = cells′;
+      words-hold = words′;
+      picks-hold = picks′;
+    })
 
 -- `unfolding call` unfolds what a call promises
 unfoldable call : Unit {0}
-unfolding opens Solved SolvedLists SolvedAs Outcome Gives TableHolds ValueTable Holds
+unfolding opens SolvedLists SolvedAs Outcome Gives TableBy OnceTable ValueTable Holds
 call = tt
 
 -- ---- kind 1: J's job
 
--- a row of no labels, and a row of label 0
+-- a row of all labels, and label 0's bit of 2 alone
+light₁ : LightTable caseJ (0 ∷ 0 ∷ 3 ∷ []) (4 ∷ [])
+unfolding opens isLightTable
+light₁ = light-table-out caseJ (0 ∷ 0 ∷ 0 ∷ 0 ∷ 0 ∷ 3 ∷ []) _ _ tt
+
+light-call₁ : Solved caseJ
+    (lentOf (9 ∷ 9 ∷ 9 ∷ 7 ∷ []) (9 ∷ 8 ∷ []) (9 ∷ 6 ∷ []))
+    (Says.Knapsack 3 2)
+    (lentOf (0 ∷ 0 ∷ 3 ∷ 7 ∷ []) (4 ∷ 8 ∷ []) (1 ∷ 6 ∷ []))
+unfolding call picked
+light-call₁ =
+    leaves (packing once) caseJ (lentOf (0 ∷ 0 ∷ 3 ∷ []) (4 ∷ []) (1 ∷ []))
+    (record { picked = picked-out once caseJ (1 ∷ []) tt; numbers = refl }) light₁ refl refl refl refl refl refl refl
+
+-- no labels: a row of 0, and no words
+light-none : LightTable (jobOf 1 (2 ∷ []) [] [] []) (0 ∷ 0 ∷ 0 ∷ []) []
+unfolding opens isLightTable
+light-none = light-table-out (jobOf 1 (2 ∷ []) [] [] []) (0 ∷ 0 ∷ 0 ∷ []) _ _ tt
+
+-- a second label that does as well raises nothing; nor does one that is heavier than C, or one that is worth 0
+light-tied : LightTable (jobOf 1 (1 ∷ []) (1 ∷ 1 ∷ 2 ∷ 1 ∷ []) (3 ∷ 3 ∷ 9 ∷ 0 ∷ []) []) (0 ∷ 3 ∷ []) (2 ∷ 0 ∷ 0 ∷ 0 ∷ [])
+unfolding opens isLightTable
+light-tied = light-table-out (jobOf 1 (1 ∷ []) (1 ∷ 1 ∷ 2 ∷ 1 ∷ []) (3 ∷ 3 ∷ 9 ∷ 0 ∷ []) []) (0 ∷ 0 ∷ 0 ∷ 3 ∷ 0 ∷ 3 ∷ 0 ∷ 3 ∷ 0 ∷ 3 ∷ []) _ _ tt
+
+-- a budget of 0: a cell, and a word with no bit
+light-no-budget : LightTable (jobOf 1 (0 ∷ []) (1 ∷ []) (3 ∷ []) []) (0 ∷ []) (0 ∷ [])
+unfolding opens isLightTable
+light-no-budget = light-table-out (jobOf 1 (0 ∷ []) (1 ∷ []) (3 ∷ []) []) (0 ∷ 0 ∷ []) _ _ tt
+
+-- C 64: the bit of 64 is the first of the label's second word
+light-border : LightTable (jobOf 1 (64 ∷ []) (64 ∷ []) (5 ∷ []) []) (replicate 64 0 ++ (5 ∷ [])) (0 ∷ 1 ∷ [])
+unfolding opens isLightTable
+light-border = light-table-out (jobOf 1 (64 ∷ []) (64 ∷ []) (5 ∷ []) []) (replicate 129 0 ++ (5 ∷ [])) _ _ tt
+
+-- the full way: a row of no labels, and a row of label 0
 table₁ : FullTable once caseJ (0 ∷ 0 ∷ 0 ∷ 0 ∷ 0 ∷ 3 ∷ [])
 unfolding opens isFullTable
 table₁ = full-table-out once caseJ _ tt
 
-call₁ : Solved caseJ
+full-call₁ : SolvedFull caseJ
     (lentOf (9 ∷ 9 ∷ 9 ∷ 9 ∷ 9 ∷ 9 ∷ 7 ∷ []) (8 ∷ []) (9 ∷ 6 ∷ []))
     (Says.Knapsack 3 2)
     (lentOf (0 ∷ 0 ∷ 0 ∷ 0 ∷ 0 ∷ 3 ∷ 7 ∷ []) (8 ∷ []) (1 ∷ 6 ∷ []))
 unfolding call picked
-call₁ =
+full-call₁ =
     leaves (packing once) caseJ (lentOf (0 ∷ 0 ∷ 0 ∷ 0 ∷ 0 ∷ 3 ∷ []) [] (1 ∷ []))
-    (record { picked = picked-out once caseJ (1 ∷ []) tt; numbers = refl }) table₁ refl refl refl refl refl
+    (record { picked = picked-out once caseJ (1 ∷ []) tt; numbers = refl }) table₁ refl refl refl refl refl refl refl
+
+-- both ways answer the same
+agreed-1 : SameAnswer (Says.Knapsack 3 2) (Says.Knapsack 3 2) (9 ∷ 6 ∷ []) (1 ∷ 6 ∷ []) (9 ∷ 6 ∷ []) (1 ∷ 6 ∷ [])
+unfolding refusals answerNumbers lentOf
+agreed-1 =
+    ways-agree caseJ _ (lentOf (0 ∷ 0 ∷ 3 ∷ 7 ∷ []) (4 ∷ 8 ∷ []) (1 ∷ 6 ∷ [])) _ (lentOf (0 ∷ 0 ∷ 0 ∷ 0 ∷ 0 ∷ 3 ∷ 7 ∷ []) (8 ∷ []) (1 ∷ 6 ∷ []))
+    (Says.Knapsack 3 2) (Says.Knapsack 3 2) light-call₁ full-call₁
+    (λ e. not-said 6 (Says.Knapsack 3 2) refl (sym (ap answerNumbers e))) (λ e. not-said 6 (Says.Knapsack 3 2) refl (sym (ap answerNumbers e)))
 
 -- ---- kind 2: a label of two copies, where a third would fit
 
@@ -84,7 +136,7 @@ call₂ : Solved job₂
 unfolding call picked
 call₂ =
     leaves (packing limited) job₂ (lentOf (0 ∷ 0 ∷ 0 ∷ 0 ∷ 0 ∷ 3 ∷ 6 ∷ 6 ∷ []) [] (2 ∷ []))
-    (record { picked = picked-out limited job₂ (2 ∷ []) tt; numbers = refl }) table₂ refl refl refl refl refl
+    (record { picked = picked-out limited job₂ (2 ∷ []) tt; numbers = refl }) table₂ refl refl refl refl refl refl refl
 
 -- ---- kind 3: E's second job
 
@@ -102,7 +154,7 @@ call₃ : Solved job₃
 unfolding call picked
 call₃ =
     leaves (packing free) job₃ (lentOf (0 ∷ 0 ∷ 1 ∷ 1 ∷ 2 ∷ []) [] (2 ∷ 0 ∷ []))
-    (record { picked = picked-out free job₃ (2 ∷ 0 ∷ []) tt; numbers = refl }) row₃ refl refl refl refl refl
+    (record { picked = picked-out free job₃ (2 ∷ 0 ∷ []) tt; numbers = refl }) row₃ refl refl refl refl refl refl refl
 
 -- ---- kind 4: F's first two jobs, and one of two words
 
@@ -142,7 +194,7 @@ call₄ =
       numbers = refl;
       none-written = refl;
     })
-    bits₄ refl refl refl refl refl
+    bits₄ refl refl refl refl refl refl refl
 
 -- of no labels, 0 alone is reached
 only-0-reached : (t : ℕ) → ReachedWithin job₄ 0 t → t ≡ 0
@@ -164,7 +216,7 @@ call₅ : Solved job₅
 unfolding call Built isLaid
 call₅ =
     leaves fewest-blocks job₅ (lentOf (0 ∷ 1 ∷ 2 ∷ 1 ∷ 1 ∷ 2 ∷ 2 ∷ []) [] (0 ∷ 2 ∷ 0 ∷ []))
-    (a-sum (laid-makes job₅ (0 ∷ 2 ∷ 0 ∷ []) tt) (laid-out job₅ (0 ∷ 2 ∷ 0 ∷ []) tt) refl) row₅ refl refl refl refl refl
+    (a-sum (laid-makes job₅ (0 ∷ 2 ∷ 0 ∷ []) tt) (laid-out job₅ (0 ∷ 2 ∷ 0 ∷ []) tt) refl) row₅ refl refl refl refl refl refl refl
 
 abbrev unmade₅ : Job
 unmade₅ = jobOf 5 (7 ∷ []) (5 ∷ 10 ∷ []) [] []
@@ -187,7 +239,7 @@ unfolding call
 unmade-call =
     leaves fewest-blocks unmade₅
     (lentOf (0 ∷ 4_294_967_295 ∷ 4_294_967_295 ∷ 4_294_967_295 ∷ 4_294_967_295 ∷ 1 ∷ 4_294_967_295 ∷ 4_294_967_295 ∷ []) [] [])
-    unmade-answer unmade-row refl refl refl refl refl
+    unmade-answer unmade-row refl refl refl refl refl refl refl
 
 -- ---- kind 6: H's first job
 
@@ -217,7 +269,7 @@ unfolding call isCounted
 call₆ =
     leaves block-ways job₆ (lentOf [] (1 ∷ 1 ∷ 2 ∷ 2 ∷ 3 ∷ 4 ∷ []) [])
     (record { ways = 4; how-many = counted-out job₆ (getD ways₆ 5 []) tt; numbers = refl; none-written = refl })
-    row₆ refl refl refl refl refl
+    row₆ refl refl refl refl refl refl refl
 
 -- ---- kind 6: ways that are many
 
@@ -254,7 +306,7 @@ call₇ : Solved job₇
     (Says.Shares 1)
     (lentOf (8 ∷ []) (7 ∷ []) (4 ∷ 3 ∷ 3 ∷ 6 ∷ []))
 unfolding call
-call₇ = leaves sharing job₇ (lentOf [] [] (4 ∷ 3 ∷ 3 ∷ [])) (record { given = refl; numbers = refl }) tt refl refl refl refl refl
+call₇ = leaves sharing job₇ (lentOf [] [] (4 ∷ 3 ∷ 3 ∷ [])) (record { given = refl; numbers = refl }) tt refl refl refl refl refl refl refl
 
 -- ---- kind 8: F's jobs, the first with its labels, the second with none
 
@@ -276,7 +328,7 @@ call₈ : Solved (three-behind 8)
 unfolding call Weighed isBehind
 call₈ =
     leaves labels-behind (three-behind 8) (lentOf cells₈ [] (1 ∷ 1 ∷ 0 ∷ []))
-    (a-sum (behind-weighs (three-behind 8) (1 ∷ 1 ∷ 0 ∷ []) tt) (behind-out (three-behind 8) (1 ∷ 1 ∷ 0 ∷ []) tt) refl) row₈ refl refl refl refl refl
+    (a-sum (behind-weighs (three-behind 8) (1 ∷ 1 ∷ 0 ∷ []) tt) (behind-out (three-behind 8) (1 ∷ 1 ∷ 0 ∷ []) tt) refl) row₈ refl refl refl refl refl refl refl
 
 -- the same without the last cell: the table is complete, and the picks are as they were
 abbrev unreached-cells : List ℕ
@@ -293,7 +345,7 @@ unreached-call : Solved (three-behind 7)
 unfolding call Weighed misses
 unreached-call =
     leaves labels-behind (three-behind 7) (lentOf unreached-cells [] [])
-    (no-such-sum (misses-out (three-behind 7) 3 7 (lit≤ tt) tt) refl refl) unreached-row refl refl refl refl refl
+    (no-such-sum (misses-out (three-behind 7) 3 7 (lit≤ tt) tt) refl refl) unreached-row refl refl refl refl refl refl refl
 
 -- kind 4's call on the first of them, and what the two agree on
 bits-call : Solved (three-labels 8) (lentOf [] (9 ∷ 7 ∷ []) []) (Says.Sums true 4) (lentOf [] (297 ∷ 7 ∷ []) [])
@@ -308,7 +360,7 @@ bits-call =
       numbers = refl;
       none-written = refl;
     })
-    bits-to-8 refl refl refl refl refl
+    bits-to-8 refl refl refl refl refl refl refl
 
 agreed-8 : Agreed 8 (297 ∷ 7 ∷ []) (Says.Sums true 4) (cells₈ ++ (7 ∷ [])) (Says.Weight 8)
 unfolding GetsPast6 refusals answerNumbers lentOf
@@ -336,17 +388,17 @@ lent = lentOf (8 ∷ []) (7 ∷ []) (6 ∷ [])
 -- one above the last kind
 no-kind : Solved (jobOf (suc (length allKinds)) (0 ∷ []) [] [] []) lent (Says.Refused 2) lent
 unfolding call
-no-kind = record { numbers = refl; nothing-written = refl }
+no-kind = record { kept = record { numbers = refl; nothing-written = refl } }
 
 too-few-cells : Solved caseJ lent (Says.Refused 6) lent
 unfolding call
-too-few-cells = record { numbers = refl; nothing-written = refl }
+too-few-cells = record { kept = record { numbers = refl; nothing-written = refl } }
 
 -- the same on job bytes
 too-few-from-bytes : SolvedBytes (jobBytes caseJ) lent (Says.Refused 6) lent
-unfolding call SolvedBytes SolvedRead
-too-few-from-bytes = record { numbers = refl; nothing-written = refl }
+unfolding call SolvedRead
+too-few-from-bytes = record { kept = record { numbers = refl; nothing-written = refl } }
 
 no-job : SolvedBytes [] lent (Says.Refused 1) lent
-unfolding call SolvedBytes SolvedRead
-no-job = record { numbers = refl; nothing-written = refl }
+unfolding call SolvedRead
+no-job = record { kept = record { numbers = refl; nothing-written = refl } }

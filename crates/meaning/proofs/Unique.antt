@@ -9,6 +9,7 @@ use lib.Dec.{eqb}
 use lib.ListN.{drop, length}
 use Rattle.meaning.specs.declared.Answer.{Answer}
 use Rattle.meaning.specs.declared.Answer.the-variants as Says
+use Rattle.meaning.specs.declared.Way.{Way}
 use Rattle.meaning.specs.declared.Verdict.{Verdict}
 use Rattle.meaning.specs.declared.Verdict.the-variants as Judges
 use Rattle.meaning.specs.declared.Written.{Written}
@@ -16,16 +17,16 @@ use Rattle.meaning.specs.declared.Written.the-variants as Reports
 use Rattle.meaning.specs.Lists.{if}
 use Rattle.meaning.specs.Slices.{Holds}
 use Rattle.meaning.specs.Job.{Job, Kind, Knapsack, kindOf}
-use Rattle.meaning.specs.Lent.{Lent, Room, roomFor}
+use Rattle.meaning.specs.Lent.{Lent, Room, roomBy}
 use Rattle.meaning.specs.Refusals.{kindRefusal}
 use Rattle.meaning.specs.Bytes.{JobRead, readJob, readable, unreadable}
 use Rattle.meaning.specs.Answers.{Which, is-refusal, is-knapsack, is-sums, is-blocks, is-ways, is-shares, is-weight}
 use Rattle.meaning.specs.Answers.{AnswerNumbers, answerNumbers, VerdictNumbers, verdictNumbers, WrittenNumbers, writtenNumbers}
-use Rattle.meaning.specs.Solved.{Answered, Outcome, Solved, SolvedAs, SolvedBytes, SolvedLists, SolvedRead, TableHolds, TurnedDown}
-use Rattle.meaning.specs.Told.{ToldBytes}
+use Rattle.meaning.specs.Solved.{Answered, Outcome, SolvedAs, SolvedBy, SolvedBytesBy, SolvedLists, SolvedRead, TableBy, TurnedDown}
+use Rattle.meaning.specs.Told.{ToldBy}
 use Rattle.meaning.specs.Certificates.{Checked, certifiedKnapsack}
 use Rattle.meaning.specs.Writer.{Writes, WritesBytes, WritesFor, WritesRead, WritesAs}
-use Rattle.meaning.specs.Host.{firstNumber, secondNumber, SolvedHost, WritesHost}
+use Rattle.meaning.specs.Host.{firstNumber, secondNumber, SolvedHostBy, WritesHost}
 use Rattle.meaning.proofs.EachKind.{OneTable, Sized, gives-unique, table-unique}
 
 -- ---- the numbers and the case settle the answer itself
@@ -137,14 +138,16 @@ module _ (room : Kind → Job → Room) (table : Kind → Job → Lent → Type 
   read-unique (unreadable place) before t t′ a a′ x y = as-one (turned-down-unique x y)
   read-unique (readable j) before t t′ a a′ x y = lists-unique j before t t′ a a′ x y
 
-pub no-second-choice : (j : Job) (before t t′ : Lent) (a a′ : Answer) → Solved j before a t → Solved j before a′ t′ → One a a′ t t′
-unfolding Solved
-no-second-choice j before t t′ a a′ x y = lists-unique roomFor TableHolds table-unique j before t t′ a a′ x y
-
-pub no-second-choice-bytes : (bytes : List ℕ) (before t t′ : Lent) (a a′ : Answer) → SolvedBytes bytes before a t → SolvedBytes bytes before a′ t′
+-- and they do by either way
+pub no-second-choice : {way : Way} (j : Job) (before t t′ : Lent) (a a′ : Answer) → SolvedBy way j before a t → SolvedBy way j before a′ t′
     → One a a′ t t′
-unfolding SolvedBytes
-no-second-choice-bytes bytes before t t′ a a′ x y = read-unique roomFor TableHolds table-unique (readJob bytes) before t t′ a a′ x y
+no-second-choice {way} j before t t′ a a′ x y =
+    lists-unique (roomBy way) (TableBy way) (table-unique way) j before t t′ a a′ (x .kept) (y .kept)
+
+pub no-second-choice-bytes : {way : Way} (bytes : List ℕ) (before t t′ : Lent) (a a′ : Answer) → SolvedBytesBy way bytes before a t
+    → SolvedBytesBy way bytes before a′ t′ → One a a′ t t′
+no-second-choice-bytes {way} bytes before t t′ a a′ x y =
+    read-unique (roomBy way) (TableBy way) (table-unique way) (readJob bytes) before t t′ a a′ (x .kept) (y .kept)
 
 -- what a program is told leaves none either
 pub record OneTold (kind kind′ labels labels′ : ℕ) (a a′ : Answer) (t t′ : Lent) : Type 0 where
@@ -152,8 +155,8 @@ pub record OneTold (kind kind′ labels labels′ : ℕ) (a a′ : Answer) (t t�
   pub labels-same : labels ≡ labels′
   pub one : One a a′ t t′
 
-pub no-second-choice-told : (bytes : List ℕ) (before t t′ : Lent) (kind kind′ labels labels′ : ℕ) (a a′ : Answer)
-    → ToldBytes bytes before kind labels a t → ToldBytes bytes before kind′ labels′ a′ t′ → OneTold kind kind′ labels labels′ a a′ t t′
+pub no-second-choice-told : {way : Way} (bytes : List ℕ) (before t t′ : Lent) (kind kind′ labels labels′ : ℕ) (a a′ : Answer)
+    → ToldBy way bytes before kind labels a t → ToldBy way bytes before kind′ labels′ a′ t′ → OneTold kind kind′ labels labels′ a a′ t t′
 no-second-choice-told bytes before t t′ kind kind′ labels labels′ a a′ x y = record {
   kind-same = x .kind-told ∙ sym (y .kind-told);
   labels-same = x .labels-told ∙ sym (y .labels-told);
@@ -210,8 +213,9 @@ pub record OneCall (r r′ first first′ second second′ : ℕ) (t t′ : Lent
   pub second-same : second ≡ second′
   pub left : t ≡ t′
 
-pub one-host-answer : (jobB : List ℕ) (before t t′ : Lent) (r r′ first first′ second second′ : ℕ)
-    → SolvedHost jobB before r first second t → SolvedHost jobB before r′ first′ second′ t′ → OneCall r r′ first first′ second second′ t t′
+pub one-host-answer : {way : Way} (jobB : List ℕ) (before t t′ : Lent) (r r′ first first′ second second′ : ℕ)
+    → SolvedHostBy way jobB before r first second t → SolvedHostBy way jobB before r′ first′ second′ t′
+    → OneCall r r′ first first′ second second′ t t′
 one-host-answer jobB before t t′ r r′ first first′ second second′ x y =
     let one = no-second-choice-bytes jobB before t t′ (x .answer) (y .answer) (x .solved) (y .solved) in
     let said : answerNumbers (x .answer) ≡ answerNumbers (y .answer) = ap answerNumbers (one .answer) in

@@ -13,15 +13,16 @@ use Rattle.meaning.specs.declared.Answer.{Answer}
 use Rattle.meaning.specs.declared.Answer.the-variants as Says
 use Rattle.meaning.specs.declared.Verdict.{Verdict}
 use Rattle.meaning.specs.declared.Verdict.the-variants.{Accepted}
+use Rattle.meaning.specs.declared.Way.{Way}
 use Rattle.meaning.specs.Lists.{at}
 use Rattle.meaning.specs.Job.{Job, Kind, Knapsack, labels, once, sharing}
-use Rattle.meaning.specs.Lent.{Lent, roomFor}
+use Rattle.meaning.specs.Lent.{Lent, roomBy}
 use Rattle.meaning.specs.Bytes.{jobBytes, readJob, readable, sectionBytes}
 use Rattle.meaning.specs.Knapsacks.{BestPicks, Fits}
 use Rattle.meaning.specs.Answers.{AnswerNumbers, answerNumbers}
-use Rattle.meaning.specs.Solved.{Answered, Solved, SolvedBytes, TableHolds, Unrefused}
+use Rattle.meaning.specs.Solved.{Answered, SolvedBy, SolvedBytesBy, TableBy, UnrefusedBy}
 use Rattle.meaning.specs.Certificates.{certificateCells}
-use Rattle.meaning.specs.Host.{SolvedHost, firstNumber}
+use Rattle.meaning.specs.Host.{SolvedHostBy, firstNumber}
 use Rattle.meaning.specs.Demands.{Accepts, BestList, Demand3, Sound, ValidJob, listIn}
 use Rattle.meaning.specs.Trials.{jobJ}
 use Rattle.meaning.proofs.EachKind.{Late, not-said, numbered, table-left, table-unique, tableOf}
@@ -37,13 +38,14 @@ use Rattle.meaning.proofs.Held.{refused-only, trial-says, tried-back, t
 
 -- ---- a version by any door
 
--- a door in its own words: what a call hands in and gets back, and what is promised of it; which job a call asks for, and the slices that the planner
--- is lent then; and of what comes back, that it is a refusal, and that the first number of an answer of kind k is 0
+-- a door in its own words: what a call hands in and gets back, and what is promised of it; which job a call asks for, the way that kind 1 goes, and
+-- the slices that the planner is lent then; and of what comes back, that it is a refusal, and that the first number of an answer of kind k is 0
 pub record Door : Type 1 where
   pub Call : Type 0
   pub Given : Type 0
   pub Promise : Call → Given → Type 0
   pub AsksFor : Call → Job → Type 0
+  pub way : Way
   pub lent : Call → Lent
   pub Refuses : Given → Type 0
   pub Answers0 : Kind → Given → Type 0
@@ -52,7 +54,7 @@ pub record Door : Type 1 where
 pub record Asked (d : Door) (k : Kind) (c : d .Call) : Type 0 where
   pub job : Job
   pub asks-for : d .AsksFor c job
-  pub unrefused : Unrefused k job (d .lent c)
+  pub unrefused : UnrefusedBy (d .way) k job (d .lent c)
 
 -- a version gives back what it likes, whatever the call, and the promise is kept
 pub record Version (d : Door) : Type 0 where
@@ -78,12 +80,13 @@ pub record ShutOut (d : Door) (k : Kind) : Type 0 where
 
 -- ---- a version by a door that is lent the planner's slices and gives them back
 
--- requests and the jobs that they hold, replies, and of a reply that it is a refusal, and that its first number is 0
+-- requests and the jobs that they hold, the way that kind 1 goes, replies, and of a reply that it is a refusal, and that its first number is 0
 pub record LentDoor : Type 1 where
   pub Request : Type 0
   pub Reply : Type 0
   pub Promise : Request → Lent → Reply → Lent → Type 0
   pub HoldsJob : Request → Job → Type 0
+  pub way : Way
   pub Refuses : Reply → Type 0
   pub Answers0 : Reply → Type 0
 
@@ -94,6 +97,7 @@ doorOf l = record {
   Given = l .Reply × Lent;
   Promise = λ c g. l .Promise (c .0) (c .1) (g .0) (g .1);
   AsksFor = λ c j. l .HoldsJob (c .0) j;
+  way = l .way;
   lent = λ c. c .1;
   Refuses = λ g. l .Refuses (g .0);
   Answers0 = λ k g. l .Answers0 (g .0);
@@ -110,18 +114,18 @@ pub not-refused : (k : Kind) → ¬ Refusal (tried k .answer)
 not-refused k (r, e) = not-said r (tried k .answer) (trial-facts k .no-refusal) (sym (ap answerNumbers e))
 
 -- an answer to a job and the slices as they are left, both in some way shown
-pub record SolvedAndShown (j : Job) (lent : Lent) (Shown : Answer → Lent → Type 0) : Type 0 where
+pub record SolvedAndShown (way : Way) (j : Job) (lent : Lent) (Shown : Answer → Lent → Type 0) : Type 0 where
   pub answer : Answer
   pub left : Lent
-  pub solved : Solved j lent answer left
+  pub solved : SolvedBy way j lent answer left
   pub shown : Shown answer left
 
 -- a door that shows the planner's answer in what it gives back
 module _ (d : Door) (Shown : Job → d .Given → Answer → Lent → Type 0)
-    (shows : (c : d .Call) (g : d .Given) (j : Job) → d .AsksFor c j → d .Promise c g → SolvedAndShown j (d .lent c) (Shown j g))
+    (shows : (c : d .Call) (g : d .Given) (j : Job) → d .AsksFor c j → d .Promise c g → SolvedAndShown (d .way) j (d .lent c) (Shown j g))
     (refusal-shown : (j : Job) (g : d .Given) (a : Answer) (left : Lent) → Shown j g a left → d .Refuses g → Refusal a)
     (not-0-shown : (k : Kind) (g : d .Given) (left : Lent) → Shown (tried k .job) g (tried k .answer) left → ¬ d .Answers0 k g) where
-  tried-shown : (k : Kind) (c : d .Call) (g : d .Given) → d .AsksFor c (tried k .job) → Unrefused k (tried k .job) (d .lent c) → d .Promise c g
+  tried-shown : (k : Kind) (c : d .Call) (g : d .Given) → d .AsksFor c (tried k .job) → UnrefusedBy (d .way) k (tried k .job) (d .lent c) → d .Promise c g
       → (left : Lent) × Shown (tried k .job) g (tried k .answer) left
   tried-shown k c g asks ok kept =
       let x = shows c g (tried k .job) asks kept in
@@ -129,7 +133,7 @@ module _ (d : Door) (Shown : Job → d .Given → Answer → Lent → Type 0)
       (x .left, subst (λ (a : Answer). Shown (tried k .job) g a (x .left)) says (x .shown))
 
   -- by one call that asks for that trial
-  pub shut-out : (k : Kind) (c : d .Call) → d .AsksFor c (tried k .job) → Unrefused k (tried k .job) (d .lent c) → ShutOut d k
+  pub shut-out : (k : Kind) (c : d .Call) → d .AsksFor c (tried k .job) → UnrefusedBy (d .way) k (tried k .job) (d .lent c) → ShutOut d k
   unfolding Never
   shut-out k c asks ok =
       let asked : Asked d k c = record { job = tried k .job; asks-for = asks; unrefused = ok } in
@@ -149,26 +153,27 @@ module _ (d : Door) (Shown : Job → d .Given → Answer → Lent → Type 0)
 -- ---- the table: what is left in it doesn't depend on what stood there, so it can't be as it was on slices of 0 and on slices of 1
 
 -- a table that is as it was has x in its first place
-as-it-was : (k : Kind) (has : ¬ (k ≡ sharing)) (x : ℕ) {left : Lent} {s : AnswerNumbers}
-    (y : Answered (roomFor k (tried k .job)) (TableHolds k (tried k .job)) k (tried k .job) (filled x k) s left)
-    → tableOf k left ≡ tableOf k (filled x k) → at (tableOf k (y .content)) 0 ≡ x
-as-it-was k has x y kept =
-    sym (held-at _ _ _ 0 (table-left k y .held) (table-left k y .needed has)) ∙ ap (λ (l : List ℕ). at l 0) kept ∙ trial-facts k .first-filled has x
+as-it-was : (way : Way) (k : Kind) (has : ¬ (k ≡ sharing)) (x : ℕ) {left : Lent} {s : AnswerNumbers}
+    (y : Answered (roomBy way k (tried k .job)) (TableBy way k (tried k .job)) k (tried k .job) (filled way x k) s left)
+    → tableOf k left ≡ tableOf k (filled way x k) → at (tableOf k (y .content)) 0 ≡ x
+as-it-was way k has x y kept =
+    sym (held-at _ _ _ 0 (table-left way k y .held) (table-left way k y .needed has))
+    ∙ ap (λ (l : List ℕ). at l 0) kept ∙ trial-facts k .first-filled has way x
 
-not-both : (k : Kind) (has : ¬ (k ≡ sharing)) (left left′ : Lent) (a a′ : Answer) → Solved (tried k .job) (filled 0 k) a left
-    → Solved (tried k .job) (filled 1 k) a′ left′
-    → tableOf k left ≡ tableOf k (filled 0 k) → ¬ (tableOf k left′ ≡ tableOf k (filled 1 k))
-not-both k has left left′ a a′ solved solved′ kept kept′ =
+not-both : (way : Way) (k : Kind) (has : ¬ (k ≡ sharing)) (left left′ : Lent) (a a′ : Answer) → SolvedBy way (tried k .job) (filled way 0 k) a left
+    → SolvedBy way (tried k .job) (filled way 1 k) a′ left′
+    → tableOf k left ≡ tableOf k (filled way 0 k) → ¬ (tableOf k left′ ≡ tableOf k (filled way 1 k))
+not-both way k has left left′ a a′ solved solved′ kept kept′ =
     let j = tried k .job in
-    let x = unrefused-answered k j (filled 0 k) left a (trial-facts k .unrefused 0) solved in
-    let y = unrefused-answered k j (filled 1 k) left′ a′ (trial-facts k .unrefused 1) solved′ in
-    let same = no-influence k j (filled 0 k) (filled 1 k) left left′ (answerNumbers a) (answerNumbers a′) (table-unique k j) x y .1 in
-    omega (arith, as-it-was k has 0 x kept, as-it-was k has 1 y kept′, ap (λ (c : Lent). at (tableOf k c) 0) same)
+    let x = unrefused-answered k j (filled way 0 k) left a (trial-facts k .unrefused way 0) solved in
+    let y = unrefused-answered k j (filled way 1 k) left′ a′ (trial-facts k .unrefused way 1) solved′ in
+    let same = no-influence k j (filled way 0 k) (filled way 1 k) left left′ (answerNumbers a) (answerNumbers a′) (table-unique way k j) x y .1 in
+    omega (arith, as-it-was way k has 0 x kept, as-it-was way k has 1 y kept′, ap (λ (c : Lent). at (tableOf k c) 0) same)
 
 -- both laws, for a door that gives the slices back, with a request that holds the trial of each kind
 module _ (l : LentDoor) (Shown : l .Reply → Answer → Type 0)
     (shows : (r : l .Request) (before after : Lent) (x : l .Reply) (j : Job) → l .HoldsJob r j → l .Promise r before x after
-    → (a : Answer) × Solved j before a after × Shown x a)
+    → (a : Answer) × SolvedBy (l .way) j before a after × Shown x a)
     (refusal-shown : (x : l .Reply) (a : Answer) → Shown x a → l .Refuses x → Refusal a)
     (0-shown : (x : l .Reply) (a : Answer) → Shown x a → l .Answers0 x → First0 a)
     (ask : Kind → l .Request) (holds : (k : Kind) → l .HoldsJob (ask k) (tried k .job)) where
@@ -180,56 +185,60 @@ module _ (l : LentDoor) (Shown : l .Reply → Answer → Type 0)
       record { answer = a; left = g .1; solved = solved; shown = shown })
       (λ j g a left. refusal-shown (g .0) a)
       (λ k′ g left shown is-0. omega (arith, trial-facts k′ .not-0, 0-shown (g .0) (tried k′ .answer) shown is-0))
-      k (ask k, filled 0 k) (holds k) (trial-facts k .unrefused 0)
+      k (ask k, filled (l .way) 0 k) (holds k) (trial-facts k .unrefused (l .way) 0)
 
   -- a version on the trial of kind k, with slices of x
   module _ (v : Version (doorOf l)) (k : Kind) where
-    left-by : ℕ → Lent
-    left-by x = v .gives (ask k, filled x k) .1
+    abbrev lent-full : ℕ → Lent
+    lent-full x = filled (l .way) x k
 
-    solves : (x : ℕ) → (a : Answer) × Solved (tried k .job) (filled x k) a (left-by x)
+    left-by : ℕ → Lent
+    left-by x = v .gives (ask k, lent-full x) .1
+
+    solves : (x : ℕ) → (a : Answer) × SolvedBy (l .way) (tried k .job) (lent-full x) a (left-by x)
     unfolding left-by
     solves x =
         let (a, solved, shown) =
-        shows (ask k) (filled x k) (left-by x) (v .gives (ask k, filled x k) .0) (tried k .job) (holds k) (v .keeps (ask k, filled x k)) in
+        shows (ask k) (lent-full x) (left-by x) (v .gives (ask k, lent-full x) .0) (tried k .job) (holds k) (v .keeps (ask k, lent-full x)) in
         (a, solved)
 
     writes : ¬ (k ≡ sharing) → ¬ ((c : doorOf l .Call) → Asked (doorOf l) k c → tableOf k (v .gives c .1) ≡ tableOf k (c .1))
     unfolding left-by
     writes has all =
-        let kept : (x : ℕ) → tableOf k (left-by x) ≡ tableOf k (filled x k) =
-        λ x. all (ask k, filled x k) (record { job = tried k .job; asks-for = holds k; unrefused = trial-facts k .unrefused x }) in
-        not-both k has (left-by 0) (left-by 1) (solves 0 .0) (solves 1 .0) (solves 0 .1) (solves 1 .1) (kept 0) (kept 1)
+        let kept : (x : ℕ) → tableOf k (left-by x) ≡ tableOf k (lent-full x) =
+        λ x. all (ask k, lent-full x) (record { job = tried k .job; asks-for = holds k; unrefused = trial-facts k .unrefused (l .way) x }) in
+        not-both (l .way) k has (left-by 0) (left-by 1) (solves 0 .0) (solves 1 .0) (solves 0 .1) (solves 1 .1) (kept 0) (kept 1)
 
   pub lent-shut-out : (k : Kind) → LentShutOut l k
   unfolding Never
   lent-shut-out k = record { answers = by-answer k; writes-no-cells = λ has v. writes v k has }
 
--- ---- the planner's doors: on lists, on job bytes, and from C
+-- ---- the planner's doors, by either way: on lists, on job bytes, and from C
 
 -- a door whose reply is the answer itself
-abbrev pub answering : {Request : Type 0} → (Request → Lent → Answer → Lent → Type 0) → (Request → Job → Type 0) → LentDoor
-answering {Request} Promise HoldsJob =
-    record { Request = Request; Reply = Answer; Promise = Promise; HoldsJob = HoldsJob; Refuses = Refusal; Answers0 = First0 }
+abbrev pub answering : {Request : Type 0} → Way → (Request → Lent → Answer → Lent → Type 0) → (Request → Job → Type 0) → LentDoor
+answering {Request} way Promise HoldsJob =
+    record { Request = Request; Reply = Answer; Promise = Promise; HoldsJob = HoldsJob; way = way; Refuses = Refusal; Answers0 = First0 }
 
-module _ {Request : Type 0} (Promise : Request → Lent → Answer → Lent → Type 0) (HoldsJob : Request → Job → Type 0)
-    (solves : (r : Request) (before after : Lent) (a : Answer) (j : Job) → HoldsJob r j → Promise r before a after → Solved j before a after)
+module _ {Request : Type 0} (way : Way) (Promise : Request → Lent → Answer → Lent → Type 0) (HoldsJob : Request → Job → Type 0)
+    (solves : (r : Request) (before after : Lent) (a : Answer) (j : Job) → HoldsJob r j → Promise r before a after → SolvedBy way j before a after)
     (ask : Kind → Request) (holds : (k : Kind) → HoldsJob (ask k) (tried k .job)) where
-  answering-versions : (k : Kind) → LentShutOut (answering Promise HoldsJob) k
+  answering-versions : (k : Kind) → LentShutOut (answering way Promise HoldsJob) k
   answering-versions =
-      lent-shut-out (answering Promise HoldsJob) (λ x a. x ≡ a) (λ r before after x j held kept. (x, solves r before after x j held kept, refl))
+      lent-shut-out (answering way Promise HoldsJob) (λ x a. x ≡ a) (λ r before after x j held kept. (x, solves r before after x j held kept, refl))
       (λ x a same refused. rw same at refused) (λ x a same is-0. rw same at is-0) ask holds
 
-planner-versions : (k : Kind) → LentShutOut (answering Solved (λ r j. r ≡ j)) k
-planner-versions = answering-versions Solved (λ r j. r ≡ j) (λ r before after a j same kept. rw same at kept) (λ k. tried k .job) (λ k. refl)
+planner-versions : (way : Way) (k : Kind) → LentShutOut (answering way (SolvedBy way) (λ r j. r ≡ j)) k
+planner-versions way =
+    answering-versions way (SolvedBy way) (λ r j. r ≡ j) (λ r before after a j same kept. rw same at kept) (λ k. tried k .job) (λ k. refl)
 
 -- the bytes hold a job
 abbrev pub ReadAs : List ℕ → Job → Type 0
 ReadAs bytes j = readJob bytes ≡ readable j
 
-bytes-versions : (k : Kind) → LentShutOut (answering SolvedBytes ReadAs) k
-bytes-versions =
-    answering-versions SolvedBytes ReadAs (λ b before after a j reads kept. bytes-solved b j before after a reads kept)
+bytes-versions : (way : Way) (k : Kind) → LentShutOut (answering way (SolvedBytesBy way) ReadAs) k
+bytes-versions way =
+    answering-versions way (SolvedBytesBy way) ReadAs (λ b before after a j reads kept. bytes-solved b j before after a reads kept)
     (λ k. jobBytes (tried k .job)) tried-back
 
 -- from C three numbers are given back; the first is a refusal's where it isn't 0
@@ -238,19 +247,20 @@ pub record HostReply : Type 0 where
   pub first : ℕ
   pub second : ℕ
 
-abbrev pub from-c : LentDoor
-from-c = record {
+abbrev pub from-c : Way → LentDoor
+from-c way = record {
   Request = List ℕ;
   Reply = HostReply;
-  Promise = λ b before x after. SolvedHost b before (x .refusal) (x .first) (x .second) after;
+  Promise = λ b before x after. SolvedHostBy way b before (x .refusal) (x .first) (x .second) after;
   HoldsJob = ReadAs;
+  way = way;
   Refuses = λ x. ¬ (x .refusal ≡ 0);
   Answers0 = λ x. x .first ≡ 0;
 }
 
-host-versions : (k : Kind) → LentShutOut from-c k
-host-versions =
-    lent-shut-out from-c (λ x a. (x .refusal ≡ answerNumbers a .refusal) × (x .first ≡ firstNumber (answerNumbers a)))
+host-versions : (way : Way) (k : Kind) → LentShutOut (from-c way) k
+host-versions way =
+    lent-shut-out (from-c way) (λ x a. (x .refusal ≡ answerNumbers a .refusal) × (x .first ≡ firstNumber (answerNumbers a)))
     (λ b before after x j reads kept. (kept .answer, bytes-solved b j before after (kept .answer) reads (kept .solved), (kept .refusal, kept .first-is)))
     (λ x a shown h. numbered a (λ e. h (shown .0 ∙ e))) (λ x a shown is-0. sym (shown .1) ∙ is-0)
     (λ k. jobBytes (tried k .job)) tried-back

@@ -11,6 +11,7 @@ use lib.ListN.{drop, length, replicate, take}
 use lib.Seq.{drop-at}
 use Rattle.meaning.specs.declared.Answer.{Answer}
 use Rattle.meaning.specs.declared.Answer.the-variants as Says
+use Rattle.meaning.specs.declared.Way.{Way}
 use Rattle.meaning.specs.declared.Written.{Written}
 use Rattle.meaning.specs.declared.Written.the-variants.{Bytes}
 use Rattle.meaning.specs.declared.Written.the-variants as Reports
@@ -23,38 +24,39 @@ use Rattle.meaning.specs.Job.{Job, Knapsack}
 use Rattle.meaning.specs.Lent.{Lent}
 use Rattle.meaning.specs.Bytes.{readJob, readable, unreadable}
 use Rattle.meaning.specs.Sums.{Weighs}
+use Rattle.meaning.specs.Light.{LightTable}
 use Rattle.meaning.specs.Behind.{Behind, FirstRow, ReachedBy}
 use Rattle.meaning.specs.Answers.{verdictNumbers, answerNumbers, writtenNumbers}
-use Rattle.meaning.specs.Solved.{SolvedBytes, SolvedRead, TurnedDown}
+use Rattle.meaning.specs.Solved.{SolvedBytesBy, SolvedRead, TurnedDown}
 use Rattle.meaning.specs.Certificates.{Checked, certifiedKnapsack, verdictOf}
 use Rattle.meaning.specs.Writer.{Writes, WritesAs, WritesBytes, WritesFor, WritesRead, bytesNeeded}
 use Rattle.meaning.specs.Writer.{certificate, newBytes, slicesFit, writerRefusal, writtenAs}
 use Rattle.meaning.specs.Host.{WritesHost, refusalNumber, valueOrPlace}
 use Rattle.meaning.specs.Demands.{ValidJob}
 use Rattle.meaning.specs.Trials.{certJ, jobJ}
-use Rattle.meaning.proofs.OneOfEach.{behind-unique, least-shown-unique}
+use Rattle.meaning.proofs.OneOfEach.{behind-unique, label-words-unique, least-shown-unique}
 use Rattle.meaning.proofs.Unique.{answer-numbers-unique, written-numbers-unique}
 use Rattle.meaning.proofs.Laws.{holds-first, writes-knapsack}
 use Rattle.meaning.proofs.Certified.{meets-demand-3, verdict-is}
 use Rattle.meaning.proofs.Entries.{zero-is-accepted}
 use Rattle.meaning.proofs.Versions.{accepts-all, refuses-all}
 use Rattle.meaning.proofs.Small.{behind-out, isBehind}
-use Rattle.meaning.proofs.SmallTables.{first-row-out, isFirstRow}
+use Rattle.meaning.proofs.SmallTables.{first-row-out, isFirstRow, isLightTable, light-table-out}
 use Rattle.meaning.proofs.Opens.{opens}
 use Rattle.meaning.proofs.Cases.{noLabels, plain}
 
 -- ---- on job bytes that can't be read: a planner or a writer that gives another number than 1, and one that writes then
 
 module _ (bytes : List ℕ) (place : ℕ) (unread : readJob bytes ≡ unreadable place) where
-  module _ (before after : Lent) where
-    refused-1 : (a : Answer) → SolvedBytes bytes before a after → (a ≡ Says.Refused 1) × (after ≡ before)
-    unfolding SolvedBytes SolvedRead
-    refused-1 a h = let t : TurnedDown 1 before (answerNumbers a) after = rw unread at h in (answer-numbers-unique (t .numbers), t .nothing-written)
+  module _ {way : Way} (before after : Lent) where
+    refused-1 : (a : Answer) → SolvedBytesBy way bytes before a after → (a ≡ Says.Refused 1) × (after ≡ before)
+    unfolding SolvedRead
+    refused-1 a h = let t : TurnedDown 1 before (answerNumbers a) after = rw unread at (h .kept) in (answer-numbers-unique (t .numbers), t .nothing-written)
 
-    no-other-number : (n : ℕ) → SolvedBytes bytes before (Says.Refused n) after → n ≡ 1
+    no-other-number : (n : ℕ) → SolvedBytesBy way bytes before (Says.Refused n) after → n ≡ 1
     no-other-number n h = let e : Says.Refused n ≡ Says.Refused 1 = refused-1 (Says.Refused n) h .0 in cc
 
-    nothing-written-then : (a : Answer) → SolvedBytes bytes before a after → after ≡ before
+    nothing-written-then : (a : Answer) → SolvedBytesBy way bytes before a after → after ≡ before
     nothing-written-then a h = refused-1 a h .1
 
   module _ (picks cells before after : List ℕ) (a : Written) (w : WritesBytes bytes picks cells before a after) where
@@ -127,6 +129,30 @@ sums-are-whole v checked = only (4_294_967_293 ∷ 0 ∷ 0 ∷ 4_294_967_293 ∷
 claims-may-be-high : (v : Verdict) → Checked jobJ (certJ (0 ∷ 0 ∷ 0 ∷ 9 ∷ 9 ∷ 3 ∷ [])) v → v ≡ Accepted 3
 unfolding opens jobJ certJ verdictOf
 claims-may-be-high v checked = only (0 ∷ 0 ∷ 0 ∷ 9 ∷ 9 ∷ 3 ∷ []) (Accepted 3) v refl checked
+
+-- ---- kind 1 the light way: a bit that is set on a tie, or above C, or in words that two labels share
+
+-- two labels of weight 1 and value 3, C 1: label 0 has word 0, with the bit of 1 alone, and label 1, which does as well, has word 1, with none
+module _ (cells words : List ℕ) (table : LightTable (plain 1 1 (1 ∷ 1 ∷ []) (3 ∷ 3 ∷ []) []) cells words) where
+  abbrev alike : Job
+  alike = plain 1 1 (1 ∷ 1 ∷ []) (3 ∷ 3 ∷ []) []
+
+  right : LightTable alike (0 ∷ 3 ∷ []) (2 ∷ 0 ∷ [])
+  unfolding opens isLightTable
+  right = light-table-out alike (0 ∷ 0 ∷ 0 ∷ 3 ∷ 0 ∷ 3 ∷ []) _ _ tt
+
+  none-above-C : at words 0 ≡ 2
+  unfolding opens
+  none-above-C = label-words-unique alike words (2 ∷ 0 ∷ []) table right 0 (lit≤ tt)
+
+  tie-sets-none : at words 1 ≡ 0
+  unfolding opens
+  tie-sets-none = label-words-unique alike words (2 ∷ 0 ∷ []) table right 1 (lit≤ tt)
+
+-- a certificate written from them: J's row 0 0 3, and what stood behind it. Its last cell isn't the picks' value
+light-refused : verdictOf jobJ (certJ (0 ∷ 0 ∷ 3 ∷ 9 ∷ 9 ∷ 9 ∷ [])) ≡ Refused 15 0
+unfolding opens jobJ certJ
+light-refused = refl
 
 -- ---- kind 8: a table that shows the last label by which a total can be reached, or has another mark; picks traced from kind 4's final bits
 

@@ -1,4 +1,4 @@
--- Kinds 4 and 8 agree on which totals are reached.
+-- Kinds 4 and 8 agree on which totals are reached; and the two ways of kind 1 agree on all but the table.
 -- Assumes nothing.
 use mathlib.Core.Path.{_≡_}
 use mathlib.Core.Logic.{_↔_}
@@ -8,6 +8,7 @@ use mathlib.Core.List.{List}
 use Rattle.meaning.specs.declared.Answer.{Answer}
 use Rattle.meaning.specs.declared.Answer.the-variants as Says
 use Rattle.meaning.specs.Lists.{at}
+use Rattle.meaning.specs.Slices.{Holds}
 use Rattle.meaning.specs.Counting.{Counted}
 use Rattle.meaning.specs.Cells.{noWay}
 use Rattle.meaning.specs.Sums.{bit}
@@ -29,3 +30,10 @@ pub record Agreed (C : ℕ) (words : List ℕ) (four : Answer) (cells : List ℕ
   pub answer : four ≡ Says.Sums yes totals
   pub yes-unless-7 : (yes ≡ true) ↔ (¬ (eight ≡ Says.Refused 7))
   pub how-many : Counted (λ (t : ℕ). (t ≤ C) × Unmarked cells t) totals
+
+-- two calls give one answer, value, weight and refusals too, and write the same picks; where none are written, `picks` is empty
+pub record SameAnswer (a a′ : Answer) (before after before′ after′ : List ℕ) : Type 0 where
+  pub answer : a ≡ a′
+  pub picks : List ℕ
+  pub in-first : Holds picks before after
+  pub in-second : Holds picks before′ after′

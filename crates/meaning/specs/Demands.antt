@@ -10,6 +10,8 @@ use lib.Dec.{T, ltb}
 use lib.ListN.{take}
 use Rattle.meaning.specs.declared.Verdict.{Verdict}
 use Rattle.meaning.specs.declared.Answer.{Answer}
+use Rattle.meaning.specs.declared.Way.{Way}
+use Rattle.meaning.specs.declared.Way.the-variants.{Full}
 use Rattle.meaning.specs.declared.Answer.the-variants as Says
 use Rattle.meaning.specs.declared.Written.the-variants.{Bytes}
 use Rattle.meaning.specs.declared.Verdict.the-variants.{Accepted}
@@ -19,7 +21,7 @@ use Rattle.meaning.specs.Job.{Job, labels, Knapsack}
 use Rattle.meaning.specs.Lent.{Lent}
 use Rattle.meaning.specs.Bytes.{readSection, withSection, readable, readJob}
 use Rattle.meaning.specs.Knapsacks.{Best}
-use Rattle.meaning.specs.Solved.{Solved, SolvedBytes}
+use Rattle.meaning.specs.Solved.{SolvedBy, SolvedBytesBy}
 use Rattle.meaning.specs.Certificates.{HasCertificates}
 use Rattle.meaning.specs.Writer.{Writes, WritesBytes}
 
@@ -67,12 +69,18 @@ pub record Demand3 (Check : List ℕ → List ℕ → Verdict → Type 0) : Type
   pub accepted-is-best : (jobB certB : List ℕ) (v : ℕ) → Check jobB certB (Accepted v) → Sound jobB certB v
   pub exactly-when-best : (jobB : List ℕ) (j : Job) (valid-job : ValidJob jobB j) (p : List ℕ) → Accepts Check jobB p ↔ BestList (valid-job .knapsack) j p
 
+-- by this way a job leaves what its certificate is written from: by the full way each does, and by either way one of another kind than 1
+pub data LeavesClaims (j : Job) : Way → Type 0 where
+  full-way : LeavesClaims j Full
+  other-kind : {way : Way} → ¬ (j .kind-number ≡ 1) → LeavesClaims j way
+
 -- 'Ours always is.' Whoever solved the job, and whoever wrote a certificate of what was left, unless refused: the answer's value is accepted
 pub record OursAccepted (Check : List ℕ → List ℕ → Verdict → Type 0) : Type 0 where
-  pub by-lists : (jobB : List ℕ) (j : Job) → readJob jobB ≡ readable j
-      → (before after : Lent) (a : Answer) → Solved j before a after
+  pub by-lists : (way : Way) (jobB : List ℕ) (j : Job) → readJob jobB ≡ readable j → LeavesClaims j way
+      → (before after : Lent) (a : Answer) → SolvedBy way j before a after
       → (out out′ : List ℕ) (n : ℕ) → Writes j (after .picks) (after .cells) out (Bytes n) out′
       → (value weight : ℕ) × (a ≡ Says.Knapsack value weight) × AcceptedWith Check jobB (take n out′) value
-  pub by-bytes : (jobB : List ℕ) (before after : Lent) (a : Answer) → SolvedBytes jobB before a after
+  pub by-bytes : (way : Way) (jobB : List ℕ) → ((j : Job) → readJob jobB ≡ readable j → LeavesClaims j way)
+      → (before after : Lent) (a : Answer) → SolvedBytesBy way jobB before a after
       → (out out′ : List ℕ) (n : ℕ) → WritesBytes jobB (after .picks) (after .cells) out (Bytes n) out′
       → (value weight : ℕ) × (a ≡ Says.Knapsack value weight) × AcceptedWith Check jobB (take n out′) value

@@ -4,11 +4,13 @@ use mathlib.Core.Path.{_≡_}
 use Prim.Native.Nat.{ℕ, _+_}
 use mathlib.Core.List.{List}
 use Rattle.meaning.specs.declared.Answer.{Answer}
+use Rattle.meaning.specs.declared.Way.{Way}
+use Rattle.meaning.specs.declared.Way.the-variants.{Light, Full}
 use Rattle.meaning.specs.declared.Verdict.{Verdict}
 use Rattle.meaning.specs.declared.Written.{Written}
 use Rattle.meaning.specs.Lent.{Lent}
 use Rattle.meaning.specs.Answers.{AnswerNumbers, verdictNumbers, answerNumbers, writtenNumbers}
-use Rattle.meaning.specs.Solved.{SolvedBytes}
+use Rattle.meaning.specs.Solved.{SolvedBytesBy}
 use Rattle.meaning.specs.Writer.{WritesBytes}
 
 -- ---- the checker's two entries
@@ -21,7 +23,7 @@ refusalNumber v = verdictNumbers v .refusal
 unfoldable pub valueOrPlace : Verdict → ℕ
 valueOrPlace v = verdictNumbers v .value + verdictNumbers v .place
 
--- ---- the planner's entry
+-- ---- the planner's two entries, one for each way
 
 -- the value, yes, the blocks, the ways, the spare or kind 8's weight: an answer has one of them, and the others are 0
 unfoldable pub firstNumber : AnswerNumbers → ℕ
@@ -32,12 +34,20 @@ unfoldable pub secondNumber : AnswerNumbers → ℕ
 secondNumber s = s .weight + s .totals
 
 -- job bytes, called with the slices as `before`: the refusal number or 0, the two numbers, and the slices as `after`
-pub record SolvedHost (jobB : List ℕ) (before : Lent) (r first second : ℕ) (after : Lent) : Type 0 where
+pub record SolvedHostBy (way : Way) (jobB : List ℕ) (before : Lent) (r first second : ℕ) (after : Lent) : Type 0 where
   pub answer : Answer
-  pub solved : SolvedBytes jobB before answer after
+  pub solved : SolvedBytesBy way jobB before answer after
   pub refusal : r ≡ answerNumbers answer .refusal
   pub first-is : first ≡ firstNumber (answerNumbers answer)
   pub second-is : second ≡ secondNumber (answerNumbers answer)
+
+-- by the light way
+abbrev pub SolvedHost : List ℕ → Lent → ℕ → ℕ → ℕ → Lent → Type 0
+SolvedHost jobB before r first second after = SolvedHostBy Light jobB before r first second after
+
+-- by the full way
+abbrev pub SolvedFullHost : List ℕ → Lent → ℕ → ℕ → ℕ → Lent → Type 0
+SolvedFullHost jobB before r first second after = SolvedHostBy Full jobB before r first second after
 
 -- ---- the writer's entry
 

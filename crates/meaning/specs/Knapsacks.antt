@@ -49,15 +49,15 @@ BestPicks k j i c p = Chosen (orderOf k) i (Best k j i c) p
 unfoldable pub cellNumber : Job → ℕ → ℕ → ℕ
 cellNumber j i c = i * (j .budget + 1) + c
 
--- kinds 1 and 2: cell i(C+1)+c is the best value of the first i labels with budget c
+-- kind 2, and kind 1 the full way: cell i(C+1)+c is the best value of the first i labels with budget c
 unfoldable pub FullTable : Knapsack → Job → List ℕ → Type 0
 FullTable k j cells = (i c : ℕ) → i ≤ labels j → c ≤ j .budget → BestValue k j i c (at cells (cellNumber j i c))
 
--- kind 3: cell c is the best value with budget c
+-- kind 3, and the row of kind 1 the light way: cell c is the best value with budget c
 unfoldable pub OneRow : Knapsack → Job → List ℕ → Type 0
 OneRow k j cells = (c : ℕ) → c ≤ j .budget → BestValue k j (labels j) c (at cells c)
 
--- the table of each knapsack
+-- the table of each knapsack, of kind 1 the full one: what a certificate is written from
 unfoldable pub ValueTable : Knapsack → Job → List ℕ → Type 0
 ValueTable once j cells = FullTable once j cells
 ValueTable limited j cells = FullTable limited j cells

@@ -2,6 +2,8 @@
 -- Assumes nothing.
 use Prim.Native.Nat.{ℕ, _+_, _*_, _/_}
 use mathlib.Core.List.{List}
+use Rattle.meaning.specs.declared.Way.{Way}
+use Rattle.meaning.specs.declared.Way.the-variants.{Light, Full}
 use Rattle.meaning.specs.Job.{Job, labels, once, limited, free, Kind, packing, subset-sums, fewest-blocks, block-ways, sharing, labels-behind}
 
 -- what the slices hold: a table of 32-bit cells, a table of 64-bit words, and picks
@@ -24,17 +26,30 @@ pub record Room : Type 0 where
 unfoldable pub roomOf : ℕ → ℕ → ℕ → Room
 roomOf cells words picks = record { cells = cells; words = words; picks = picks }
 
--- (n+1)(C+1): how many cells the table of kinds 1 and 2 has
+-- (n+1)(C+1): how many cells the table of kind 2 has, and the full one of kind 1
 unfoldable pub cellCount : Job → ℕ
 cellCount j = (labels j + 1) * (j .budget + 1)
 
--- the document's table of cells needed; picks need n places in kinds 1, 2, 3, 5, 7 and 8, none in 4 and 6
-unfoldable pub roomFor : Kind → Job → Room
-roomFor (packing once) j = roomOf (cellCount j) 0 (labels j)
-roomFor (packing limited) j = roomOf (cellCount j) 0 (labels j)
-roomFor (packing free) j = roomOf (j .budget + 1) 0 (labels j)
-roomFor subset-sums j = roomOf 0 (j .budget / 64 + 1) 0
-roomFor fewest-blocks j = roomOf (j .budget + 1) 0 (labels j)
-roomFor block-ways j = roomOf 0 (j .budget + 1) 0
-roomFor sharing j = roomOf 0 0 (labels j)
-roomFor labels-behind j = roomOf (j .budget + 1) 0 (labels j)
+-- floor(C/64)+1: how many words hold a bit for each budget from 0 to C. Kind 4 has so many, and each label of kind 1 the light way
+abbrev pub bitWords : Job → ℕ
+bitWords j = j .budget / 64 + 1
+
+-- kind 1: a row of C+1 cells, and words of its own for each label; or the full table
+unfoldable pub onceRoom : Way → Job → Room
+onceRoom Light j = roomOf (j .budget + 1) (labels j * bitWords j) (labels j)
+onceRoom Full j = roomOf (cellCount j) 0 (labels j)
+
+-- the document's table of cells needed, by the way that kind 1 goes; picks need n places in kinds 1, 2, 3, 5, 7 and 8, none in 4 and 6
+unfoldable pub roomBy : Way → Kind → Job → Room
+roomBy way (packing once) j = onceRoom way j
+roomBy way (packing limited) j = roomOf (cellCount j) 0 (labels j)
+roomBy way (packing free) j = roomOf (j .budget + 1) 0 (labels j)
+roomBy way subset-sums j = roomOf 0 (bitWords j) 0
+roomBy way fewest-blocks j = roomOf (j .budget + 1) 0 (labels j)
+roomBy way block-ways j = roomOf 0 (j .budget + 1) 0
+roomBy way sharing j = roomOf 0 0 (labels j)
+roomBy way labels-behind j = roomOf (j .budget + 1) 0 (labels j)
+
+-- by the light way, which `solve` goes
+abbrev pub roomFor : Kind → Job → Room
+roomFor k j = roomBy Light k j

@@ -13,6 +13,7 @@ pub mod Bytes
 pub mod Orders
 pub mod Knapsacks
 pub mod Sums
+pub mod Light
 pub mod Behind
 pub mod Blocks
 pub mod Shares

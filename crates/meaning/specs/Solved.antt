@@ -9,15 +9,18 @@ use lib.Dec.{ltb}
 use lib.ListN.{length}
 use Rattle.meaning.specs.declared.Answer.{Answer}
 use Rattle.meaning.specs.declared.Answer.the-variants as Says
+use Rattle.meaning.specs.declared.Way.{Way}
+use Rattle.meaning.specs.declared.Way.the-variants.{Light, Full}
 use Rattle.meaning.specs.Lists.{sum, total, if}
 use Rattle.meaning.specs.Slices.{Holds}
-use Rattle.meaning.specs.Job.{Job, labels, Knapsack, Kind, packing, subset-sums, fewest-blocks, block-ways, sharing, labels-behind}
-use Rattle.meaning.specs.Job.{kindOf}
-use Rattle.meaning.specs.Lent.{Lent, Room, roomFor}
+use Rattle.meaning.specs.Job.{Job, labels, Knapsack, once, limited, free, Kind, packing, subset-sums, fewest-blocks, block-ways, sharing}
+use Rattle.meaning.specs.Job.{labels-behind, kindOf}
+use Rattle.meaning.specs.Lent.{Lent, Room, roomBy}
 use Rattle.meaning.specs.Refusals.{kindRefusal}
 use Rattle.meaning.specs.Bytes.{JobRead, unreadable, readable, readJob}
 use Rattle.meaning.specs.Knapsacks.{BestPicks, ValueTable}
 use Rattle.meaning.specs.Sums.{Weighs, YesOrNo, TotalCount, BitTable}
+use Rattle.meaning.specs.Light.{LightTable}
 use Rattle.meaning.specs.Behind.{Behind, FirstRow}
 use Rattle.meaning.specs.Blocks.{Makes, Laid, FewestRow, WaysFor, WaysRow, tooMany}
 use Rattle.meaning.specs.Shares.{spareOf, sharesOf}
@@ -78,14 +81,25 @@ Gives block-ways j s p = WaysGiven j s p
 Gives sharing j s p = Shared j s p
 Gives labels-behind j s p = Weighed j s p
 
--- what the needed places of the table hold after the call
-unfoldable pub TableHolds : Kind → Job → Lent → Type 0
-TableHolds (packing k) j content = ValueTable k j (content .cells)
-TableHolds subset-sums j content = BitTable j (content .words)
-TableHolds fewest-blocks j content = FewestRow j (content .cells)
-TableHolds block-ways j content = WaysRow j (content .words)
-TableHolds sharing j content = Unit
-TableHolds labels-behind j content = FirstRow j (content .cells)
+-- kind 1: a row and a bit for each label and budget; or the full table
+unfoldable pub OnceTable : Way → Job → Lent → Type 0
+OnceTable Light j content = LightTable j (content .cells) (content .words)
+OnceTable Full j content = ValueTable once j (content .cells)
+
+-- what the needed places of the table hold after the call, by the way that kind 1 goes
+unfoldable pub TableBy : Way → Kind → Job → Lent → Type 0
+TableBy way (packing once) j content = OnceTable way j content
+TableBy way (packing limited) j content = ValueTable limited j (content .cells)
+TableBy way (packing free) j content = ValueTable free j (content .cells)
+TableBy way subset-sums j content = BitTable j (content .words)
+TableBy way fewest-blocks j content = FewestRow j (content .cells)
+TableBy way block-ways j content = WaysRow j (content .words)
+TableBy way sharing j content = Unit
+TableBy way labels-behind j content = FirstRow j (content .cells)
+
+-- by the light way, which `solve` goes
+abbrev pub TableHolds : Kind → Job → Lent → Type 0
+TableHolds k j content = TableBy Light k j content
 
 -- ---- what a call answers and leaves behind
 
@@ -127,15 +141,37 @@ module _ (room : Kind → Job → Room) (table : Kind → Job → Lent → Type 
   SolvedRead (unreadable place) before a after = TurnedDown 1 before (answerNumbers a) after
   SolvedRead (readable j) before a after = SolvedLists j before a after
 
--- a job of kind k that none of 2 to 6 and 9 refuses, with these slices lent
-pub record Unrefused (k : Kind) (j : Job) (lent : Lent) : Type 0 where
+-- a job of kind k that none of 2 to 6 and 9 refuses, with these slices lent, by the way that kind 1 goes
+pub record UnrefusedBy (way : Way) (k : Kind) (j : Job) (lent : Lent) : Type 0 where
   pub of-kind : kindOf (j .kind-number) ≡ some k
-  pub no-refusal : kindRefusal (roomFor k j) k j lent ≡ 0
+  pub no-refusal : kindRefusal (roomBy way k j) k j lent ≡ 0
 
 -- the planner's promise on a job of lists, called with the slices as `before`: the answer a, and the slices as `after`
-unfoldable pub Solved : Job → Lent → Answer → Lent → Type 0
-Solved j before a after = SolvedLists roomFor TableHolds j before a after
+pub record SolvedBy (way : Way) (j : Job) (before : Lent) (a : Answer) (after : Lent) : Type 0 where
+  pub kept : SolvedLists (roomBy way) (TableBy way) j before a after
 
 -- the planner's promise on job bytes
-unfoldable pub SolvedBytes : List ℕ → Lent → Answer → Lent → Type 0
-SolvedBytes bytes before a after = SolvedRead roomFor TableHolds (readJob bytes) before a after
+pub record SolvedBytesBy (way : Way) (bytes : List ℕ) (before : Lent) (a : Answer) (after : Lent) : Type 0 where
+  pub kept : SolvedRead (roomBy way) (TableBy way) (readJob bytes) before a after
+
+-- ---- by the light way, which `solve` goes, and by the full way
+
+-- a job that is not refused, by the light way
+abbrev pub Unrefused : Kind → Job → Lent → Type 0
+Unrefused k j lent = UnrefusedBy Light k j lent
+
+-- the promise on a job of lists, by the light way
+abbrev pub Solved : Job → Lent → Answer → Lent → Type 0
+Solved j before a after = SolvedBy Light j before a after
+
+-- and on job bytes
+abbrev pub SolvedBytes : List ℕ → Lent → Answer → Lent → Type 0
+SolvedBytes bytes before a after = SolvedBytesBy Light bytes before a after
+
+-- the promise on a job of lists, by the full way
+abbrev pub SolvedFull : Job → Lent → Answer → Lent → Type 0
+SolvedFull j before a after = SolvedBy Full j before a after
+
+-- and on job bytes
+abbrev pub SolvedFullBytes : List ℕ → Lent → Answer → Lent → Type 0
+SolvedFullBytes bytes before a after = SolvedBytesBy Full bytes before a after

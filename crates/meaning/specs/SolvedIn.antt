@@ -3,13 +3,20 @@
 use mathlib.Core.List.{List}
 use Prim.Native.Nat.{ℕ}
 use Rattle.meaning.specs.declared.Answer.{Answer}
+use Rattle.meaning.specs.declared.Way.{Way}
+use Rattle.meaning.specs.declared.Way.the-variants.{Light}
 use Rattle.meaning.specs.Job.{Job}
 use Rattle.meaning.specs.Lent.{lentOf}
-use Rattle.meaning.specs.Solved.{Solved}
+use Rattle.meaning.specs.Solved.{SolvedBy, Solved}
 
--- kinds 1, 2, 3, 5 and 8 use cells and picks
-unfoldable pub SolvedInCells : Job → List ℕ → List ℕ → Answer → List ℕ → List ℕ → Type 0
-SolvedInCells j cells picks a cells-after picks-after = (words : List ℕ) → Solved j (lentOf cells words picks) a (lentOf cells-after words picks-after)
+-- kinds 2, 3, 5 and 8 use cells and picks, and so does kind 1 by the full way; by the light way it uses all three
+unfoldable pub SolvedInCellsBy : Way → Job → List ℕ → List ℕ → Answer → List ℕ → List ℕ → Type 0
+SolvedInCellsBy way j cells picks a cells-after picks-after =
+    (words : List ℕ) → SolvedBy way j (lentOf cells words picks) a (lentOf cells-after words picks-after)
+
+-- of a kind that goes one way
+abbrev pub SolvedInCells : Job → List ℕ → List ℕ → Answer → List ℕ → List ℕ → Type 0
+SolvedInCells j cells picks a cells-after picks-after = SolvedInCellsBy Light j cells picks a cells-after picks-after
 
 -- kinds 4 and 6 use words
 unfoldable pub SolvedInWords : Job → List ℕ → Answer → List ℕ → Type 0

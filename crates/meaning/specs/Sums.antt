@@ -6,6 +6,7 @@ use mathlib.Core.List.{List}
 use Rattle.meaning.specs.Lists.{at, total}
 use Rattle.meaning.specs.Counting.{Counted}
 use Rattle.meaning.specs.Job.{Job, labels, once}
+use Rattle.meaning.specs.Lent.{bitWords}
 use Rattle.meaning.specs.Knapsacks.{Selection}
 
 -- p is a selection of the first i labels, each at most once, and weighs exactly t
@@ -34,8 +35,8 @@ bit words t = at words (t / 64) / 2 ^ (t % 64) % 2
 
 -- the table of floor(C/64)+1 words: the bit of t is set exactly if t is reached and at most C; a word has 64 bits and no more
 pub record BitTable (j : Job) (words : List ℕ) : Type 0 where
-  pub set : (t : ℕ) → t < 64 * (j .budget / 64 + 1) → Tells (ReachedWithin j (labels j) t) (bit words t)
-  pub narrow : (m : ℕ) → m < j .budget / 64 + 1 → at words m < 2 ^ 64
+  pub set : (t : ℕ) → t < 64 * bitWords j → Tells (ReachedWithin j (labels j) t) (bit words t)
+  pub narrow : (m : ℕ) → m < bitWords j → at words m < 2 ^ 64
 
 -- yes (1) or no (0): can some labels weigh exactly C?
 unfoldable pub YesOrNo : Job → ℕ → Type 0

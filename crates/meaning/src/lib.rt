@@ -1,4 +1,4 @@
-// What the operations answer, and what reading a section finds. The document's numbers for each case of the first three
+// What the operations answer, which way kind 1 goes, and what reading a section finds. The document's numbers for each case of the first three
 // are in specs/Answers.antt; the sections are in specs/Bytes.antt.
 
 // What a planner answers: a refusal number, or the numbers of the job's kind.
@@ -22,6 +22,12 @@ pub enum Verdict {
 pub enum Written {
     Bytes(u64),
     Refused(u32),
+}
+
+// The way that kind 1 goes: the light table, a row of cells and a bit for each label and budget, or the full one. The other kinds have one way.
+pub enum Way {
+    Light,
+    Full,
 }
 
 // A section of job or certificate bytes: where its numbers start, how many there are, and the place after them;

@@ -10,14 +10,15 @@ use lib.Dec.{ltb}
 use lib.ListN.{length}
 use Rattle.meaning.specs.declared.Answer.{Answer}
 use Rattle.meaning.specs.declared.Answer.the-variants as Says
+use Rattle.meaning.specs.declared.Way.the-variants.{Light}
 use Rattle.meaning.specs.Lists.{if}
 use Rattle.meaning.specs.Job.{Job, labels, Kind, once, limited, free, packing, subset-sums, fewest-blocks, block-ways, sharing, labels-behind, kindOf}
-use Rattle.meaning.specs.Lent.{Lent, roomFor, roomOf}
+use Rattle.meaning.specs.Lent.{Lent, onceRoom, roomBy, roomFor, roomOf}
 use Rattle.meaning.specs.Refusals.{kindRefusal}
 use Rattle.meaning.specs.Bytes.{JobRead, readJob, readable, unreadable}
 use Rattle.meaning.specs.Blocks.{tooMany}
 use Rattle.meaning.specs.Answers.{answerNumbers}
-use Rattle.meaning.specs.Solved.{Unrefused, Gives, Outcome, SolvedAs, SolvedBytes, SolvedLists, SolvedRead, TableHolds, TurnedDown, waysAnswer}
+use Rattle.meaning.specs.Solved.{Unrefused, Gives, Outcome, SolvedAs, SolvedLists, SolvedRead, TableBy, TableHolds, TurnedDown, waysAnswer}
 use Rattle.meaning.specs.Told.{ToldBytes, labelsRead}
 use Rattle.meaning.proofs.Unique.{answer-numbers-unique}
 use Rattle.meaning.proofs.SolvedIn.{kept}
@@ -53,7 +54,7 @@ module _ (j : Job) (before after : Lent) (a : Answer) where
   one-each k each ok = omega (arith, kept k j before ok .picks-room, at-most a (labels j))
 
   by-answer : (k : Kind) (p : List ℕ) → Unrefused k j before → Gives k j (answerNumbers a) p → picksWritten a (labels j) ≤ length (before .picks)
-  unfolding Gives picksWritten roomFor roomOf waysAnswer
+  unfolding Gives picksWritten roomBy onceRoom roomOf waysAnswer
   by-answer (packing once) p ok g = one-each (packing once) refl ok
   by-answer (packing limited) p ok g = one-each (packing limited) refl ok
   by-answer (packing free) p ok g = one-each (packing free) refl ok
@@ -70,14 +71,14 @@ module _ (j : Job) (before after : Lent) (a : Answer) where
   by-refusal k zero of-kind no-refusal o = by-answer k (o .content .picks) (record { of-kind = of-kind; no-refusal = no-refusal }) (o .gives)
   by-refusal k (suc r) of-kind no-refusal o = by-turning-down (suc r) o
 
-  by-kind : (o : Option Kind) → kindOf (j .kind-number) ≡ o → SolvedAs roomFor TableHolds o j before (answerNumbers a) after
+  by-kind : (o : Option Kind) → kindOf (j .kind-number) ≡ o → SolvedAs (roomBy Light) (TableBy Light) o j before (answerNumbers a) after
       → picksWritten a (labels j) ≤ length (before .picks)
   unfolding SolvedAs
   by-kind none of-kind t = by-turning-down 2 t
   by-kind (some k) of-kind o = by-refusal k (kindRefusal (roomFor k j) k j before) of-kind refl o
 
 -- for any job bytes: none where they can't be read
-by-read : (x : JobRead) (before after : Lent) (a : Answer) (n : ℕ) → n ≡ labelsRead x → SolvedRead roomFor TableHolds x before a after
+by-read : (x : JobRead) (before after : Lent) (a : Answer) (n : ℕ) → n ≡ labelsRead x → SolvedRead (roomBy Light) (TableBy Light) x before a after
     → picksWritten a n ≤ length (before .picks)
 unfolding labelsRead SolvedRead SolvedLists
 by-read (unreadable place) before after a n counted t = omega (arith, at-most a n)
@@ -85,5 +86,4 @@ by-read (readable j) before after a n counted solved = rw counted (by-kind j bef
 
 pub picks-room : {bytes : List ℕ} {before after : Lent} {kind n : ℕ} {a : Answer} → ToldBytes bytes before kind n a after
     → picksWritten a n ≤ length (before .picks)
-unfolding SolvedBytes
-picks-room {bytes} {before} {after} {kind} {n} {a} told = by-read (readJob bytes) before after a n (told .labels-told) (told .solved)
+picks-room {bytes} {before} {after} {kind} {n} {a} told = by-read (readJob bytes) before after a n (told .labels-told) (told .solved .kept)

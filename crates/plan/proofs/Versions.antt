@@ -12,6 +12,7 @@ use lib.Dec.{lit≤}
 use lib.ListN.{length, length-replicate, replicate, take}
 use Rattle.meaning.specs.declared.Answer.{Answer}
 use Rattle.meaning.specs.declared.Answer.the-variants as Says
+use Rattle.meaning.specs.declared.Way.the-variants.{Light}
 use Rattle.meaning.specs.Lists.{at, if}
 use Rattle.meaning.specs.Job.{Job, Kind, block-ways, fewest-blocks, free, jobOf, kindOf, labels, limited, once, packing, sharing, labels-behind, subset-sums}
 use Rattle.meaning.specs.Lent.{Lent, roomFor}
@@ -65,6 +66,7 @@ program = record {
   Given = List ℕ × ℕ;
   Promise = λ c g. linesRoom ≤ length (c .1) → Replied (c .0) (c .1) (g .0) (g .1);
   AsksFor = λ c j. HandsIn (c .0) (c .1) j;
+  way = Light;
   lent = λ c. ourSlices;
   Refuses = λ g. RefusalLine (written g);
   Answers0 = λ k g. RefusalLine (written g) ⊎ Says0 k (written g);
@@ -77,7 +79,7 @@ abbrev Shown : Job → List ℕ × ℕ → Answer → Lent → Type 0
 Shown j g a left = written g ≡ linesOf (j .kind-number) a (take (picksWritten a (labels j)) (left .picks))
 
 shows : (input before after : List ℕ) (size : ℕ) (j : Job) → HandsIn input before j → Replied input before after size
-    → SolvedAndShown j ourSlices (Shown j (after, size))
+    → SolvedAndShown Light j ourSlices (Shown j (after, size))
 unfolding kindRead labelsRead
 shows input before after size j asks (longer long put) = absurd (omega (arith, asks .short))
 shows input before after size j asks (a-job short x) = record {

@@ -1,20 +1,22 @@
 // The planner: any request is answered or refused. A job comes as lists of numbers or as job bytes; both go to one place, where the kind
 // decides, and from there to the crate of that kind.
 use meaning::Answer;
+use meaning::Way;
 use requests::Request;
 use rules::Room;
 use rules::Rules;
 ghost use mathlib.Core.List.{[], _∷_};
 ghost use mathlib.Core.Path.{_≡_};
-ghost use mathlib.Core.Bool.{Bool};
+ghost use mathlib.Core.Bool.{Bool, true, false};
 ghost use Prim.Native.Nat.{ℕ, _≤_};
+ghost use Rattle.meaning.specs.declared.Way.the-variants.{Light, Full};
 ghost use Rattle.meaning.specs.Lists.{if};
 ghost use Rattle.meaning.specs.Job.{jobOf};
 ghost use Rattle.meaning.specs.Lent.{lentOf};
 ghost use Rattle.meaning.specs.Refusals.{jobRefusal};
-ghost use Rattle.meaning.specs.Solved.{Solved, SolvedBytes};
-ghost use Rattle.meaning.specs.Told.{ToldBytes};
-ghost use Rattle.meaning.specs.SolvedIn.{SolvedInCells, SolvedInWords, SolvedInPicks};
+ghost use Rattle.meaning.specs.Solved.{SolvedBy, Solved, SolvedBytes, SolvedFull, SolvedFullBytes};
+ghost use Rattle.meaning.specs.Told.{ToldBy, ToldBytes};
+ghost use Rattle.meaning.specs.SolvedIn.{SolvedInCellsBy, SolvedInCells, SolvedInWords, SolvedInPicks};
 ghost use Rattle.numbers.specs.TwoSlices.{jobFrom};
 ghost use Rattle.rules.specs.Ruling.{rulesFrom};
 ghost use Rattle.rules.specs.Places.{hasRoom};
@@ -63,8 +65,8 @@ fn refusal(
 
 // Each arm chooses its rules, its room and its door. A length of 0 stands for a slice that the kind doesn't need.
 
-// Kinds 1 to 3.
-fn pack(
+// Kinds 1 to 3, kind 1 the full way.
+fn pack_full(
     kind: u32,
     budget: u32,
     weights: &[u32],
@@ -77,7 +79,7 @@ fn pack(
     picks: &mut [u32],
 ) -> Answer
     requires { ⌜ (1 ≤ kind) × (kind ≤ 3) ⌝ }
-    ensures { λ r. ⌜ SolvedInCells (jobFrom kind (budget ∷ []) (now (weights .entry)) (now (wbytes .entry))
+    ensures { λ r. ⌜ SolvedInCellsBy Full (jobFrom kind (budget ∷ []) (now (weights .entry)) (now (wbytes .entry))
         (now (values .entry)) (now (vbytes .entry)) (now (copies .entry)) (now (cbytes .entry))) (now (cells .entry)) (now (picks .entry))
         r (now (cells .exit)) (now (picks .exit)) ⌝ }
 {
@@ -102,6 +104,106 @@ fn pack(
         return Answer::Refused(refused);
     }
     knapsack::solve(
+        kind,
+        budget,
+        weights,
+        wbytes,
+        values,
+        vbytes,
+        copies,
+        cbytes,
+        cells,
+        picks,
+    )
+}
+
+// Kind 1 the light way.
+fn pack_light(
+    budget: u32,
+    weights: &[u32],
+    wbytes: &[u8],
+    values: &[u32],
+    vbytes: &[u8],
+    copies: &[u32],
+    cbytes: &[u8],
+    cells: &mut [u32],
+    words: &mut [u64],
+    picks: &mut [u32],
+) -> Answer
+    ensures { λ r. ⌜ Solved (jobFrom 1 (budget ∷ []) (now (weights .entry)) (now (wbytes .entry))
+        (now (values .entry)) (now (vbytes .entry)) (now (copies .entry)) (now (cbytes .entry)))
+        (lentOf (now (cells .entry)) (now (words .entry)) (now (picks .entry))) r
+        (lentOf (now (cells .exit)) (now (words .exit)) (now (picks .exit))) ⌝ }
+{
+    let n = numbers::list_length(weights, wbytes);
+    let rules = rules::knapsack_rules(1);
+    let room = rules::light_room(n, budget);
+    let refused = refusal(
+        rules,
+        room,
+        budget,
+        weights,
+        wbytes,
+        values,
+        vbytes,
+        copies,
+        cbytes,
+        cells.len(),
+        words.len(),
+        picks.len(),
+    );
+    if refused != 0 {
+        return Answer::Refused(refused);
+    }
+    light::solve(budget, weights, wbytes, values, vbytes, cells, words, picks)
+}
+
+// Whether a job of this kind goes the light way: kind 1 alone has one.
+fn goes_light(way: Way, kind: u32) -> bool
+    ensures { λ r. ⌜ (r ≡ true → (way ≡ Light) × (kind ≡ 1)) × (r ≡ false → kind ≡ 1 → way ≡ Full) ⌝ }
+{
+    match way {
+        Way::Light => kind == 1,
+        Way::Full => false,
+    }
+}
+
+// Kinds 1 to 3.
+fn pack(
+    way: Way,
+    kind: u32,
+    budget: u32,
+    weights: &[u32],
+    wbytes: &[u8],
+    values: &[u32],
+    vbytes: &[u8],
+    copies: &[u32],
+    cbytes: &[u8],
+    cells: &mut [u32],
+    words: &mut [u64],
+    picks: &mut [u32],
+) -> Answer
+    requires { ⌜ (1 ≤ kind) × (kind ≤ 3) ⌝ }
+    ensures { λ r. ⌜ SolvedBy way (jobFrom kind (budget ∷ []) (now (weights .entry)) (now (wbytes .entry))
+        (now (values .entry)) (now (vbytes .entry)) (now (copies .entry)) (now (cbytes .entry)))
+        (lentOf (now (cells .entry)) (now (words .entry)) (now (picks .entry))) r
+        (lentOf (now (cells .exit)) (now (words .exit)) (now (picks .exit))) ⌝ }
+{
+    if goes_light(way, kind) {
+        return pack_light(
+            budget,
+            weights,
+            wbytes,
+            values,
+            vbytes,
+            copies,
+            cbytes,
+            cells,
+            words,
+            picks,
+        );
+    }
+    pack_full(
         kind,
         budget,
         weights,
@@ -275,6 +377,7 @@ fn show(
 
 // The one place where the kind decides.
 fn decide(
+    way: Way,
     kind: u32,
     budget: u32,
     weights: &[u32],
@@ -287,13 +390,14 @@ fn decide(
     words: &mut [u64],
     picks: &mut [u32],
 ) -> Answer
-    ensures { λ r. ⌜ Solved (jobFrom kind (budget ∷ []) (now (weights .entry)) (now (wbytes .entry))
+    ensures { λ r. ⌜ SolvedBy way (jobFrom kind (budget ∷ []) (now (weights .entry)) (now (wbytes .entry))
         (now (values .entry)) (now (vbytes .entry)) (now (copies .entry)) (now (cbytes .entry)))
         (lentOf (now (cells .entry)) (now (words .entry)) (now (picks .entry))) r
         (lentOf (now (cells .exit)) (now (words .exit)) (now (picks .exit))) ⌝ }
 {
     match kind {
         1..=3 => pack(
+            way,
             kind,
             budget,
             weights,
@@ -303,6 +407,7 @@ fn decide(
             copies,
             cbytes,
             cells,
+            words,
             picks,
         ),
         4 => reach(
@@ -353,6 +458,39 @@ fn decide(
     }
 }
 
+// A job of lists, by a way.
+fn solve_by(
+    way: Way,
+    kind: u32,
+    budget: u32,
+    weights: &[u32],
+    values: &[u32],
+    copies: &[u32],
+    cells: &mut [u32],
+    words: &mut [u64],
+    picks: &mut [u32],
+) -> Answer
+    ensures { λ r. ⌜ SolvedBy way (jobOf kind (budget ∷ []) (now (weights .entry)) (now (values .entry)) (now (copies .entry)))
+        (lentOf (now (cells .entry)) (now (words .entry)) (now (picks .entry))) r
+        (lentOf (now (cells .exit)) (now (words .exit)) (now (picks .exit))) ⌝ }
+{
+    let none: [u8; 0] = [];
+    decide(
+        way,
+        kind,
+        budget,
+        weights,
+        &none,
+        values,
+        &none,
+        copies,
+        &none,
+        cells,
+        words,
+        picks,
+    )
+}
+
 // A job of lists. Any lists and any slices may be handed in.
 pub fn solve(
     kind: u32,
@@ -368,16 +506,41 @@ pub fn solve(
         (lentOf (now (cells .entry)) (now (words .entry)) (now (picks .entry))) r
         (lentOf (now (cells .exit)) (now (words .exit)) (now (picks .exit))) ⌝ }
 {
-    let none: [u8; 0] = [];
-    decide(
+    solve_by(
+        Way::Light,
         kind,
         budget,
         weights,
-        &none,
         values,
-        &none,
         copies,
-        &none,
+        cells,
+        words,
+        picks,
+    )
+}
+
+// The same, kind 1 with the full table.
+pub fn solve_full(
+    kind: u32,
+    budget: u32,
+    weights: &[u32],
+    values: &[u32],
+    copies: &[u32],
+    cells: &mut [u32],
+    words: &mut [u64],
+    picks: &mut [u32],
+) -> Answer
+    ensures { λ r. ⌜ SolvedFull (jobOf kind (budget ∷ []) (now (weights .entry)) (now (values .entry)) (now (copies .entry)))
+        (lentOf (now (cells .entry)) (now (words .entry)) (now (picks .entry))) r
+        (lentOf (now (cells .exit)) (now (words .exit)) (now (picks .exit))) ⌝ }
+{
+    solve_by(
+        Way::Full,
+        kind,
+        budget,
+        weights,
+        values,
+        copies,
         cells,
         words,
         picks,
@@ -391,9 +554,9 @@ pub struct Told {
     pub answer: Answer,
 }
 
-// Job bytes. Any bytes and any slices may be handed in. Each section is handed on as the part of the job that it stands in.
-pub fn solve_told(job: &[u8], cells: &mut [u32], words: &mut [u64], picks: &mut [u32]) -> Told
-    ensures { λ r. ⌜ ToldBytes (now (job .entry)) (lentOf (now (cells .entry)) (now (words .entry)) (now (picks .entry)))
+// Job bytes, by a way. Each section is handed on as the part of the job that it stands in.
+fn tell(way: Way, job: &[u8], cells: &mut [u32], words: &mut [u64], picks: &mut [u32]) -> Told
+    ensures { λ r. ⌜ ToldBy way (now (job .entry)) (lentOf (now (cells .entry)) (now (words .entry)) (now (picks .entry)))
         (r .kind) (r .labels) (r .answer) (lentOf (now (cells .exit)) (now (words .exit)) (now (picks .exit))) ⌝ }
 {
     let request = requests::read_job(job);
@@ -410,6 +573,7 @@ pub fn solve_told(job: &[u8], cells: &mut [u32], words: &mut [u64], picks: &mut 
     let copies = requests::bytes_at(job, parts.copies);
     let labels = numbers::list_length(&none, weights);
     let answer = decide(
+        way,
         parts.kind,
         parts.budget,
         &none,
@@ -429,11 +593,33 @@ pub fn solve_told(job: &[u8], cells: &mut [u32], words: &mut [u64], picks: &mut 
     }
 }
 
+// Job bytes. Any bytes and any slices may be handed in.
+pub fn solve_told(job: &[u8], cells: &mut [u32], words: &mut [u64], picks: &mut [u32]) -> Told
+    ensures { λ r. ⌜ ToldBytes (now (job .entry)) (lentOf (now (cells .entry)) (now (words .entry)) (now (picks .entry)))
+        (r .kind) (r .labels) (r .answer) (lentOf (now (cells .exit)) (now (words .exit)) (now (picks .exit))) ⌝ }
+{
+    tell(Way::Light, job, cells, words, picks)
+}
+
 // The answer alone.
 pub fn solve_bytes(job: &[u8], cells: &mut [u32], words: &mut [u64], picks: &mut [u32]) -> Answer
     ensures { λ r. ⌜ SolvedBytes (now (job .entry)) (lentOf (now (cells .entry)) (now (words .entry)) (now (picks .entry))) r
         (lentOf (now (cells .exit)) (now (words .exit)) (now (picks .exit))) ⌝ }
 {
-    let told = solve_told(job, cells, words, picks);
+    let told = tell(Way::Light, job, cells, words, picks);
+    told.answer
+}
+
+// The answer alone, kind 1 with the full table.
+pub fn solve_full_bytes(
+    job: &[u8],
+    cells: &mut [u32],
+    words: &mut [u64],
+    picks: &mut [u32],
+) -> Answer
+    ensures { λ r. ⌜ SolvedFullBytes (now (job .entry)) (lentOf (now (cells .entry)) (now (words .entry)) (now (picks .entry))) r
+        (lentOf (now (cells .exit)) (now (words .exit)) (now (picks .exit))) ⌝ }
+{
+    let told = tell(Way::Full, job, cells, words, picks);
     told.answer
 }

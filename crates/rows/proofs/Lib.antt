@@ -3,6 +3,8 @@
 -- cells that a loop stores, and a part of a slice that is lent
 pub mod Stores
 pub mod Parts
+-- what shifts and `|` do to the bits of a word, and what a store does to the bits of a slice
+pub mod Bits
 -- what one label makes of a row: one theory over the counts that may be picked, and the next row of a table
 pub mod Counts
 pub mod NextRow

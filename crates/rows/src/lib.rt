@@ -36,16 +36,25 @@ pub fn set_all(cells: &mut [u32], width: usize, x: u32)
     }
 }
 
+// The first words, all 0.
+pub fn clear(words: &mut [u64], to: usize)
+    requires { ⌜ to ≤ length (now words) ⌝ }
+    ensures { λ _. ⌜ Stored (now (words .entry)) (now (words .exit)) 0 0 to (λ m. 0) ⌝ }
+{
+    let mut m = 0;
+    while m < to {
+        words[m] = 0;
+        m += 1;
+    }
+}
+
 // The words of no labels: 1 in the first, for the empty list alone, and 0 in the others.
 pub fn first_alone(words: &mut [u64])
     requires { ⌜ 0 < length (now words) ⌝ }
     ensures { λ _. ⌜ FirstAlone 1 0 (length (now (words .entry))) (now (words .exit)) ⌝ }
 {
-    let mut m = 0;
-    while m < words.len() {
-        words[m] = 0;
-        m += 1;
-    }
+    let all = words.len();
+    clear(words, all);
     words[0] = 1;
 }
 

@@ -9,7 +9,9 @@ use mathlib.Core.Bool.{Bool, true, false}
 use mathlib.Core.List.{List, [], _∷_}
 use lib.ListN.{length-replicate, replicate}
 use Rattle.meaning.specs.Lists.{every, if}
-use Rattle.meaning.specs.Job.{Knapsack, Kind, packing, subset-sums, fewest-blocks, block-ways, sharing, labels-behind}
+use Rattle.meaning.specs.declared.Way.{Way}
+use Rattle.meaning.specs.declared.Way.the-variants.{Light, Full}
+use Rattle.meaning.specs.Job.{Knapsack, Kind, once, packing, subset-sums, fewest-blocks, block-ways, sharing, labels-behind}
 use Rattle.meaning.specs.Job.{kindOf, jobOf, labels}
 use Rattle.meaning.specs.Lent as lent
 use Rattle.meaning.specs.Refusals as meaning
@@ -21,7 +23,7 @@ use Rattle.rules.specs.declared.Rules.{Rules}
 use Rattle.rules.specs.declared.Bounds.{Bounds}
 use Rattle.rules.specs.declared.Room.{Room}
 use Rattle.rules.specs.Ruling.{rulesFrom, ruleFrom}
-use Rattle.rules.specs.Places.{NeededBy, roomFrom}
+use Rattle.rules.specs.Places.{NeededBy, NeededFor, roomFrom}
 use Rattle.rules.proofs.Ruling.{knapsack-of}
 
 -- ---- the rules of `meaning` settle the code's
@@ -103,9 +105,9 @@ roomBack : lent.Room → Room
 roomBack m = record { cells = m .cells; words = m .words; picks = m .picks }
 
 -- there is a job with so many labels and this budget, so what such a job needs is one room
-pub needed-unique : (k : Kind) (n budget : ℕ) (r r′ : Room) → NeededBy k n budget r → NeededBy k n budget r′ → r ≡ r′
-unfolding NeededBy roomFrom lent.roomOf roomBack jobOf labels
-needed-unique k n budget r r′ a b =
+pub needed-unique : (way : Way) (k : Kind) (n budget : ℕ) (r r′ : Room) → NeededFor way k n budget r → NeededFor way k n budget r′ → r ≡ r′
+unfolding NeededFor roomFrom lent.roomOf roomBack jobOf labels
+needed-unique way k n budget r r′ a b =
     let j = jobOf 0 (budget ∷ []) (replicate n 0) [] [] in
     let long : labels j ≡ n = length-replicate n 0 in
     ap roomBack (a j long refl ∙ sym (b j long refl))
@@ -114,22 +116,27 @@ needed-unique k n budget r r′ a b =
 
 -- `knapsack_room`, for any n and C
 pub knapsack-room-unique : (kind n budget : ℕ) (r r′ : Room) → (1 ≤ kind) × (kind ≤ 3)
-    → ((k : Knapsack) → kindOf kind ≡ some (packing k) → NeededBy (packing k) (min n mostLabels) (min budget mostBudget) r)
-    → ((k : Knapsack) → kindOf kind ≡ some (packing k) → NeededBy (packing k) (min n mostLabels) (min budget mostBudget) r′) → r ≡ r′
+    → ((k : Knapsack) → kindOf kind ≡ some (packing k) → NeededFor Full (packing k) (min n mostLabels) (min budget mostBudget) r)
+    → ((k : Knapsack) → kindOf kind ≡ some (packing k) → NeededFor Full (packing k) (min n mostLabels) (min budget mostBudget) r′) → r ≡ r′
 knapsack-room-unique kind n budget r r′ h a b =
     let s = knapsack-of kind (h .0) (h .1) in
-    needed-unique (packing (s .knapsack)) (min n mostLabels) (min budget mostBudget) r r′
+    needed-unique Full (packing (s .knapsack)) (min n mostLabels) (min budget mostBudget) r r′
     (a (s .knapsack) (s .of-kind)) (b (s .knapsack) (s .of-kind))
+
+-- `light_room`, for any n and C
+pub light-room-unique : (n budget : ℕ) (r r′ : Room) → NeededBy (packing once) (min n mostLabels) (min budget mostBudget) r
+    → NeededBy (packing once) (min n mostLabels) (min budget mostBudget) r′ → r ≡ r′
+light-room-unique n budget r r′ a b = needed-unique Light (packing once) (min n mostLabels) (min budget mostBudget) r r′ a b
 
 -- `sums_room`
 pub sums-room-unique : (budget : ℕ) (r r′ : Room) → ((n : ℕ) → NeededBy subset-sums n budget r) → ((n : ℕ) → NeededBy subset-sums n budget r′)
     → r ≡ r′
-sums-room-unique budget r r′ a b = needed-unique subset-sums 0 budget r r′ (a 0) (b 0)
+sums-room-unique budget r r′ a b = needed-unique Light subset-sums 0 budget r r′ (a 0) (b 0)
 
 -- `row_room`
 pub row-room-unique : (n budget : ℕ) (r r′ : Room) → NeededBy fewest-blocks n budget r × NeededBy labels-behind n budget r
     → NeededBy fewest-blocks n budget r′ × NeededBy labels-behind n budget r′ → r ≡ r′
-row-room-unique n budget r r′ a b = needed-unique fewest-blocks n budget r r′ (a .0) (b .0)
+row-room-unique n budget r r′ a b = needed-unique Light fewest-blocks n budget r r′ (a .0) (b .0)
 
 -- `blocks_room`
 pub blocks-room-unique : (kind n budget : ℕ) (r r′ : Room) → (5 ≤ kind) × (kind ≤ 6)
@@ -137,10 +144,10 @@ pub blocks-room-unique : (kind n budget : ℕ) (r r′ : Room) → (5 ≤ kind) 
     → (kind ≡ 5 → NeededBy fewest-blocks n budget r′) × (kind ≡ 6 → NeededBy block-ways n budget r′) → r ≡ r′
 blocks-room-unique kind n budget r r′ h a b =
     elim (decLt 5 kind) [
-      | yes above ↦ let six : kind ≡ 6 = omega arith in needed-unique block-ways n budget r r′ (a .1 six) (b .1 six)
-      | no other ↦ let five : kind ≡ 5 = omega arith in needed-unique fewest-blocks n budget r r′ (a .0 five) (b .0 five)
+      | yes above ↦ let six : kind ≡ 6 = omega arith in needed-unique Light block-ways n budget r r′ (a .1 six) (b .1 six)
+      | no other ↦ let five : kind ≡ 5 = omega arith in needed-unique Light fewest-blocks n budget r r′ (a .0 five) (b .0 five)
     ]
 
 -- `shares_room`
 pub shares-room-unique : (n : ℕ) (r r′ : Room) → ((budget : ℕ) → NeededBy sharing n budget r) → ((budget : ℕ) → NeededBy sharing n budget r′) → r ≡ r′
-shares-room-unique n r r′ a b = needed-unique sharing n 0 r r′ (a 0) (b 0)
+shares-room-unique n r r′ a b = needed-unique Light sharing n 0 r r′ (a 0) (b 0)

@@ -4,11 +4,12 @@ ghost use mathlib.Core.Path.{_≡_};
 ghost use mathlib.Core.Option.{some};
 ghost use Prim.Native.Nat.{ℕ, _≤_, min};
 ghost use mathlib.Core.Bool.{Bool, true, false};
-ghost use Rattle.meaning.specs.Job.{Knapsack, packing, subset-sums, fewest-blocks, block-ways, sharing, labels-behind, kindOf};
+ghost use Rattle.meaning.specs.declared.Way.the-variants.{Full};
+ghost use Rattle.meaning.specs.Job.{Knapsack, once, packing, subset-sums, fewest-blocks, block-ways, sharing, labels-behind, kindOf};
 ghost use Rattle.meaning.specs.Bounds.{mostLabels, mostBudget, mostValue, mostCopies, leastCopies, mostOfOne};
 ghost use Rattle.meaning.specs.Refusals.{rulesOf, weightRules};
 ghost use Rattle.rules.specs.Ruling.{rulesFrom, ruleFrom};
-ghost use Rattle.rules.specs.Places.{NeededBy, hasRoom};
+ghost use Rattle.rules.specs.Places.{NeededFor, NeededBy, hasRoom};
 
 // ---- the bounds
 
@@ -150,11 +151,11 @@ fn lesser(a: usize, b: usize) -> usize
     if a <= b { a } else { b }
 }
 
-// Kinds 1 to 3: a row for each label and one before them, or one row in kind 3. It is asked for before 4 is, so n and C are counted up to
-// their bounds, and the product fits; where 4 doesn't apply, it is the job's own.
+// Kinds 1 to 3, kind 1 the full way: a row for each label and one before them, or one row in kind 3. It is asked for before 4 is, so n and C
+// are counted up to their bounds, and the product fits; where 4 doesn't apply, it is the job's own.
 pub fn knapsack_room(kind: u32, n: usize, budget: u32) -> Room
     requires { ⌜ (1 ≤ kind) × (kind ≤ 3) ⌝ }
-    ensures { λ r. ⌜ ((k : Knapsack) → kindOf kind ≡ some (packing k) → NeededBy (packing k) (min n mostLabels) (min budget mostBudget) r) ⌝ }
+    ensures { λ r. ⌜ ((k : Knapsack) → kindOf kind ≡ some (packing k) → NeededFor Full (packing k) (min n mostLabels) (min budget mostBudget) r) ⌝ }
 {
     let labels = lesser(n, MOST_LABELS);
     let width = lesser(budget as usize, MOST_BUDGET as usize) + 1;
@@ -168,6 +169,19 @@ pub fn knapsack_room(kind: u32, n: usize, budget: u32) -> Room
     Room {
         cells: (labels + 1) * width,
         words: 0,
+        picks: labels,
+    }
+}
+
+// Kind 1 the light way: a row, and for each label words of its own, with a bit for each budget. n and C are counted as above.
+pub fn light_room(n: usize, budget: u32) -> Room
+    ensures { λ r. ⌜ NeededBy (packing once) (min n mostLabels) (min budget mostBudget) r ⌝ }
+{
+    let labels = lesser(n, MOST_LABELS);
+    let top = lesser(budget as usize, MOST_BUDGET as usize);
+    Room {
+        cells: top + 1,
+        words: labels * (top / 64 + 1),
         picks: labels,
     }
 }

@@ -13,11 +13,11 @@ use Rattle.meaning.specs.declared.Answer.{Answer}
 use Rattle.meaning.specs.declared.Answer.the-variants as Says
 use Rattle.meaning.specs.Lists.{at, if, upTo, tally}
 use Rattle.meaning.specs.Job.{Job, labels, subset-sums}
-use Rattle.meaning.specs.Lent.{lentOf, roomFor, roomOf}
+use Rattle.meaning.specs.Lent.{lentOf, roomBy, roomOf}
 use Rattle.meaning.specs.Bounds.{mostBudget}
 use Rattle.meaning.specs.Refusals.{rulesOf, weightRules}
 use Rattle.meaning.specs.Sums.{Reached, ReachedWithin, Tells, is-so, is-not, bit, BitTable, YesOrNo, TotalCount}
-use Rattle.meaning.specs.Solved.{Unrefused, Gives, TableHolds}
+use Rattle.meaning.specs.Solved.{Unrefused, Gives, TableBy}
 use Rattle.meaning.specs.SolvedIn.{SolvedInWords}
 use Rattle.meaning.proofs.Counting.{counted-iff}
 use Rattle.meaning.proofs.SolvedIn.{kept, holds-front, solved-in-words}
@@ -132,13 +132,13 @@ unfolding rulesOf weightRules
 small j words ok = kept subset-sums j (lentOf [] words []) ok .small
 
 pub roomy : (j : Job) (words : List ℕ) → Unrefused subset-sums j (lentOf [] words []) → j .budget / 64 + 1 ≤ length words
-unfolding roomFor roomOf lentOf
+unfolding roomBy roomOf lentOf
 roomy j words ok = kept subset-sums j (lentOf [] words []) ok .words-room
 
 -- the needed words hold the table, and the others what they held
 pub solved : (j : Job) (a : Answer) (words table : List ℕ) → Unrefused subset-sums j (lentOf [] words [])
     → length table ≡ j .budget / 64 + 1 → Tabled j a table → SolvedInWords j words a (table ++ drop (j .budget / 64 + 1) words)
-unfolding Gives TableHolds roomFor roomOf lentOf
+unfolding Gives TableBy roomBy roomOf lentOf
 solved j a words table ok long d =
     solved-in-words subset-sums j a words (table ++ drop (j .budget / 64 + 1) words) table ok refl refl (d .gives) (d .table) long
     (holds-front table words (j .budget / 64 + 1) long)

@@ -12,7 +12,7 @@ use lib.Pow.{pow-pos, mod-pow-add}
 use Rattle.meaning.specs.Lists.{at, if, upTo, tally}
 use Rattle.meaning.proofs.Tally.{tally-step}
 use Rattle.sums.specs.Words.{isSet}
-use Rattle.sums.proofs.Bits.{bitOf, bit-in}
+use Rattle.rows.proofs.Bits.{bitOf, bit-in}
 
 -- one bit by itself
 one-bit : (d : ℕ) → d < 2 → ones d ≡ if (eqb d 1) 1 0

@@ -11,8 +11,8 @@ use Rattle.meaning.specs.Sums.{bit}
 use Rattle.rows.specs.Rows.{FirstAlone}
 use Rattle.rows.proofs.Stores.{by, at-other}
 use Rattle.sums.specs.Words.{Added, Trimmed}
-use Rattle.sums.proofs.Bits.{bitOf, bit-or, bit-above, bit-shr, bit-shl, bit-shl-low, cut-low, cut-high}
-use Rattle.sums.proofs.Bits.{bit-in, bit-same, stored-bit, other-bit}
+use Rattle.rows.proofs.Bits.{bitOf, bit-or, bit-above, bit-shr, bit-shl, bit-shl-low, cut-low, cut-high}
+use Rattle.rows.proofs.Bits.{bit-in, bit-same, stored-bit, other-bit}
 
 -- ---- no labels
 

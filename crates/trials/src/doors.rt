@@ -1,7 +1,8 @@
-// The planner's two doors. A job is its numbers as job bytes have them: kinds, budgets, weights, values and copies, each list after its count. A list
+// The planner's doors, on lists and on bytes, by either way. A job is its numbers as job bytes have them: kinds, budgets, weights, values and copies, each list after its count. A list
 // more says how many cells, words and picks are lent: all, where it is empty.
 use crate::lines;
 use meaning::Answer;
+use meaning::Way;
 ghost use Prim.Native.Nat.{_≤_};
 ghost use lib.ListN.{length};
 
@@ -77,8 +78,45 @@ fn show(numbers: &[u32], answer: Answer, picks: [u32; PICKS], whole: bool) {
     lines::show(at(numbers, 1), answer, &picks[0..n], whole);
 }
 
-// The planner's answer to lists, or to job bytes.
+// The planner's answer to job bytes.
+fn solve_bytes(
+    way: Way,
+    job: &[u8],
+    cells: &mut [u32],
+    words: &mut [u64],
+    picks: &mut [u32],
+) -> Answer {
+    match way {
+        Way::Light => planner::solve_bytes(job, cells, words, picks),
+        Way::Full => planner::solve_full_bytes(job, cells, words, picks),
+    }
+}
+
+// Its answer to lists.
+fn solve_lists(
+    way: Way,
+    numbers: &[u32],
+    cells: &mut [u32],
+    words: &mut [u64],
+    picks: &mut [u32],
+) -> Answer {
+    let kind = at(numbers, 1);
+    let budget = at(numbers, 3);
+    let place = after(numbers, WEIGHTS);
+    let weights = list(numbers, WEIGHTS);
+    let values = list(numbers, place);
+    let copies = list(numbers, after(numbers, place));
+    match way {
+        Way::Light => { planner::solve(kind, budget, weights, values, copies, cells, words, picks) }
+        Way::Full => {
+            planner::solve_full(kind, budget, weights, values, copies, cells, words, picks)
+        }
+    }
+}
+
+// Its answer to lists, or to job bytes.
 fn solve(
+    way: Way,
     numbers: &[u32],
     job: &[u8],
     as_bytes: bool,
@@ -87,23 +125,13 @@ fn solve(
     picks: &mut [u32],
 ) -> Answer {
     if as_bytes {
-        return planner::solve_bytes(job, cells, words, picks);
+        return solve_bytes(way, job, cells, words, picks);
     }
-    let values = after(numbers, WEIGHTS);
-    planner::solve(
-        at(numbers, 1),
-        at(numbers, 3),
-        list(numbers, WEIGHTS),
-        list(numbers, values),
-        list(numbers, after(numbers, values)),
-        cells,
-        words,
-        picks,
-    )
+    solve_lists(way, numbers, cells, words, picks)
 }
 
 // Its answer on what is lent, which held something else before.
-fn solve_and_show(numbers: &[u32], job: &[u8], as_bytes: bool, whole: bool) {
+fn solve_and_show(way: Way, numbers: &[u32], job: &[u8], as_bytes: bool, whole: bool) {
     let c = lent(numbers, 1, CELLS);
     let w = lent(numbers, 2, WORDS);
     let p = lent(numbers, 3, PICKS);
@@ -111,6 +139,7 @@ fn solve_and_show(numbers: &[u32], job: &[u8], as_bytes: bool, whole: bool) {
     let mut words = [7u64; WORDS];
     let mut picks = [9u32; PICKS];
     let answer = solve(
+        way,
         numbers,
         job,
         as_bytes,
@@ -135,18 +164,18 @@ fn put_bytes(numbers: &[u32], bytes: &mut [u8]) -> usize
 }
 
 // Its answer to the job as bytes, after how many they are.
-fn by_bytes(numbers: &[u32], whole: bool) {
+fn by_bytes(way: Way, numbers: &[u32], whole: bool) {
     let end = lesser(end_of_job(numbers), numbers.len());
     let mut bytes = [0u8; BYTES];
     let size = put_bytes(&numbers[0..end], &mut bytes);
     lines::size(size);
-    solve_and_show(numbers, &bytes[0..size], true, whole);
+    solve_and_show(way, numbers, &bytes[0..size], true, whole);
 }
 
 // Its answer by one of the doors.
-pub fn answer(numbers: &[u32], as_bytes: bool, whole: bool) {
+pub fn answer(way: Way, numbers: &[u32], as_bytes: bool, whole: bool) {
     if as_bytes {
-        return by_bytes(numbers, whole);
+        return by_bytes(way, numbers, whole);
     }
-    solve_and_show(numbers, b"", false, whole);
+    solve_and_show(way, numbers, b"", false, whole);
 }

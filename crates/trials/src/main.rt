@@ -1,32 +1,33 @@
-// The trials of document 01 that standard input lists: its cases, whose mark is `-`, and its bounds, whose mark is `>`, with what comes at the bound
-// and one past it. Each job is answered as lists and as bytes, on slices that held something else before. Lines with neither mark are words for
-// who reads the list. The gate holds the print to the file stdout.
+// The trials of document 01 that standard input lists: its cases, whose mark is `-`, or `=` where kind 1 goes the full way, and its bounds, whose mark
+// is `>`, with what comes at the bound and one past it. Each job is answered as lists and as bytes, on slices that held something else before. Lines
+// with no mark are words for who reads the list. The gate holds the print to the file stdout.
 mod doors;
 mod lines;
 mod reading;
 
 use bytes::scan::find;
 use libc::STDIN_FILENO;
+use meaning::Way;
 
 // Has the job after a place of a line answered and printed. Answers the place after the job.
-fn run_job(line: &[u8], place: usize, as_bytes: bool, whole: bool) -> usize {
+fn run_job(way: Way, line: &[u8], place: usize, as_bytes: bool, whole: bool) -> usize {
     let mut numbers = [0u32; 16_384];
     let end = reading::read_job(line, place, &mut numbers);
-    doors::answer(&numbers, as_bytes, whole);
+    doors::answer(way, &numbers, as_bytes, whole);
     end
 }
 
 // The two jobs of a bound.
 fn run_bound(line: &[u8], colon: usize, as_bytes: bool) {
     lines::text(b":");
-    let slash = run_job(line, colon, as_bytes, false);
+    let slash = run_job(Way::Light, line, colon, as_bytes, false);
     lines::text(b", then");
-    run_job(line, slash, as_bytes, false);
+    run_job(Way::Light, line, slash, as_bytes, false);
     lines::text(b"\n");
 }
 
 // A case or a bound, after its name.
-fn trial(line: &[u8], as_bytes: bool) {
+fn trial(way: Way, line: &[u8], as_bytes: bool) {
     let colon = find(line, 0, line.len(), b':');
     if colon == 0 {
         return;
@@ -35,17 +36,21 @@ fn trial(line: &[u8], as_bytes: bool) {
     if line[0] == b'>' {
         return run_bound(line, colon, as_bytes);
     }
-    run_job(line, colon, as_bytes, true);
+    run_job(way, line, colon, as_bytes, true);
 }
 
-// One line of the list, as lists and as bytes.
+// A case or a bound, as lists and as bytes.
+fn both(way: Way, line: &[u8]) {
+    trial(way, line, false);
+    trial(way, line, true);
+}
+
+// One line of the list.
 fn run_line(line: &[u8]) {
     let mark = if 0 < line.len() { line[0] } else { 0 };
     match mark {
-        b'-' | b'>' => {
-            trial(line, false);
-            trial(line, true);
-        }
+        b'-' | b'>' => both(Way::Light, line),
+        b'=' => both(Way::Full, line),
         _ => {}
     }
 }

@@ -11,7 +11,7 @@ use borrow.Author.Tests.{eqb-true, eqb-false}
 use Rattle.meaning.specs.Lists.{at}
 use Rattle.meaning.specs.Cells.{noWay}
 use Rattle.meaning.specs.Job.{Job, jobOf, fewest-blocks, labels}
-use Rattle.meaning.specs.Lent.{lentOf, roomFor, roomOf}
+use Rattle.meaning.specs.Lent.{lentOf, roomBy, roomOf}
 use Rattle.meaning.specs.Refusals.{rulesOf}
 use Rattle.meaning.proofs.SolvedIn.{kept}
 use Rattle.numbers.specs.TwoSlices.{listFrom}
@@ -36,7 +36,7 @@ module _ (s : tie.Start) where
     bounds : Bounded (s .args .budget + 1) sizes
 
   ok : Kept
-  unfolding jobOf labels roomFor roomOf lentOf rulesOf
+  unfolding jobOf labels roomBy roomOf lentOf rulesOf
   ok =
       let lent = lentOf (s .args .cells .now) [] (s .args .picks .now) in
       let keeps = kept fewest-blocks job lent (s .pre) in

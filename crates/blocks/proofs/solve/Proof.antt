@@ -6,7 +6,7 @@ use mathlib.Core.List.{List, [], _∷_}
 use Rattle.meaning.specs.Job.{jobOf, block-ways}
 use Rattle.meaning.specs.Lent.{lentOf}
 use Rattle.meaning.specs.Solved.{Unrefused}
-use Rattle.meaning.specs.SolvedIn.{SolvedInCells, SolvedInWords}
+use Rattle.meaning.specs.SolvedIn.{SolvedInCellsBy, SolvedInWords}
 use Rattle.numbers.specs.TwoSlices.{listFrom}
 use Rattle.blocks.proofs.BlocksDoor.{asks-blocks, asks-ways}
 use borrow.Author.Needs.{needs}
@@ -35,7 +35,7 @@ same-length-2 : tie.Need-same-length-2
 same-length-2 c = search needs
 
 returns : tie.Need-returns
-unfolding SolvedInCells
+unfolding SolvedInCellsBy
 returns c =
     let laid = c .before .before .before .before in
     let five = laid .before .before .before in

@@ -8,7 +8,7 @@ use lib.ListN.{length, drop, take}
 use lib.Seq.{length-take-le}
 use Rattle.meaning.specs.Lists.{at}
 use Rattle.meaning.specs.Job.{Job, jobOf, block-ways}
-use Rattle.meaning.specs.Lent.{lentOf, roomFor, roomOf}
+use Rattle.meaning.specs.Lent.{lentOf, roomBy, roomOf}
 use Rattle.meaning.specs.Refusals.{rulesOf}
 use Rattle.meaning.specs.Blocks.{tooMany}
 use Rattle.meaning.proofs.SolvedIn.{kept}
@@ -29,7 +29,7 @@ module _ (s : tie.Start) where
   job = jobOf 6 (s .args .budget ∷ []) sizes [] []
 
   words-room : s .args .budget + 1 ≤ length (s .args .words .now)
-  unfolding jobOf roomFor roomOf lentOf
+  unfolding jobOf roomBy roomOf lentOf
   words-room = kept block-ways job (lentOf [] (s .args .words .now) []) (s .pre) .words-room
 
   bounds : Bounded (s .args .budget + 1) sizes

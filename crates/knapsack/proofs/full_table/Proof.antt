@@ -18,7 +18,8 @@ use Rattle.rows.specs.Rows.{SomeCount}
 use Rattle.rows.proofs.Parts.{front-part, front-room, front-last}
 use Rattle.knapsack.specs.Tables.{Bounded, limitOf, rowOf, Filled}
 use Rattle.knapsack.specs.Traces.{TraceBack}
-use Rattle.knapsack.proofs.FullRows.{one-row-more, some-back, trace-within}
+use Rattle.knapsack.proofs.FullRows.{one-row-more, some-back}
+use Rattle.knapsack.proofs.AnyRows.{trace-within}
 use Rattle.knapsack.proofs.KnapsackDoor.{Rowed, rowed, Ready, ready, bounded, limit-few, limit-may, full-room, copies-long, packs-full}
 use Rattle.knapsack.proofs.full_table.Statement.{statement}
 use Rattle.knapsack.proofs.full_table.Tie as tie

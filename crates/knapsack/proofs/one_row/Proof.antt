@@ -10,7 +10,7 @@ use lib.Seq.{length-take-le}
 use borrow.Author.Needs.{needs}
 use Rattle.meaning.specs.Lists.{at}
 use Rattle.meaning.specs.Job.{Job, jobOf, free, labels}
-use Rattle.meaning.specs.Lent.{roomFor, roomOf}
+use Rattle.meaning.specs.Lent.{roomBy, roomOf}
 use Rattle.meaning.specs.Bounds.{mostBudget}
 use Rattle.numbers.specs.TwoSlices.{listFrom}
 use Rattle.rows.proofs.Parts.{front-part, front-room, front-last}
@@ -38,7 +38,7 @@ module _ (s : tie.Start) where
     bounds : Bounded (s .args .budget + 1) weights values
 
   ok : Kept
-  unfolding jobOf labels roomFor roomOf
+  unfolding jobOf labels roomBy roomOf
   ok =
       let r = ready free job (s .args .cells .now) (s .args .picks .now) (s .pre) in
       record { cells-room = r .cells-room; picks-room = r .picks-room; bounds = bounded free job (r .valid) }

@@ -4,10 +4,11 @@ use mathlib.Core.Path.{_≡_}
 use Prim.Native.Nat.{ℕ}
 use mathlib.Core.List.{List, [], _∷_}
 use borrow.Author.Needs.{needs}
+use Rattle.meaning.specs.declared.Way.the-variants.{Full}
 use Rattle.meaning.specs.Job.{Job, jobOf, packing, free}
 use Rattle.numbers.specs.TwoSlices.{listFrom}
 use Rattle.meaning.specs.Lent.{lentOf}
-use Rattle.meaning.specs.Solved.{Unrefused}
+use Rattle.meaning.specs.Solved.{UnrefusedBy}
 use Rattle.knapsack.proofs.KnapsackDoor.{any-below, job-free}
 use Rattle.knapsack.proofs.solve.Statement.{statement}
 use Rattle.knapsack.proofs.solve.Tie as tie
@@ -35,7 +36,7 @@ entry c = c .before .before .before .before .before .before .before .before
 
 -- where the kind is 3, it is one without copies
 three : (c : tie.Then1) → let s = entry (c .before) in
-    (job s ≡ bare s) × Unrefused (packing free) (bare s) (lentOf (s .args .cells .now) [] (s .args .picks .now))
+    (job s ≡ bare s) × UnrefusedBy Full (packing free) (bare s) (lentOf (s .args .cells .now) [] (s .args .picks .now))
 three c =
     let s = entry (c .before) in
     let a = s .args in

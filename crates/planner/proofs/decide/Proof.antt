@@ -1,25 +1,30 @@
 -- `planner::decide` meets its contract: each arm's promise is that of its kinds, and what no arm takes is no kind.
 -- Assumes nothing.
 use mathlib.Core.List.{[], _∷_}
-use mathlib.Core.Path.{_≡_}
+use mathlib.Core.Path.{_≡_, refl}
 use mathlib.Core.Logic.{inl, inr}
 use Prim.Native.Nat.{ℕ, suc, _≤_}
 use native.Mathlib.Omega.{arith}
 use Rattle.meaning.specs.Job.{Job, jobOf, allKinds}
 use Rattle.meaning.specs.Lent.{Lent, lentOf}
-use Rattle.meaning.specs.SolvedIn.{SolvedInCells, SolvedInWords, SolvedInPicks}
+use Rattle.meaning.specs.SolvedIn.{SolvedInCellsBy, SolvedInWords, SolvedInPicks}
 use Rattle.meaning.proofs.Laws.{no-kind, solved-no-kind}
+use Rattle.meaning.proofs.Ways.{either-way}
 use Rattle.numbers.specs.TwoSlices.{jobFrom}
+use Rattle.planner.proofs.Preamble.{of-arm}
 use borrow.Author.Needs.{needs}
 use Rattle.planner.proofs.decide.Statement.{statement}
 use Rattle.planner.proofs.decide.Tie as tie
 
--- the job, and the slices
+-- the job, as one of a kind and as it is, and the slices
 module _ (s : tie.Start) where
-  abbrev job : Job
-  job =
-      jobFrom (s .args .kind) (s .args .budget ∷ []) (s .args .weights .now) (s .args .wbytes .now)
+  abbrev of-kind : ℕ → Job
+  of-kind kind =
+      jobFrom kind (s .args .budget ∷ []) (s .args .weights .now) (s .args .wbytes .now)
       (s .args .values .now) (s .args .vbytes .now) (s .args .copies .now) (s .args .cbytes .now)
+
+  abbrev job : Job
+  job = of-kind (s .args .kind)
 
   abbrev lent : Lent
   lent = lentOf (s .args .cells .now) (s .args .words .now) (s .args .picks .now)
@@ -32,8 +37,12 @@ entry c = c .before .before .before .before .before .before .before .before .bef
 abbrev shown : tie.After-slice-known7 → tie.After-show
 shown c = c .before .before .before .before
 
-abbrev packed : tie.After-slice-known9 → tie.After-pack
-packed c = c .before .before .before .before
+abbrev packed : tie.After-slice-known10 → tie.After-pack
+packed c = c .before .before .before .before .before .before
+
+-- and for kinds 5 and 6
+abbrev laid : tie.After-slice-known13 → tie.After-lay
+laid c = c .before .before .before .before .before .before
 
 -- a number that is m at least, and not m, is above it
 above : (m k : ℕ) → m ≤ k → ¬ (k ≡ m) → suc m ≤ k
@@ -58,25 +67,27 @@ same-length : tie.Need-same-length
 same-length c = search needs
 
 returns : tie.Need-returns
-unfolding SolvedInWords
+unfolding SolvedInWords jobOf
 returns c =
     let reached = c .before .before in
     let arm = reached .before .before in
     let s = entry (arm .before) in
     let four : s .args .kind ≡ 4 = arm .match .keys1 in
-    rw four (reached .reach .ensures (s .args .cells .now) (s .args .picks .now))
+    of-arm (s .args .way) (of-kind s) 4 (s .args .kind) _ _ _ (λ k. refl) four (λ one. absurd (omega arith))
+    (reached .reach .ensures (s .args .cells .now) (s .args .picks .now))
 
 same-length-2 : tie.Need-same-length-2
 same-length-2 c = search needs
 
 returns-2 : tie.Need-returns-2
-unfolding SolvedInPicks
+unfolding SolvedInPicks jobOf
 returns-2 c =
     let shared = c .before .before in
     let arm = shared .before .before in
     let s = entry (arm .before) in
     let seven : s .args .kind ≡ 7 = arm .match .keys2 in
-    rw seven (shared .share .ensures (s .args .cells .now) (s .args .words .now))
+    of-arm (s .args .way) (of-kind s) 7 (s .args .kind) _ _ _ (λ k. refl) seven (λ one. absurd (omega arith))
+    (shared .share .ensures (s .args .cells .now) (s .args .words .now))
 
 same-length-3 : tie.Need-same-length-3
 same-length-3 c = search needs
@@ -85,12 +96,13 @@ same-length-4 : tie.Need-same-length-4
 same-length-4 c = search needs
 
 returns-3 : tie.Need-returns-3
-unfolding SolvedInCells
+unfolding SolvedInCellsBy jobOf
 returns-3 c =
     let arm = shown c .before .before .before in
     let s = entry (arm .before) in
     let eight : s .args .kind ≡ 8 = arm .match .keys3 in
-    rw eight (shown c .show .ensures (s .args .words .now))
+    of-arm (s .args .way) (of-kind s) 8 (s .args .kind) _ _ _ (λ k. refl) eight (λ one. absurd (omega arith))
+    (shown c .show .ensures (s .args .words .now))
 
 same-length-5 : tie.Need-same-length-5
 same-length-5 c = search needs
@@ -98,14 +110,11 @@ same-length-5 c = search needs
 same-length-6 : tie.Need-same-length-6
 same-length-6 c = search needs
 
-returns-4 : tie.Need-returns-4
-unfolding SolvedInCells
-returns-4 c =
-    let else1 = packed c .before .before .before .before in
-    packed c .pack .ensures (entry (else1 .before .before) .args .words .now)
-
 same-length-7 : tie.Need-same-length-7
 same-length-7 c = search needs
+
+returns-4 : tie.Need-returns-4
+returns-4 c = packed c .pack .ensures
 
 same-length-8 : tie.Need-same-length-8
 same-length-8 c = search needs
@@ -113,8 +122,15 @@ same-length-8 c = search needs
 same-length-9 : tie.Need-same-length-9
 same-length-9 c = search needs
 
+same-length-10 : tie.Need-same-length-10
+same-length-10 c = search needs
+
 returns-5 : tie.Need-returns-5
-returns-5 c = search needs
+unfolding jobOf
+returns-5 c =
+    let five-or-six = laid c .before .before .before .before in
+    let s = entry (five-or-six .before .before .before .before) in
+    either-way (s .args .way) (job s) _ _ _ (λ one. absurd (omega arith)) (laid c .lay .ensures)
 
 returns-6 : tie.Need-returns-6
 unfolding jobOf
@@ -149,10 +165,11 @@ decide-spec =
     returns-3
     same-length-5
     same-length-6
-    returns-4
     same-length-7
+    returns-4
     same-length-8
     same-length-9
+    same-length-10
     returns-5
     returns-6
     returns-7)

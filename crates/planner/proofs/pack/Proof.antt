@@ -1,89 +1,31 @@
--- `planner::pack` meets its contract: kinds 1 to 3 are turned away by 3 to 6, or let in to `knapsack`.
+-- `planner::pack` meets its contract: kind 1 goes its way, and kinds 2 and 3 have one.
 -- Assumes nothing.
-use mathlib.Core.Path.{_≡_, refl, sym, subst}
-use Prim.Native.Nat.{ℕ, min}
-use mathlib.Core.Bool.{false}
-use mathlib.Core.List.{List, [], _∷_}
-use Rattle.meaning.specs.Job.{Job, Kind, packing, jobOf, labels}
-use Rattle.meaning.specs.Lent.{Lent, lentOf, roomFor}
-use Rattle.meaning.specs.Bounds.{mostLabels, mostBudget}
-use Rattle.meaning.specs.Refusals.{claimsFit, knapsackRules, rulesOf}
-use Rattle.meaning.specs.SolvedIn.{SolvedInCells}
+use mathlib.Core.Path.{_≡_}
+use mathlib.Core.List.{[], _∷_}
+use Rattle.meaning.specs.Job.{Job, jobOf}
+use Rattle.meaning.specs.SolvedIn.{SolvedInCellsBy}
+use Rattle.meaning.proofs.Ways.{from-full}
 use Rattle.numbers.specs.TwoSlices.{jobFrom}
-use Rattle.knapsack.proofs.KnapsackDoor.{words-needed}
-use Rattle.rules.specs.Places.{NeededBy}
-use Rattle.rules.proofs.Places.{needed-within}
-use Rattle.rules.proofs.Ruling.{KnapsackOf, knapsack-of}
-use Rattle.planner.proofs.Preamble.{Lowest, asked, let-in, turned-away, unneeded}
 use borrow.Author.Needs.{needs}
 use Rattle.planner.proofs.pack.Statement.{statement}
 use Rattle.planner.proofs.pack.Tie as tie
 
--- the job, its kind, and the slices with any words
-module _ (s : tie.Start) where
-  abbrev job : Job
-  job =
-      jobFrom (s .args .kind) (s .args .budget ∷ []) (s .args .weights .now) (s .args .wbytes .now)
-      (s .args .values .now) (s .args .vbytes .now) (s .args .copies .now) (s .args .cbytes .now)
+-- the function's entry, from where its way was asked for
+abbrev entry : tie.After-goes-light → tie.Start
+entry c = c .before .before .before .before .before .before .before .before .before .before
 
-  one-of-three : KnapsackOf (s .args .kind)
-  one-of-three = knapsack-of (s .args .kind) (s .pre .0) (s .pre .1)
+-- where it went the light way, and the full way, from their ends
+abbrev light : tie.After-slice-known6 → tie.After-pack-light
+light c = c .before .before .before .before .before .before
 
-  abbrev kind : Kind
-  kind = packing (one-of-three .knapsack)
+abbrev full : tie.After-slice-known8 → tie.After-pack-full
+full c = c .before .before .before .before
 
-  abbrev lent : List ℕ → Lent
-  lent words = lentOf (s .args .cells .now) words (s .args .picks .now)
+goes-light-requires : tie.Need-goes-light-requires
+goes-light-requires c κs = search needs
 
--- the function's entry, from where n was counted
-abbrev entry : tie.After-list-length → tie.Start
-entry c = c .before .before .before .before .before .before .before .before .before
-
--- and from where 3 to 6 were asked
-abbrev counted : tie.After-refusal → tie.After-list-length
-counted c = c .before .before .before
-
-lowest : (c : tie.After-refusal) (words : List ℕ) → let s = entry (counted c) in Lowest (kind s) (job s) (lent s words) (c .refusal .result)
-unfolding jobOf labels lentOf rulesOf knapsackRules
-lowest c words =
-    let s = entry (counted c) in
-    let k = one-of-three s in
-    let room = c .before .knapsack-room in
-    asked (kind s) (job s) (lent s words) _ false (room .result) _ 0 _ (c .refusal .result)
-    (record {
-      of-kind = k .of-kind;
-      its-rules = c .before .before .knapsack-rules .ensures (k .knapsack) (k .of-kind);
-      its-room = λ few small. needed-within _ _ _ _ few small
-          (subst (λ (n : ℕ). NeededBy (kind s) (min n mostLabels) (min (s .args .budget) mostBudget) (room .result)) (counted c .list-length .ensures)
-          (room .ensures (k .knapsack) (k .of-kind)));
-      in-cells = refl;
-      in-words = unneeded (roomFor (kind s) (job s) .words) 0 _ (sym (words-needed (k .knapsack) (job s)));
-      in-picks = refl;
-    })
-    (c .refusal .ensures (s .args .kind) false)
-
-list-length-requires : tie.Need-list-length-requires
-list-length-requires c κs = search needs
-
-knapsack-rules-requires : tie.Need-knapsack-rules-requires
-knapsack-rules-requires c κs = search needs
-
-knapsack-room-requires : tie.Need-knapsack-room-requires
-knapsack-room-requires c κs = search needs
-
-refusal-requires : tie.Need-refusal-requires
-refusal-requires c κs = search needs
-
-returns : tie.Need-returns
-unfolding SolvedInCells
-returns c words = turned-away (lowest (c .before) words) (c .if1 .taken)
-
-solve-requires : tie.Need-solve-requires
-unfolding claimsFit rulesOf knapsackRules
-solve-requires c κs =
-    let passed = c .before .before in
-    let s = entry (counted (passed .before)) in
-    record { knapsack = one-of-three s .knapsack; unrefused = let-in (lowest (passed .before) []) (passed .if1 .left) refl }
+pack-light-requires : tie.Need-pack-light-requires
+pack-light-requires c κs = search needs
 
 same-length : tie.Need-same-length
 same-length c = search needs
@@ -91,19 +33,42 @@ same-length c = search needs
 same-length-2 : tie.Need-same-length-2
 same-length-2 c = search needs
 
+same-length-3 : tie.Need-same-length-3
+same-length-3 c = search needs
+
+returns : tie.Need-returns
+returns c =
+    let taken = light c .before .before .before .before in
+    let (way-is, kind-is) = taken .before .goes-light .ensures .0 (taken .if1 .taken) in
+    rw (way-is, kind-is) (light c .pack-light .ensures)
+
+pack-full-requires : tie.Need-pack-full-requires
+pack-full-requires c κs = search needs
+
+same-length-4 : tie.Need-same-length-4
+same-length-4 c = search needs
+
+same-length-5 : tie.Need-same-length-5
+same-length-5 c = search needs
+
 returns-2 : tie.Need-returns-2
-returns-2 c = search needs
+unfolding SolvedInCellsBy jobOf
+returns-2 c =
+    let left = full c .before .before .before in
+    let s = entry (left .before) in
+    from-full (s .args .way) _ _ _ _ (left .before .goes-light .ensures .1 (left .if1 .left)) (full c .pack-full .ensures (s .args .words .now))
 
 pub pack-spec : {M : Type 1} → statement M
 pack-spec =
     tie.close
     (tie.spec
-    list-length-requires
-    knapsack-rules-requires
-    knapsack-room-requires
-    refusal-requires
-    returns
-    solve-requires
+    goes-light-requires
+    pack-light-requires
     same-length
     same-length-2
+    same-length-3
+    returns
+    pack-full-requires
+    same-length-4
+    same-length-5
     returns-2)

@@ -7,7 +7,7 @@ use mathlib.Core.Bool.{false}
 use mathlib.Core.List.{List, [], _∷_}
 use lib.ListN.{length}
 use Rattle.meaning.specs.Job.{Job, allKinds, jobOf, kindOf, labels, subset-sums}
-use Rattle.meaning.specs.Lent.{Lent, lentOf, roomFor, roomOf}
+use Rattle.meaning.specs.Lent.{Lent, lentOf, roomBy, roomOf}
 use Rattle.meaning.specs.Refusals.{claimsFit, rulesOf, weightRules}
 use Rattle.meaning.specs.Solved.{Unrefused}
 use Rattle.meaning.specs.SolvedIn.{SolvedInWords}
@@ -41,7 +41,7 @@ chosen c = c .before .before
 
 lowest : (c : tie.After-refusal) (cells picks : List ℕ)
     → let s = entry (chosen c) in Lowest subset-sums (job s) (lent s cells picks) (c .refusal .result)
-unfolding jobOf labels lentOf roomFor roomOf kindOf allKinds
+unfolding jobOf labels lentOf roomBy roomOf kindOf allKinds
 lowest c cells picks =
     let s = entry (chosen c) in
     asked subset-sums (job s) (lent s cells picks) _ false (c .before .sums-room .result) 0 _ 0 (c .refusal .result)

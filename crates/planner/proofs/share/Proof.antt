@@ -7,7 +7,7 @@ use mathlib.Core.List.{List, [], _∷_}
 use lib.ListN.{length}
 use borrow.Author.Tests.{not-true, not-false}
 use Rattle.meaning.specs.Job.{Job, allKinds, jobOf, kindOf, labels, sharing}
-use Rattle.meaning.specs.Lent.{Lent, lentOf, roomFor, roomOf}
+use Rattle.meaning.specs.Lent.{Lent, lentOf, roomBy, roomOf}
 use Rattle.meaning.specs.Refusals.{claimsFit, rulesOf, weightRules}
 use Rattle.meaning.specs.Solved.{Unrefused}
 use Rattle.meaning.specs.SolvedIn.{SolvedInPicks}
@@ -42,7 +42,7 @@ counted c = c .before .before .before
 
 lowest : (c : tie.After-refusal) (cells words : List ℕ)
     → let s = entry (counted c) in Lowest sharing (job s) (lent s cells words) (c .refusal .result)
-unfolding jobOf labels lentOf roomFor roomOf kindOf allKinds
+unfolding jobOf labels lentOf roomBy roomOf kindOf allKinds
 lowest c cells words =
     let s = entry (counted c) in
     let room = c .before .shares-room in

@@ -6,10 +6,10 @@ use mathlib.Core.Bool.{false}
 use mathlib.Core.List.{List, [], _∷_}
 use lib.ListN.{length}
 use Rattle.meaning.specs.Job.{Job, allKinds, jobOf, kindOf, labels, labels-behind}
-use Rattle.meaning.specs.Lent.{Lent, lentOf, roomFor, roomOf}
+use Rattle.meaning.specs.Lent.{Lent, lentOf, roomBy, roomOf}
 use Rattle.meaning.specs.Refusals.{claimsFit, rulesOf, weightRules}
 use Rattle.meaning.specs.Solved.{Unrefused}
-use Rattle.meaning.specs.SolvedIn.{SolvedInCells}
+use Rattle.meaning.specs.SolvedIn.{SolvedInCellsBy}
 use Rattle.numbers.specs.TwoSlices.{jobFrom, weightsFrom}
 use Rattle.rules.specs.Places.{NeededBy}
 use Rattle.planner.proofs.Preamble.{Lowest, asked, let-in, turned-away, unneeded, weights-alone}
@@ -40,7 +40,7 @@ abbrev counted : tie.After-refusal → tie.After-list-length
 counted c = c .before .before .before
 
 lowest : (c : tie.After-refusal) (words : List ℕ) → let s = entry (counted c) in Lowest labels-behind (job s) (lent s words) (c .refusal .result)
-unfolding jobOf labels lentOf roomFor roomOf kindOf allKinds
+unfolding jobOf labels lentOf roomBy roomOf kindOf allKinds
 lowest c words =
     let s = entry (counted c) in
     let room = c .before .row-room in
@@ -69,7 +69,7 @@ refusal-requires : tie.Need-refusal-requires
 refusal-requires c κs = search needs
 
 returns : tie.Need-returns
-unfolding SolvedInCells
+unfolding SolvedInCellsBy
 returns c words = turned-away (lowest (c .before) words) (c .if1 .taken)
 
 -- a job that is let in has weights alone

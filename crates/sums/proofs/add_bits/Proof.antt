@@ -6,7 +6,7 @@ use native.Mathlib.Omega.{arith}
 use mathlib.Core.List.{List}
 use lib.ListN.{length, length-set}
 use borrow.Author.Needs.{needs}
-use Rattle.sums.proofs.Bits.{or-assoc}
+use Rattle.rows.proofs.Bits.{or-assoc}
 use Rattle.sums.proofs.Words.{AddingBits, adding-none, adding-more, adding-all}
 use Rattle.sums.proofs.add_bits.Statement.{statement}
 use Rattle.sums.proofs.add_bits.Tie as tie

@@ -1,11 +1,11 @@
--- `planner::solve_told` meets its contract: what the bytes are read as is decided, part by part.
+-- `planner::tell` meets its contract: what the bytes are read as is decided, part by part.
 -- Assumes nothing.
 use Rattle.requests.specs.Reading.{PartsOf}
 use Rattle.requests.proofs.Reading.{lists-cut, read-in, unread}
 use Rattle.planner.proofs.Telling.{told-read, told-unread}
 use borrow.Author.Needs.{needs}
-use Rattle.planner.proofs.solve_told.Statement.{statement}
-use Rattle.planner.proofs.solve_told.Tie as tie
+use Rattle.planner.proofs.tell.Statement.{statement}
+use Rattle.planner.proofs.tell.Tie as tie
 
 -- ---- the contexts, back from the end
 
@@ -85,8 +85,8 @@ returns-2 c =
     let cut = lists-cut _ (parts (taken p)) (p .before .before .bytes-at .ensures) (p .before .bytes-at2 .ensures) (p .bytes-at3 .ensures) in
     told-read _ _ _ _ _ _ _ _ _ _ cut (n .list-length .ensures) (decided c .decide .ensures)
 
-pub solve-told-spec : {M : Type 1} → statement M
-solve-told-spec =
+pub tell-spec : {M : Type 1} → statement M
+tell-spec =
     tie.close
     (tie.spec
     read-job-requires

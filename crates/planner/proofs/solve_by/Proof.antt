@@ -1,13 +1,13 @@
--- `planner::solve` meets its contract: a job of lists is handed over with no bytes.
+-- `planner::solve_by` meets its contract: a job of lists is handed over with no bytes.
 -- Assumes nothing.
 use mathlib.Core.Path.{subst}
 use Rattle.meaning.specs.Job.{Job}
 use Rattle.meaning.specs.Lent.{Lent, lentOf}
-use Rattle.meaning.specs.Solved.{Solved}
+use Rattle.meaning.specs.Solved.{SolvedBy}
 use Rattle.numbers.proofs.TwoSlices.{job-of-lists}
 use borrow.Author.Needs.{needs}
-use Rattle.planner.proofs.solve.Statement.{statement}
-use Rattle.planner.proofs.solve.Tie as tie
+use Rattle.planner.proofs.solve_by.Statement.{statement}
+use Rattle.planner.proofs.solve_by.Tie as tie
 
 -- the function's entry, from where the kind decided
 abbrev entry : tie.After-decide → tie.Start
@@ -20,7 +20,7 @@ decided c = c .before .before .before .before .before .before
 -- what the slices hold then
 abbrev left : tie.After-decide → Lent
 left c =
-    let slices = c .decide .last .1 .1 .1 .1 .1 .1 .1 .1 in
+    let slices = c .decide .last .1 .1 .1 .1 .1 .1 .1 .1 .1 in
     lentOf (slices .0) (slices .1 .0) (slices .1 .1 .0)
 
 slice-aggregate-decide : tie.Need-slice-aggregate-decide
@@ -48,11 +48,11 @@ returns : tie.Need-returns
 returns c =
     let d = decided c in
     let a = entry d .args in
-    subst (λ (j : Job). Solved j (lentOf (a .cells .now) (a .words .now) (a .picks .now)) (d .decide .result) (left d))
+    subst (λ (j : Job). SolvedBy (a .way) j (lentOf (a .cells .now) (a .words .now) (a .picks .now)) (d .decide .result) (left d))
     (job-of-lists (a .kind) (a .budget) (a .weights .now) (a .values .now) (a .copies .now)) (d .decide .ensures)
 
-pub solve-spec : {M : Type 1} → statement M
-solve-spec =
+pub solve-by-spec : {M : Type 1} → statement M
+solve-by-spec =
     tie.close
     (tie.spec
     slice-aggregate-decide
