@@ -23,7 +23,8 @@ use Rattle.rows.proofs.Counts.{greatest-capped, greatest-best}
 use Rattle.rows.proofs.Rounds.{each-round, Rounds}
 use Rattle.rows.specs.Traces.{Trace, start}
 use Rattle.rows.proofs.Traces.{trace-few, trace-spent, trace-chosen}
-use Rattle.knapsack.specs.Tables.{Bounded, Climbed}
+use Rattle.rows.specs.Bounded.{Bounded}
+use Rattle.knapsack.specs.Tables.{Climbed}
 use Rattle.knapsack.specs.Traces.{leadsAlong, TraceAlong}
 
 -- ---- the row as it is filled

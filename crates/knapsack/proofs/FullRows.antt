@@ -3,7 +3,6 @@
 use mathlib.Core.Path.{_≡_, sym, _∙_}
 use Prim.Native.Nat.{ℕ, zero, suc, _+_, _*_, _≤_, _<_}
 use native.Mathlib.Nat.{suc-mul, mul-le-mul-right, zero-mul}
-use native.Mathlib.Numerals.{add-one}
 use native.Mathlib.Omega.{arith}
 use mathlib.Core.List.{List, _++_}
 use lib.ListN.{length}
@@ -15,15 +14,12 @@ use Rattle.meaning.specs.Knapsacks.{MayPick, BestValue, BestPicks, orderOf}
 use Rattle.rows.specs.Rows.{SomeCount, GreatestRow, Stored, NextRow, Capped}
 use Rattle.rows.proofs.Stores.{by}
 use Rattle.rows.proofs.Counts.{greatest-same, greatest-may, greatest-capped}
-use Rattle.knapsack.specs.Tables.{Bounded, rowOf, Filled}
-use Rattle.knapsack.specs.Traces.{TraceBack}
-use Rattle.knapsack.proofs.AnyRows.{rows-best, count-back, picks-back, weight-back}
+use Rattle.rows.specs.Bounded.{Bounded}
+use Rattle.knapsack.specs.Tables.{rowOf, Filled}
+use Rattle.rows.specs.Traces.{TraceBack}
+use Rattle.rows.proofs.AnyRows.{one-row-more, rows-best, count-back, picks-back, weight-back}
 
 -- ---- the table as it is filled
-
--- one row more is one width more
-pub one-row-more : (i width : ℕ) → (i + 1) * width ≡ i * width + width
-one-row-more i width = rw (add-one, suc-mul i width)
 
 -- the rows of labels up to i + 1 are within those of n labels
 pub rows-within : (i n width : ℕ) → i < n → i * width + width + width ≤ (n + 1) * width

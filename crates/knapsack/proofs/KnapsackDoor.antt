@@ -16,14 +16,15 @@ use Rattle.meaning.specs.Orders.{last-least}
 use Rattle.meaning.specs.Knapsacks.{MayPick, BestValue, BestPicks, orderOf, ValueTable, FullTable, OneRow, cellNumber}
 use Rattle.meaning.specs.Solved.{Gives, UnrefusedBy}
 use Rattle.meaning.specs.SolvedIn.{SolvedInCellsBy}
-use Rattle.meaning.proofs.Valid.{Valid, is-cleared, is-valid, weight-rule, value-rule}
+use Rattle.meaning.proofs.Valid.{Valid, is-cleared, is-valid}
 use Rattle.meaning.proofs.EachKind.{full-claims}
 use Rattle.meaning.proofs.Laws.{numberOf, kind-number}
 use Rattle.meaning.proofs.SolvedIn.{kept, holds-front, solved-in-cells}
 use Rattle.meaning.proofs.Totals.{total-none, empty-of}
 use Rattle.meaning.proofs.Trace.{picks-none, picks-worth}
-use Rattle.knapsack.specs.Tables.{Bounded, limitOf, rowOf, Filled, Climbed}
-use Rattle.knapsack.specs.Traces.{TraceBack, TraceAlong}
+use Rattle.knapsack.specs.Tables.{limitOf, rowOf, Filled, Climbed}
+use Rattle.rows.specs.Traces.{TraceBack}
+use Rattle.knapsack.specs.Traces.{TraceAlong}
 use Rattle.knapsack.specs.KnapsackDoor.{LetIn}
 use Rattle.knapsack.proofs.FullRows.{row-best, back-picks, back-weight}
 use Rattle.knapsack.proofs.FreeRow.{climbed-best, along-picks, along-weight}
@@ -52,16 +53,6 @@ ready k j cells picks a =
     let c = is-cleared (roomBy Full (packing k) j) (packing k) j lent (a .no-refusal) in
     let keeps = kept (packing k) j lent a in
     record { valid = is-valid k j _ (c .keeps); cells-room = keeps .cells-room; picks-room = rw (picks-needed k j) at (keeps .picks-room) }
-
-pub bounded : (k : Knapsack) (j : Job) → Valid k j → Bounded (j .budget + 1) (j .weights) (j .values)
-unfolding labels
-bounded k j ok = record {
-  wide = omega arith;
-  narrow = omega (arith, ok .small);
-  valued = ok .valued;
-  heavy = weight-rule k j ok;
-  cheap = value-rule k j ok;
-}
 
 -- ---- kinds 1 and 2
 

@@ -4,19 +4,9 @@ use mathlib.Core.Path.{_≡_}
 use Prim.Native.Nat.{ℕ, suc, _+_, _*_, _≤_, _<_}
 use mathlib.Core.List.{List}
 use lib.Dec.{eqb}
-use lib.ListN.{length}
 use Rattle.meaning.specs.Lists.{at, if}
-use Rattle.meaning.specs.Bounds.{mostBudget, mostValue}
 use Rattle.rows.specs.Rows.{GreatestRow, AnyCount}
 use Rattle.rows.specs.Rounds.{LabelByLabel}
-
--- what the lists and the width of a row keep in kinds 1 to 3
-pub record Bounded (width : ℕ) (weights values : List ℕ) : Type 0 where
-  pub wide : 0 < width
-  pub narrow : width ≤ mostBudget + 1
-  pub valued : length values ≡ length weights
-  pub heavy : (i : ℕ) → i < length weights → 1 ≤ at weights i
-  pub cheap : (i : ℕ) → i < length weights → at values i ≤ mostValue
 
 -- how often label i may be picked: once in kind 1, copies[i] times in kind 2
 unfoldable pub limitOf : ℕ → List ℕ → ℕ → ℕ

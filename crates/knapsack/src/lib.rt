@@ -13,8 +13,10 @@ ghost use Rattle.meaning.specs.Solved.{UnrefusedBy};
 ghost use Rattle.meaning.specs.SolvedIn.{SolvedInCellsBy};
 ghost use Rattle.numbers.specs.TwoSlices.{listFrom, jobFrom};
 ghost use Rattle.rows.specs.Rows.{SomeCount, Capped};
-ghost use Rattle.knapsack.specs.Tables.{Bounded, limitOf, rowOf, Filled, Climbed};
-ghost use Rattle.knapsack.specs.Traces.{TraceBack, TraceAlong};
+ghost use Rattle.rows.specs.Bounded.{Bounded};
+ghost use Rattle.knapsack.specs.Tables.{limitOf, rowOf, Filled, Climbed};
+ghost use Rattle.rows.specs.Traces.{TraceBack};
+ghost use Rattle.knapsack.specs.Traces.{TraceAlong};
 ghost use Rattle.knapsack.specs.KnapsackDoor.{LetIn};
 
 // ---- kinds 1 and 2: a row for each label

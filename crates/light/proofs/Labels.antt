@@ -15,8 +15,8 @@ use Rattle.rows.proofs.Stores.{by, stored-each}
 use Rattle.rows.proofs.Counts.{raised-capped}
 use Rattle.rows.proofs.Parts.{partOf, part-long, put-at, put-before}
 use Rattle.rows.proofs.Bits.{bit-in, bit-same}
-use Rattle.knapsack.specs.Tables.{Bounded}
-use Rattle.knapsack.proofs.FullRows.{one-row-more}
+use Rattle.rows.specs.Bounded.{Bounded}
+use Rattle.rows.proofs.AnyRows.{one-row-more}
 use Rattle.light.specs.Bits.{RisenAll}
 use Rattle.light.specs.Labels.{rowAfter, Lit}
 

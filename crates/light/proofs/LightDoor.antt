@@ -1,6 +1,6 @@
 -- From a job that is let in to what the functions ask, and from what they leave to what `meaning` promises.
 -- Assumes nothing.
-use mathlib.Core.Path.{_≡_, refl, sym, _∙_}
+use mathlib.Core.Path.{_≡_, sym, _∙_}
 use Prim.Native.Nat.{ℕ, _+_, _-_, _*_, _/_, _≤_, _<_}
 use native.Mathlib.Nat.{mul-le-mul}
 use native.Mathlib.Omega.{arith}
@@ -19,8 +19,8 @@ use Rattle.meaning.proofs.Valid.{is-cleared, is-valid}
 use Rattle.meaning.proofs.Laws.{answered-solved}
 use Rattle.meaning.proofs.SolvedIn.{kept, holds-front}
 use Rattle.meaning.proofs.Trace.{picks-worth}
-use Rattle.knapsack.specs.Tables.{Bounded}
-use Rattle.knapsack.proofs.KnapsackDoor.{bounded}
+use Rattle.rows.specs.Bounded.{Bounded}
+use Rattle.rows.proofs.Bounded.{bounded}
 use Rattle.light.specs.Packed.{PackedLight}
 
 -- what a job keeps that is let in: its bounds, and room in all three slices

@@ -19,8 +19,8 @@ use Rattle.meaning.proofs.Trace.{picks-none}
 use Rattle.rows.specs.Rows.{Worth, GreatestRow, Raised, Least}
 use Rattle.rows.proofs.Stores.{by, stored-first}
 use Rattle.rows.proofs.Counts.{greatest-none, greatest-part}
-use Rattle.knapsack.specs.Traces.{TraceBack, begin, back}
-use Rattle.knapsack.proofs.AnyRows.{rows-best, picks-back, weight-back, trace-within}
+use Rattle.rows.specs.Traces.{TraceBack, begin, back}
+use Rattle.rows.proofs.AnyRows.{rows-best, picks-back, weight-back, trace-within}
 use Rattle.light.specs.Packed.{PackedLight}
 use Rattle.light.specs.Labels.{rowAfter, Lit, TraceBits, begun, read-off}
 use Rattle.light.proofs.Labels.{row-raised}

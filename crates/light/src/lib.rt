@@ -12,7 +12,7 @@ ghost use Rattle.meaning.specs.Bounds.{mostBudget};
 ghost use Rattle.meaning.specs.Sums.{bit};
 ghost use Rattle.meaning.specs.Solved.{Solved, Unrefused};
 ghost use Rattle.numbers.specs.TwoSlices.{listFrom};
-ghost use Rattle.knapsack.specs.Tables.{Bounded};
+ghost use Rattle.rows.specs.Bounded.{Bounded};
 ghost use Rattle.light.specs.Bits.{rose, Few, binary, spaced, exchanged, turned, Risen, RisenHigh, Lowered, RisenAll};
 ghost use Rattle.light.specs.Labels.{Lit, TraceBits};
 ghost use Rattle.light.specs.Packed.{PackedLight};

@@ -21,7 +21,7 @@ use Rattle.meaning.specs.Slices.{Holds}
 use Rattle.meaning.specs.Cells.{LeastShown}
 use Rattle.meaning.specs.Job.{Job, Kind, Knapsack, allKinds, block-ways, fewest-blocks, free}
 use Rattle.meaning.specs.Job.{kindOf, labels, labels-behind, limited, once, packing, sharing, subset-sums}
-use Rattle.meaning.specs.Lent.{Lent, Room, bitWords, cellCount, onceRoom, roomBy, roomOf}
+use Rattle.meaning.specs.Lent.{Lent, Room, cellCount, onceRoom, roomBy, roomOf}
 use Rattle.meaning.specs.Knapsacks.{FullTable, ValueTable}
 use Rattle.meaning.specs.Sums.{Weighs}
 use Rattle.meaning.specs.Behind.{FirstRow}

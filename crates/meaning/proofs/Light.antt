@@ -1,16 +1,12 @@
 -- The light table beside the full one: a bit is set exactly where the full table's cell is above that of the row before it.
 -- Assumes nothing.
-use Prim.Native.Nat.{_*_, _+_, _^_, _<_, _≤_, suc, ℕ}
-use native.Mathlib.Decide.{decLt, decLe}
+use Prim.Native.Nat.{_<_, _≤_, suc, ℕ}
 use native.Mathlib.Omega.{arith}
 use mathlib.Core.Path.{_≡_}
-use mathlib.Core.List.{List}
-use Rattle.meaning.specs.Lists.{at}
-use Rattle.meaning.specs.Job.{Job, labels, once}
-use Rattle.meaning.specs.Lent.{bitWords}
-use Rattle.meaning.specs.Knapsacks.{BestValue, FullTable, OneRow, cellNumber}
+use Rattle.meaning.specs.Job.{Job, once}
+use Rattle.meaning.specs.Knapsacks.{BestValue}
 use Rattle.meaning.specs.Sums.{Tells, is-not, is-so}
-use Rattle.meaning.specs.Light.{LightTable, Raises, labelBit}
+use Rattle.meaning.specs.Light.{Raises}
 use Rattle.meaning.proofs.OneOfEach.{best-value-unique}
 
 -- between two best values a label raises the first exactly where the second is above it

@@ -15,7 +15,7 @@ use Rattle.meaning.specs.Lists.{if}
 use Rattle.meaning.specs.Slices.{Holds}
 use Rattle.meaning.specs.Job.{Job, Kind, jobOf, kindOf, subset-sums}
 use Rattle.meaning.specs.Lent.{Lent, Room, roomBy}
-use Rattle.meaning.specs.Refusals.{boundsFit, claimsFit, jobRefusal, kindRefusal, listsFit, numbersFit, roomFits, rulesOf}
+use Rattle.meaning.specs.Refusals.{boundsFit, jobRefusal, kindRefusal, listsFit, numbersFit, roomFits, rulesOf}
 use Rattle.meaning.specs.Bytes.{JobRead, readJob, readable, unreadable}
 use Rattle.meaning.specs.Answers.{answerNumbers}
 use Rattle.meaning.specs.Solved.{Outcome, SolvedAs, SolvedBy, SolvedBytesBy, SolvedLists, SolvedRead, TableBy, TurnedDown}

@@ -14,5 +14,8 @@ pub mod LeadsOn
 -- a slice made label by label, and the trace through the labels
 pub mod Rounds
 pub mod Traces
+-- rows of values, each made of the one before it by a label: they hold the best values, and the trace back through them finds the picks
+pub mod AnyRows
+pub mod Bounded
 -- no second choice is left by any function of this crate
 pub mod Unique

@@ -2,3 +2,4 @@
 pub mod Rows
 pub mod Rounds
 pub mod Traces
+pub mod Bounded

@@ -9,7 +9,8 @@ use lib.ListN.{length}
 use borrow.Author.Needs.{needs}
 use Rattle.numbers.specs.TwoSlices.{listFrom}
 use Rattle.knapsack.specs.Tables.{limitOf, Filled}
-use Rattle.knapsack.proofs.FullRows.{one-row-more, rows-within, filled-none, filled-more, filled-capped}
+use Rattle.rows.proofs.AnyRows.{one-row-more}
+use Rattle.knapsack.proofs.FullRows.{rows-within, filled-none, filled-more, filled-capped}
 use Rattle.knapsack.proofs.fill.Statement.{statement}
 use Rattle.knapsack.proofs.fill.Tie as tie
 

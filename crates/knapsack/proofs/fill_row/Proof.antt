@@ -9,7 +9,7 @@ use borrow.Author.Needs.{needs}
 use Rattle.numbers.specs.TwoSlices.{listFrom}
 use Rattle.rows.proofs.Rounds.{rounds-none, rounds-more, rounds-all}
 use Rattle.rows.proofs.Stores.{stored-each}
-use Rattle.knapsack.specs.Tables.{Bounded}
+use Rattle.rows.specs.Bounded.{Bounded}
 use Rattle.knapsack.proofs.FreeRow.{Climbing, climbing-capped}
 use Rattle.knapsack.proofs.fill_row.Statement.{statement}
 use Rattle.knapsack.proofs.fill_row.Tie as tie

@@ -16,11 +16,13 @@ use Rattle.meaning.proofs.Laws.{numberOf, kind-number}
 use Rattle.numbers.specs.TwoSlices.{listFrom}
 use Rattle.rows.specs.Rows.{SomeCount}
 use Rattle.rows.proofs.Parts.{front-part, front-room, front-last}
-use Rattle.knapsack.specs.Tables.{Bounded, limitOf, rowOf, Filled}
-use Rattle.knapsack.specs.Traces.{TraceBack}
-use Rattle.knapsack.proofs.FullRows.{one-row-more, some-back}
-use Rattle.knapsack.proofs.AnyRows.{trace-within}
-use Rattle.knapsack.proofs.KnapsackDoor.{Rowed, rowed, Ready, ready, bounded, limit-few, limit-may, full-room, copies-long, packs-full}
+use Rattle.rows.specs.Bounded.{Bounded}
+use Rattle.knapsack.specs.Tables.{limitOf, rowOf, Filled}
+use Rattle.rows.specs.Traces.{TraceBack}
+use Rattle.rows.proofs.AnyRows.{one-row-more, trace-within}
+use Rattle.knapsack.proofs.FullRows.{some-back}
+use Rattle.rows.proofs.Bounded.{bounded}
+use Rattle.knapsack.proofs.KnapsackDoor.{Rowed, rowed, Ready, ready, limit-few, limit-may, full-room, copies-long, packs-full}
 use Rattle.knapsack.proofs.full_table.Statement.{statement}
 use Rattle.knapsack.proofs.full_table.Tie as tie
 

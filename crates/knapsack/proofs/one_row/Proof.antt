@@ -14,10 +14,12 @@ use Rattle.meaning.specs.Lent.{roomBy, roomOf}
 use Rattle.meaning.specs.Bounds.{mostBudget}
 use Rattle.numbers.specs.TwoSlices.{listFrom}
 use Rattle.rows.proofs.Parts.{front-part, front-room, front-last}
-use Rattle.knapsack.specs.Tables.{Bounded, Climbed}
+use Rattle.rows.specs.Bounded.{Bounded}
+use Rattle.knapsack.specs.Tables.{Climbed}
 use Rattle.knapsack.specs.Traces.{TraceAlong}
 use Rattle.knapsack.proofs.FreeRow.{climbed-capped, along-weight}
-use Rattle.knapsack.proofs.KnapsackDoor.{ready, bounded, packs-free}
+use Rattle.rows.proofs.Bounded.{bounded}
+use Rattle.knapsack.proofs.KnapsackDoor.{ready, packs-free}
 use Rattle.knapsack.proofs.one_row.Statement.{statement}
 use Rattle.knapsack.proofs.one_row.Tie as tie
 

@@ -12,9 +12,9 @@ use Rattle.meaning.specs.Lists.{at}
 use Rattle.meaning.specs.Bounds.{mostBudget}
 use Rattle.numbers.specs.TwoSlices.{listFrom}
 use Rattle.knapsack.specs.Tables.{rowOf}
-use Rattle.knapsack.specs.Traces.{TraceBack, begin}
+use Rattle.rows.specs.Traces.{TraceBack, begin}
 use Rattle.knapsack.proofs.FullRows.{rows-within}
-use Rattle.knapsack.proofs.AnyRows.{trace-more}
+use Rattle.rows.proofs.AnyRows.{trace-more}
 use Rattle.knapsack.proofs.trace_back.Statement.{statement}
 use Rattle.knapsack.proofs.trace_back.Tie as tie
 

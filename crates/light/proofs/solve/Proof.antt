@@ -11,7 +11,7 @@ use Rattle.meaning.specs.Job.{Job, jobOf, labels}
 use Rattle.meaning.specs.Bounds.{mostBudget}
 use Rattle.numbers.specs.TwoSlices.{listFrom}
 use Rattle.rows.proofs.Parts.{front-room}
-use Rattle.knapsack.specs.Tables.{Bounded}
+use Rattle.rows.specs.Bounded.{Bounded}
 use Rattle.light.specs.Packed.{PackedLight}
 use Rattle.light.proofs.LightDoor.{few-words, ready, packs-light, within}
 use Rattle.light.proofs.solve.Statement.{statement}

@@ -1,11 +1,8 @@
 -- `planner::pack` meets its contract: kind 1 goes its way, and kinds 2 and 3 have one.
 -- Assumes nothing.
-use mathlib.Core.Path.{_≡_}
-use mathlib.Core.List.{[], _∷_}
-use Rattle.meaning.specs.Job.{Job, jobOf}
+use Rattle.meaning.specs.Job.{jobOf}
 use Rattle.meaning.specs.SolvedIn.{SolvedInCellsBy}
 use Rattle.meaning.proofs.Ways.{from-full}
-use Rattle.numbers.specs.TwoSlices.{jobFrom}
 use borrow.Author.Needs.{needs}
 use Rattle.planner.proofs.pack.Statement.{statement}
 use Rattle.planner.proofs.pack.Tie as tie

@@ -1,6 +1,6 @@
 -- `planner::pack_full` meets its contract: kinds 1 to 3, kind 1 the full way, are turned away by 3 to 6, or let in to `knapsack`.
 -- Assumes nothing.
-use mathlib.Core.Path.{_≡_, refl, sym, subst}
+use mathlib.Core.Path.{refl, subst}
 use Prim.Native.Nat.{ℕ, min}
 use mathlib.Core.Bool.{false}
 use mathlib.Core.List.{List, [], _∷_}

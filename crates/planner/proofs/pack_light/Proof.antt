@@ -3,7 +3,7 @@
 use mathlib.Core.Path.{_≡_, refl, subst}
 use Prim.Native.Nat.{ℕ, min}
 use mathlib.Core.Bool.{false}
-use mathlib.Core.List.{List, [], _∷_}
+use mathlib.Core.List.{[], _∷_}
 use Rattle.meaning.specs.declared.Way.the-variants.{Light}
 use Rattle.meaning.specs.Job.{Job, packing, once, jobOf, kindOf, allKinds, labels}
 use Rattle.meaning.specs.Lent.{Lent, lentOf}

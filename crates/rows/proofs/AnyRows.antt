@@ -3,6 +3,8 @@
 -- Assumes nothing.
 use mathlib.Core.Path.{_≡_, refl, _∙_, subst}
 use Prim.Native.Nat.{ℕ, zero, suc, _+_, _-_, _*_, _≤_, _<_}
+use native.Mathlib.Nat.{suc-mul}
+use native.Mathlib.Numerals.{add-one}
 use native.Mathlib.Omega.{arith}
 use mathlib.Core.List.{List, [], _∷_, _++_, append-nil}
 use lib.ListN.{length, drop, set, length-append}
@@ -15,10 +17,14 @@ use Rattle.meaning.proofs.Totals.{total-with}
 use Rattle.meaning.proofs.OneOfEach.{best-value-unique}
 use Rattle.meaning.proofs.Steps.{best-none}
 use Rattle.meaning.proofs.Trace.{trace-step, picks-worth}
 use Rattle.rows.specs.Rows.{Worth, SomeCount, GreatestRow, Least}
 use Rattle.rows.proofs.Stores.{by, stored-first}
 use Rattle.rows.proofs.Counts.{greatest-best}
-use Rattle.knapsack.specs.Traces.{TraceBack, begin, back}
+use Rattle.rows.specs.Traces.{TraceBack, begin, back}
+
+-- one row more is one width more
+pub one-row-more : (i width : ℕ) → (i + 1) * width ≡ i * width + width
+one-row-more i width = rw (add-one, suc-mul i width)
 
 -- ---- the trace back as it goes
 
