@@ -235,11 +235,17 @@ turned-lt x h =
 
 -- ---- a word by its columns
 
-pub bytes-spaced : (f : ℕ → ℕ) (p a₀ a₁ a₂ a₃ a₄ a₅ a₆ a₇ : ℕ) → a₀ ≡ f p → a₁ ≡ f (p + 1) → a₂ ≡ f (p + 2) → a₃ ≡ f (p + 3)
-    → a₄ ≡ f (p + 4) → a₅ ≡ f (p + 5) → a₆ ≡ f (p + 6) → a₇ ≡ f (p + 7)
-    → a₀ + a₁ * 256 + a₂ * 65536 + a₃ * 16777216 + (a₄ + a₅ * 256 + a₆ * 65536 + a₇ * 16777216) * 4294967296 ≡ spaced (λ i. f (p + i)) 8
+-- four bytes, and twice four
+pub four-spaced : (f : ℕ → ℕ) (p a b c d : ℕ) → a ≡ f p → b ≡ f (p + 1) → c ≡ f (p + 2) → d ≡ f (p + 3)
+    → a + b * 256 + c * 65536 + d * 16777216 ≡ spaced (λ i. f (p + i)) 4
 unfolding spaced
-bytes-spaced f p a₀ a₁ a₂ a₃ a₄ a₅ a₆ a₇ e₀ e₁ e₂ e₃ e₄ e₅ e₆ e₇ = let first : f (p + 0) ≡ f p = ap f (omega arith) in omega (arith, first)
+four-spaced f p a b c d e₀ e₁ e₂ e₃ = let first : f (p + 0) ≡ f p = ap f (omega arith) in omega (arith, first)
+
+pub eight-spaced : (f : ℕ → ℕ) (p x y : ℕ) → x ≡ spaced (λ i. f (p + i)) 4 → y ≡ spaced (λ i. f (p + 4 + i)) 4 → x + y * 4294967296 ≡ spaced (λ i. f (p + i)) 8
+unfolding spaced
+eight-spaced f p x y low high =
+    let here : (i : ℕ) → f (p + 4 + i) ≡ f (p + (4 + i)) = λ i. ap f (omega arith) in
+    omega (arith, low, high, here 0, here 1, here 2, here 3)
 
 -- eight rows of bytes, each a bit above the one before it, are the bits by columns
 pub columns : (f : ℕ → ℕ)

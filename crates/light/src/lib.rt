@@ -40,20 +40,20 @@ fn wide(x: u8) -> u64
     x as u64
 }
 
+// The four bytes at p as one number, lowest first.
+fn four(b: &[u8; 64], p: usize) -> u64
+    requires { ⌜ Few (now b) 64 × (p + 4 ≤ 64) ⌝ }
+    ensures { λ r. ⌜ (r ≡ spaced (λ i. at (now (b .entry)) (p + i)) 4) × (r ≤ 16_843_009) ⌝ }
+{
+    wide(b[p]) + wide(b[p + 1]) * 256 + wide(b[p + 2]) * 65_536 + wide(b[p + 3]) * 16_777_216
+}
+
 // The eight bytes at p as one number, lowest first: one load.
 fn eight(b: &[u8; 64], p: usize) -> u64
     requires { ⌜ Few (now b) 64 × (p + 8 ≤ 64) ⌝ }
     ensures { λ r. ⌜ (r ≡ spaced (λ i. at (now (b .entry)) (p + i)) 8) × (r ≤ 72_340_172_838_076_673) ⌝ }
 {
-    let low = wide(b[p])
-        + wide(b[p + 1]) * 256
-        + wide(b[p + 2]) * 65_536
-        + wide(b[p + 3]) * 16_777_216;
-    let high = wide(b[p + 4])
-        + wide(b[p + 5]) * 256
-        + wide(b[p + 6]) * 65_536
-        + wide(b[p + 7]) * 16_777_216;
-    low + high * 4_294_967_296
+    four(b, p) + four(b, p + 4) * 4_294_967_296
 }
 
 // The bits of a mask, each exchanged for the one s places above it.
