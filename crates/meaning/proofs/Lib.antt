@@ -21,6 +21,12 @@ pub mod Making
 pub mod Tally
 pub mod Ranks
 pub mod SharesSum
+-- the quick answer: its order, its two lists, and that the worthier is worth half of the best
+pub mod EachLabel
+pub mod QuickOrder
+pub mod QuickLists
+pub mod QuickFits
+pub mod QuickHalf
 -- no second choice is left
 pub mod CellNumbers
 pub mod OneOfEach
@@ -28,6 +34,7 @@ pub mod Light
 pub mod EachKind
 pub mod Unique
 pub mod Laws
+pub mod QuickPromise
 -- bytes
 pub mod Numbers
 pub mod Sections
@@ -48,6 +55,7 @@ pub mod Ways
 -- trials, and wrong versions
 pub mod Small
 pub mod SmallTables
+pub mod SmallQuick
 pub mod Opens
 pub mod Sixteen
 pub mod Cases

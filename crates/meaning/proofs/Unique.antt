@@ -96,7 +96,7 @@ no-influence k j before before′ t t′ s s′ one-table a b =
     let (cells, words) = one-table (a .content) (b .content) (a .table-right) (b .table-right) (sized a) (sized b) in
     (said, λ i. record { cells = cells i; words = words i; picks = same i })
 
-holds-unique : (new new′ before after after′ : List ℕ) → new ≡ new′ → Holds new before after → Holds new′ before after′ → after ≡ after′
+pub holds-unique : (new new′ before after after′ : List ℕ) → new ≡ new′ → Holds new before after → Holds new′ before after′ → after ≡ after′
 unfolding Holds
 holds-unique new new′ before after after′ e h h′ = h ∙ ap (λ (l : List ℕ). l ++ drop (length l) before) e ∙ sym h′
 

@@ -10,6 +10,8 @@ use Rattle.meaning.specs.declared.Verdict.{Verdict}
 use Rattle.meaning.specs.declared.Verdict.the-variants as Judges
 use Rattle.meaning.specs.declared.Written.{Written}
 use Rattle.meaning.specs.declared.Written.the-variants as Reports
+use Rattle.meaning.specs.declared.Quick.{Quick}
+use Rattle.meaning.specs.declared.Quick.the-variants as Hands
 use Rattle.meaning.specs.Lists.{if}
 
 -- ---- the planner's answer
@@ -67,3 +69,17 @@ pub record WrittenNumbers : Type 0 where
 unfoldable pub writtenNumbers : Written → WrittenNumbers
 writtenNumbers (Reports.Bytes n) = record { done = true; refusal = 0; bytes = n }
 writtenNumbers (Reports.Refused r) = record { done = false; refusal = r; bytes = 0 }
+
+-- ---- the quick answer
+
+-- what it says: 0 or the refusal number, which of the two lists is the worthier, 1 or 2, and what that is worth
+pub record QuickNumbers : Type 0 where
+  pub refusal : ℕ
+  pub which : ℕ
+  pub value : ℕ
+
+-- what each case says
+unfoldable pub quickNumbers : Quick → QuickNumbers
+quickNumbers (Hands.Refused r) = record { refusal = r; which = 0; value = 0 }
+quickNumbers (Hands.First v) = record { refusal = 0; which = 1; value = v }
+quickNumbers (Hands.Second v) = record { refusal = 0; which = 2; value = v }

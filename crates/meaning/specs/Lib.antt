@@ -18,6 +18,7 @@ pub mod Behind
 pub mod Blocks
 pub mod Shares
 pub mod Answers
+pub mod Quick
 pub mod Solved
 pub mod SolvedIn
 pub mod Agreement

@@ -1,4 +1,4 @@
-// What the operations answer, which way kind 1 goes, and what reading a section finds. The document's numbers for each case of the first three
+// What the operations answer, which way kind 1 goes, and what reading a section finds. The document's numbers for each case of the first four
 // are in specs/Answers.antt; the sections are in specs/Bytes.antt.
 
 // What a planner answers: a refusal number, or the numbers of the job's kind.
@@ -22,6 +22,13 @@ pub enum Verdict {
 pub enum Written {
     Bytes(u64),
     Refused(u32),
+}
+
+// What the quick answer for kind 1 says: a refusal number, or which of its two lists is the worthier, and what that is worth.
+pub enum Quick {
+    Refused(u32),
+    First(u64),
+    Second(u64),
 }
 
 // The way that kind 1 goes: the light table, a row of cells and a bit for each label and budget, or the full one. The other kinds have one way.
