@@ -1,12 +1,14 @@
 // The C entries, all of them. A slice is a pointer and a length in elements; include/quabnester.h says each promise in words.
 use meaning::Answer;
+use meaning::Quick;
 use meaning::Verdict;
 use meaning::Written;
 ghost use mathlib.Core.Path.{_≡_};
 ghost use Rattle.meaning.specs.Lent.{lentOf};
 ghost use Rattle.meaning.specs.Answers.{answerNumbers};
 ghost use Rattle.meaning.specs.Certificates.{verdictOf};
-ghost use Rattle.meaning.specs.Host.{refusalNumber, valueOrPlace, firstNumber, secondNumber, SolvedHost, SolvedFullHost, WritesHost};
+ghost use Rattle.meaning.specs.Host.{refusalNumber, valueOrPlace, firstNumber, secondNumber, SolvedHost, SolvedFullHost, WritesHost, QuickHost};
+ghost use Rattle.meaning.specs.Quick.{quickJob};
 
 // ---- the numbers of a verdict and of an answer
 
@@ -149,6 +151,40 @@ pub extern "C" fn quabnester_write(
         Written::Refused(number) => {
             *written = 0;
             number
+        }
+    }
+}
+
+// 0 or the refusal number; which list is the worthier in `which`, 1 or 2, and what it is worth in `value`, both 0 on a refusal.
+#[no_mangle]
+pub extern "C" fn quabnester_quick(
+    budget: u32,
+    weights: &[u32],
+    values: &[u32],
+    first: &mut [u32],
+    second: &mut [u32],
+    which: &mut u32,
+    value: &mut u64,
+) -> u32
+    ensures { λ r. ⌜ QuickHost (quickJob budget (now (weights .entry)) (now (values .entry))) (now (first .entry)) (now (second .entry))
+        r (now (which .exit)) (now (value .exit)) (now (first .exit)) (now (second .exit)) ⌝ }
+{
+    let answer = quick::fill(budget, weights, values, first, second);
+    match answer {
+        Quick::Refused(number) => {
+            *which = 0;
+            *value = 0;
+            number
+        }
+        Quick::First(worth) => {
+            *which = 1;
+            *value = worth;
+            0
+        }
+        Quick::Second(worth) => {
+            *which = 2;
+            *value = worth;
+            0
         }
     }
 }

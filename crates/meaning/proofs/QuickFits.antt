@@ -4,6 +4,7 @@ use mathlib.Core.Path.{_≡_, refl, sym, ap, _∙_}
 use mathlib.Core.Logic.{inl, inr}
 use Prim.Native.Nat.{ℕ, suc, _+_, _*_, _≤_, _<_}
 use native.Mathlib.Decide.{ℕ-discrete}
+use native.Mathlib.Nat.{le-refl}
 use native.Mathlib.Omega.{arith}
 use mathlib.Core.Bool.{Bool, true, false, not}
 use mathlib.Core.List.{List}
@@ -16,7 +17,7 @@ use Rattle.meaning.specs.Knapsacks.{Fits, MayPick}
 use Rattle.meaning.proofs.Totals.{one-more, length-more, more-total, at-more, at-more-other, one-fewer, length-fewer, fewer-total, at-fewer, at-fewer-other}
 use Rattle.meaning.specs.Quick.{goesBefore, keptBefore, stillFits, Greedy, Single, one-label, no-label}
 use Rattle.meaning.proofs.EachLabel.{total-same, total-zeros}
-use Rattle.meaning.proofs.QuickOrder.{First, last-passing, not-self, one-or-other}
+use Rattle.meaning.proofs.QuickOrder.{First, first-of, greedy-ordered, backwards, not-self, one-or-other}
 use Rattle.meaning.proofs.QuickLists.{kept-long, kept-at}
 
 one-or-none : (b : Bool) → if b 1 0 ≤ 1
@@ -99,7 +100,7 @@ module _ (j : Job) where
     pub greedy-fits : Fits once j (labels j) (j .budget) p
     greedy-fits =
         fits-of p (g .one-each) (greedy-ones p g)
-        (elim (last-passing (j .values) (j .weights) (labels j) light (λ i. not (eqb (at p i) 0))) [
+        (elim (first-of (backwards (greedy-ordered (j .values) (j .weights) (labels j) light)) (λ i. not (eqb (at p i) 0)) (labels j) (le-refl (labels j))) [
           | inl none ↦ omega (arith, total-zeros (j .weights) p (labels j) (g .one-each) (λ m h. zero-at m (none m h)))
           | inr d ↦ weight d
         ])

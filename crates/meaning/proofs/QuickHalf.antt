@@ -3,7 +3,7 @@
 use mathlib.Core.Path.{_≡_, refl, sym, ap, _∙_}
 use mathlib.Core.Logic.{_⊎_, inl, inr}
 use Prim.Native.Nat.{ℕ, zero, suc, _+_, _*_, _≤_, _<_}
-use native.Mathlib.Nat.{le-of-mul-le-mul-left, mul-le-mul-left, mul-add, mul-one, mul-zero, zero-mul, mul-comm}
+use native.Mathlib.Nat.{le-refl, le-of-mul-le-mul-left, mul-le-mul-left, mul-add, mul-one, mul-zero, zero-mul, mul-comm}
 use native.Mathlib.Decide.{decLt}
 use native.Mathlib.Omega.{arith}
 use mathlib.Core.Bool.{Bool, true, false, _&&_}
@@ -18,7 +18,7 @@ use Rattle.meaning.proofs.Totals.{total-part}
 use Rattle.meaning.specs.Quick.{goesBefore, keptBefore, stillFits, Greedy, Worthless, Single, one-label, no-label}
 use Rattle.meaning.proofs.EachLabel.{total-le, total-exchange}
 use Rattle.meaning.proofs.QuickLists.{kept-long, kept-at}
-use Rattle.meaning.proofs.QuickOrder.{First, first-passing, before-worth, behind-worth}
+use Rattle.meaning.proofs.QuickOrder.{First, first-of, greedy-ordered, before-worth, behind-worth}
 
 -- ---- one label's part in the exchange: q counts it in the selection, a among the kept labels before the one with value x and weight y
 
@@ -177,7 +177,7 @@ module _ (j : Job) (light : (i : ℕ) → i < labels j → 1 ≤ at (j .weights)
     -- both lists together are worth no less than the selection
     pub both-worth : (s : List ℕ) → Single j s → total (j .values) q ≤ total (j .values) p + total (j .values) s
     both-worth s single =
-        elim (first-passing (j .values) (j .weights) (labels j) light missed) [
+        elim (first-of (greedy-ordered (j .values) (j .weights) (labels j) light) missed (labels j) (le-refl (labels j))) [
           | inl none ↦ omega (arith, all-kept none)
           | inr d ↦ omega (arith, with-missed d, single-worth s single (d .label) (d .inside) (known d .0))
         ]

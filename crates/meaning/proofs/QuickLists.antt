@@ -4,6 +4,7 @@ use mathlib.Core.Path.{_≡_, refl, sym, ap, _∙_}
 use mathlib.Core.Logic.{inl, inr}
 use Prim.Native.Nat.{ℕ, _≤_, _<_}
 use native.Mathlib.Decide.{decLt, ℕ-discrete}
+use native.Mathlib.Nat.{le-refl}
 use native.Mathlib.Omega.{arith}
 use mathlib.Core.Bool.{Bool, true, false, not}
 use mathlib.Core.List.{List}
@@ -16,7 +17,7 @@ use Rattle.meaning.proofs.UpTo.{made-length, made-at}
 use Rattle.meaning.proofs.OneOfEach.{same-list}
 use Rattle.meaning.specs.Quick.{goesBefore, keptBefore, stillFits, Greedy, Highest, Worthless, Single, one-label, no-label}
 use Rattle.meaning.proofs.EachLabel.{total-same}
-use Rattle.meaning.proofs.QuickOrder.{first-passing}
+use Rattle.meaning.proofs.QuickOrder.{first-of, greedy-ordered}
 
 if-same : {A : Type 0} (b : Bool) (x y z : A) → (T b → x ≡ y) → if b x z ≡ if b y z
 unfolding if
@@ -46,7 +47,7 @@ module _ (j : Job) where
   pub one-greedy : ((i : ℕ) → i < labels j → 1 ≤ at (j .weights) i) → (p q : List ℕ) → Greedy j p → Greedy j q → p ≡ q
   one-greedy light p q gp gq =
       same-list (labels j) p q (gp .one-each) (gq .one-each)
-      (elim (first-passing (j .values) (j .weights) (labels j) light (λ i. not (eqb (at p i) (at q i)))) [
+      (elim (first-of (greedy-ordered (j .values) (j .weights) (labels j) light) (λ i. not (eqb (at p i) (at q i))) (labels j) (le-refl (labels j))) [
         | inl none ↦ λ i h. same i (none i h)
         | inr d ↦
             absurd

@@ -8,10 +8,13 @@ use Rattle.meaning.specs.declared.Way.{Way}
 use Rattle.meaning.specs.declared.Way.the-variants.{Light, Full}
 use Rattle.meaning.specs.declared.Verdict.{Verdict}
 use Rattle.meaning.specs.declared.Written.{Written}
+use Rattle.meaning.specs.declared.Quick.{Quick}
+use Rattle.meaning.specs.Job.{Job}
 use Rattle.meaning.specs.Lent.{Lent}
-use Rattle.meaning.specs.Answers.{AnswerNumbers, verdictNumbers, answerNumbers, writtenNumbers}
+use Rattle.meaning.specs.Answers.{AnswerNumbers, verdictNumbers, answerNumbers, writtenNumbers, quickNumbers}
 use Rattle.meaning.specs.Solved.{SolvedBytesBy}
 use Rattle.meaning.specs.Writer.{WritesBytes}
+use Rattle.meaning.specs.Quick.{Filled}
 
 -- ---- the checker's two entries
 
@@ -57,3 +60,13 @@ pub record WritesHost (jobB picks cells before : List ℕ) (r bytes : ℕ) (afte
   pub writes : WritesBytes jobB picks cells before answer after
   pub refusal : r ≡ writtenNumbers answer .refusal
   pub bytes-are : bytes ≡ writtenNumbers answer .bytes
+
+-- ---- the entry of the quick answer
+
+-- a job and its two lists: the refusal number or 0, which list is the worthier, what that is worth, and the lists as they are after the call
+pub record QuickHost (j : Job) (first second : List ℕ) (r which value : ℕ) (first′ second′ : List ℕ) : Type 0 where
+  pub answer : Quick
+  pub filled : Filled j first second answer first′ second′
+  pub refusal : r ≡ quickNumbers answer .refusal
+  pub which-is : which ≡ quickNumbers answer .which
+  pub value-is : value ≡ quickNumbers answer .value

@@ -1,13 +1,20 @@
-// Numbers of 32 bits in bytes, lowest byte first: one number, a list of them, and the sections that they stand in.
+// Numbers of 32 bits: the product of two; and in bytes, lowest byte first, one number, a list of them, and the sections that they stand in.
 use meaning::Needed;
 use meaning::Section;
 ghost use mathlib.Core.Path.{_≡_};
-ghost use Prim.Native.Nat.{_+_, _≤_, _<_};
+ghost use Prim.Native.Nat.{_+_, _*_, _≤_, _<_};
 ghost use lib.ListN.{length};
 ghost use Rattle.meaning.specs.Lists.{at};
 ghost use Rattle.meaning.specs.Bytes.{numberAt, numbersIn, isNeeded, readSection, bytesOf, sectionBytes};
 ghost use Rattle.numbers.specs.TwoSlices.{listFrom};
 ghost use Rattle.numbers.specs.Placed.{HoldsAt, SectionWritten};
+
+// The product of two numbers, which are widened first.
+pub fn wide_product(a: u32, b: u32) -> u64
+    ensures { λ r. ⌜ r ≡ a * b ⌝ }
+{
+    a as u64 * b as u64
+}
 
 // A byte as a wider number.
 fn wide(b: u8) -> u32

@@ -18,13 +18,6 @@ ghost use Rattle.shares.specs.Borders.{claimsJob, Started, Reaches, Leav
 
 // ---- the starts
 
-// The product of two numbers, which are widened first.
-fn wide_product(a: u32, b: u32) -> u64
-    ensures { λ r. ⌜ r ≡ a * b ⌝ }
-{
-    a as u64 * b as u64
-}
-
 // S, the sum of the claims.
 fn claims_sum(weights: &[u32], wbytes: &[u8]) -> u64
     requires { ⌜ length (listFrom (now weights) (now wbytes)) ≤ mostClaims ⌝ }
@@ -96,7 +89,7 @@ fn write_starts(
     let mut i = 0;
     while i < shares.len() {
         let claim = numbers::item(weights, wbytes, i);
-        let product = wide_product(budget, claim);
+        let product = numbers::wide_product(budget, claim);
         let whole = start(product, claimed);
         let rest = remainder(product, whole, claimed);
         shares[i] = whole;
@@ -126,7 +119,7 @@ fn remainder_at(
     ensures { λ r. ⌜ r ≡ remainderOf (claimsJob budget (now (weights .entry)) (now (wbytes .entry))) i ⌝ }
 {
     let claim = numbers::item(weights, wbytes, i);
-    remainder(wide_product(budget, claim), start, claimed)
+    remainder(numbers::wide_product(budget, claim), start, claimed)
 }
 
 // ---- the border

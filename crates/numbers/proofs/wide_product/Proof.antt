@@ -4,8 +4,8 @@ use Prim.Native.Nat.{ℕ, _≤_, _<_}
 use native.Mathlib.Nat.{mul-le-mul}
 use native.Mathlib.Omega.{arith}
 use borrow.Author.Needs.{needs}
-use Rattle.shares.proofs.wide_product.Statement.{statement}
-use Rattle.shares.proofs.wide_product.Tie as tie
+use Rattle.numbers.proofs.wide_product.Statement.{statement}
+use Rattle.numbers.proofs.wide_product.Tie as tie
 
 mul-result : tie.Need-mul-result
 mul-result c =
