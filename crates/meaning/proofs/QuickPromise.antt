@@ -1,10 +1,10 @@
 -- The quick answer's promises: no second choice is left; the list fits, and twice its value is at least the best value; and what every answer is held to.
 -- Assumes nothing.
-use mathlib.Core.Path.{_∙_, _≡_, ap, ap₂, refl, sym}
+use mathlib.Core.Path.{_∙_, _≡_, ap, ap₂, refl, subst, sym}
 use Prim.Native.Nat.{ℕ, zero, suc, _+_, _*_, _≤_, _<_}
 use native.Mathlib.Omega.{arith}
 use mathlib.Core.Bool.{Bool, true, false, _&&_}
-use mathlib.Core.List.{List}
+use mathlib.Core.List.{List, []}
 use lib.Dec.{leb, ltb}
 use lib.ListN.{length, take}
 use borrow.Author.Tests.{ltb-true, ltb-false}
@@ -193,7 +193,69 @@ module _ (j : Job) (first second : List ℕ) where
             rw (holds-first _ _ _ _ (both .first-holds) (both .is-greedy .one-each)) more,
           )
 
+      -- so the first n places of that list are the worthier list
+      module _ (p q : ℕ × ℕ) where
+        in-first : take (labels j) f ≡ both .greedy
+        in-first = holds-first _ _ _ _ (both .first-holds) (both .is-greedy .one-each)
+
+        in-second : take (labels j) s ≡ both .single
+        in-second = holds-first _ _ _ _ (both .second-holds) (single-long j (both .single) (both .is-single))
+
+        first-handed : (v : ℕ) → a ≡ Hands.First v → Worthier j p q p (take (labels j) f)
+        unfolding quickNumbers
+        first-handed v e =
+            let value : quickNumbers a .value ≡ v = ap (λ (x : Quick). quickNumbers x .value) e in
+            the-first (both .single) refl (subst (Greedy j) (sym in-first) (both .is-greedy)) (both .is-single) (omega (arith, value-of .1, first-worth v e))
+
+        second-handed : (v : ℕ) → a ≡ Hands.Second v → Worthier j p q q (take (labels j) s)
+        second-handed v e =
+            let (same, more) = second-worth v e in
+            the-second (both .greedy) refl (subst (Single j) (sym in-second) (both .is-single)) (both .is-greedy)
+            (omega (arith, ap (total (j .values)) in-first))
+
 -- ---- the call that hands back one of them
+
+-- what is handed back, by the answer of the call that fills both lists
+module _ (j : Job) (first second : List ℕ) (a : Quick) (f s : List ℕ) (filled : Filled j first second a f s) (p q : ℕ × ℕ) where
+  abbrev asked : ℕ
+  asked = quickRefusal j (length first) (length second)
+
+  by-number : (place : ℕ × ℕ) (l : List ℕ) → (asked ≡ 0 → Worthier j p q place l) → ((r : ℕ) → asked ≡ suc r → EmptyPart p place l)
+      → Picked j (length first) (length second) p q place l
+  unfolding PickedAs
+  by-number place l some none = record { kept = go asked refl }
+    where
+      go : (r : ℕ) → asked ≡ r → PickedAs r j p q place l
+      go zero e = some e
+      go (suc r) e = none r e
+
+  -- a refused call names no list
+  refused-which : (r : ℕ) → asked ≡ suc r → quickNumbers a .which ≡ 0
+  unfolding FilledAs quickNumbers
+  refused-which r e = let n : NoneFilled (suc r) first second a f s = rw e at (filled .kept) in ap (λ (x : QuickNumbers). x .which) (n .numbers)
+
+  -- so one that names a list isn't refused
+  pub named : ¬ (quickNumbers a .which ≡ 0) → asked ≡ 0
+  named some = go asked refl
+    where
+      go : (r : ℕ) → asked ≡ r → asked ≡ 0
+      go zero e = e
+      go (suc r) e = absurd (some (refused-which r e))
+
+  pub picks-none : (r : ℕ) → a ≡ Hands.Refused r → Picked j (length first) (length second) p q p []
+  picks-none r is = by-number p [] (λ ok. absurd (refuses-none j first second ok a f s filled r is)) (λ r′ e. record { of-first = refl; empty = refl })
+
+  pub picks-first : (v : ℕ) → a ≡ Hands.First v → Picked j (length first) (length second) p q p (take (labels j) f)
+  unfolding quickNumbers
+  picks-first v is =
+      by-number p _ (λ ok. first-handed j first second ok a f s filled p q v is)
+      (λ r e. let wrong : _≡_ {A = ℕ} 1 0 = rw is at (refused-which r e) in absurd (omega arith))
+
+  pub picks-second : (v : ℕ) → a ≡ Hands.Second v → Picked j (length first) (length second) p q q (take (labels j) s)
+  unfolding quickNumbers
+  picks-second v is =
+      by-number q _ (λ ok. second-handed j first second ok a f s filled p q v is)
+      (λ r e. let wrong : _≡_ {A = ℕ} 2 0 = rw is at (refused-which r e) in absurd (omega arith))
 
 -- one list, at one place
 pub record OnePick (place place′ : ℕ × ℕ) (p p′ : List ℕ) : Type 0 where

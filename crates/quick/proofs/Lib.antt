@@ -4,3 +4,9 @@
 pub mod Runs
 pub mod Choosing
 pub mod Merging
+-- the greedy list, label by label in order
+pub mod Settling
+-- the single label, found label by label
+pub mod Finding
+-- the doors
+pub mod QuickDoor
