@@ -269,24 +269,24 @@ uint32_t quabnester_solve(const uint8_t *job, size_t job_len, uint32_t *cells, s
 uint32_t quabnester_solve_full(const uint8_t *job, size_t job_len, uint32_t *cells, size_t cells_len, uint64_t *words,
                                size_t words_len, uint32_t *picks, size_t picks_len, uint64_t *first, uint64_t *second);
 
-/* A quick answer for kind 1, where half of the best value is enough: two keep lists, of which the caller takes the worthier.
+/* A quick answer for kind 1, where half of the best value is enough: two keep lists, and which of them is the worthier.
  * Returns 0 or a refusal number, 3 to 6.
  *
- * It takes the job as lists and no job bytes: n is weights_len, C is the budget, and label i weighs weights[i] and is worth
- * values[i]. It needs no table, and n places in each of the lists that it is lent. After the call the first n places of
- * each are 1 for a label that it keeps and 0 for another, for every job that isn't refused:
+ * It takes the job as lists and not as job bytes: n is weights_len, C is the budget, and label i weighs weights[i] and is
+ * worth values[i]. It needs no table, and n places in each of the lists that it is lent. After the call the first n places
+ * of each are 1 for a label that it keeps and 0 for another:
  *   first    the greedy list. Labels are looked at by value per weight, the higher first and of equal ones the lower
  *            number; each is kept if it still fits into what is left of C. One that doesn't fit is passed over, and so is
  *            one that is worth 0
  *   second   the single label of highest value among those that weigh at most C, of equal ones the lower number; no label
  *            where none fits, or the highest value is 0
  * *which is 1 where the first list is worth as much as the second or more, and else 2; *value is what that list is worth.
- * Both lists weigh at most C. Twice *value is at least the best value, which quabnester_solve gives for the same job.
+ * Each list weighs at most C. Twice *value is at least the best value, which quabnester_solve gives for the same job.
  *
- * Refuses with 3 where values_len isn't n, with 4 where n is above QUABNESTER_MOST_LABELS or C above QUABNESTER_MOST_BUDGET,
- * with 5 where a weight is below QUABNESTER_LEAST_WEIGHT or a value above QUABNESTER_MOST_VALUE, and with 6 where first_len
- * or second_len is below n. What stood in the lists before has no influence. They may be longer; places past the first n
- * keep what they held. On a refusal *which and *value are 0 and neither list is written. */
+ * Refuses with 3 where values_len isn't n; with 4 where n is above QUABNESTER_MOST_LABELS, or C above
+ * QUABNESTER_MOST_BUDGET; with 5 where a weight is below QUABNESTER_LEAST_WEIGHT, or a value above QUABNESTER_MOST_VALUE;
+ * and with 6 where first_len or second_len is below n. What stood in the lists before has no influence. They may be longer;
+ * places past the first n keep what they held. On a refusal *which and *value are 0, and neither list is written. */
 uint32_t quabnester_quick(uint32_t budget, const uint32_t *weights, size_t weights_len, const uint32_t *values,
                           size_t values_len, uint32_t *first, size_t first_len, uint32_t *second, size_t second_len,
                           uint32_t *which, uint64_t *value);

@@ -38,6 +38,7 @@ enum {
     MOST,
     TABLE,
     WIDE,
+    CLOSE,
     THINGS
 };
 
@@ -48,7 +49,7 @@ static struct thing things[THINGS] = {
     [ALIKE] = {"of labels with as much value per weight, one kept and one that fits C not", 10000, 0},
     [CUT_ALIKE] = {"the same, as much only if it is cut to whole numbers", 5000, 0},
     [PASSED_OVER] = {"a label that doesn't fit into what is left, and a later one that does", 7500, 0},
-    [NOTHING] = {"a label that fits and is worth 0", 14000, 0},
+    [NOTHING] = {"a label that fits and is worth 0", 12500, 0},
     [TOO_HEAVY] = {"the first label of the order is heavier than C", 2600, 0},
     [TWO_HIGHEST] = {"two labels of the highest value that fits", 5500, 0},
     [BELOW] = {"a value below the best", 4200, 0},
@@ -62,6 +63,7 @@ static struct thing things[THINGS] = {
     [MOST] = {"the most labels, answered", 50, 0},
     [TABLE] = {"the best value by a table", 140, 0},
     [WIDE] = {"products beyond 32 bits", 10000, 0},
+    [CLOSE] = {"value per weight that isn't alike, though it is to 24 bits, one kept and one that fits C not", 380, 0},
 };
 
 /* Value for each unit of weight, cut to whole numbers. */
@@ -78,10 +80,17 @@ static int are_alike(uint32_t i, uint32_t k) {
     return (uint64_t)job.values.at[i] * job.weights.at[k] == (uint64_t)job.values.at[k] * job.weights.at[i];
 }
 
+/* Whether the two products that compare them differ by less than one part in 2^24, which is all that a short number with a point holds. */
+static int are_close(uint32_t i, uint32_t k) {
+    uint64_t one = (uint64_t)job.values.at[i] * job.weights.at[k], other = (uint64_t)job.values.at[k] * job.weights.at[i];
+    return (one > other ? one - other : other - one) <= one >> 24;
+}
+
 /* What two labels that are worth something and fit C show, one of which is kept and the other isn't. */
 static void see_two(uint32_t kept, uint32_t other, int *seen) {
     seen[ALIKE] |= are_alike(kept, other);
     seen[CUT_ALIKE] |= !are_alike(kept, other) && cut_ratio(kept) == cut_ratio(other);
+    seen[CLOSE] |= !are_alike(kept, other) && are_close(kept, other);
     seen[PASSED_OVER] |= plain_comes_first(&read, other, kept);
 }
 
@@ -192,6 +201,27 @@ static void draw_heavy(struct draw *draw) {
     job.values.at[heavy] = worth < MOST_VALUE ? worth : MOST_VALUE;
 }
 
+/* Labels that are all about as heavy and as dear, and a budget that some of them fit into: what they are worth per weight is told apart by
+ * nothing less than products. */
+static void draw_close(struct draw *draw) {
+    uint32_t i, fit = drawn(draw, 1, 4), about;
+    job.budget = MOST_BUDGET - drawn(draw, 0, 99);
+    about = job.budget / fit;
+    for (i = 0; i < job.weights.count; i++) {
+        job.weights.at[i] = about - drawn(draw, 0, 3);
+        job.values.at[i] = about - drawn(draw, 0, 3);
+    }
+}
+
+/* Powers of two, some of which are far above the budget: cut to 32 bits their products with others are 0. */
+static void draw_powers(struct draw *draw) {
+    uint32_t i;
+    for (i = 0; i < job.weights.count; i++) {
+        job.weights.at[i] = 1u << (chance(draw, 3) ? drawn(draw, 20, 31) : drawn(draw, 0, 4));
+        job.values.at[i] = 1u << drawn(draw, 0, 15);
+    }
+}
+
 /* Lists of the lengths that the job needs without its faults. */
 static void try_small(uint64_t number) {
     struct draw draw = {START + number};
@@ -199,6 +229,8 @@ static void try_small(uint64_t number) {
     draw_job(&draw, KIND_ONCE, LABELS, BUDGET, &job);
     if (chance(&draw, 3)) draw_ratios(&draw, 3);
     if (chance(&draw, 4) && job.weights.count > 0) draw_heavy(&draw);
+    if (chance(&draw, 16)) draw_close(&draw);
+    if (chance(&draw, 16)) draw_powers(&draw);
     first_len = draw_length(&draw, job.weights.count);
     second_len = draw_length(&draw, job.weights.count);
     while (chance(&draw, 4)) draw_fault(&draw, &job);

@@ -7,7 +7,8 @@
 #include "tell.h"
 #include <stdio.h>
 
-enum { EVERY = 150, ALL_BUDGETS = 34 }; /* every n up to one, with all budgets up to another */
+enum { EVERY = 150, ALL_BUDGETS = 34 };                                  /* every n up to one, with all budgets up to another */
+enum { MOST_RANK = 2 * MOST_LABELS, HEAVIEST = MOST_VALUE / MOST_RANK }; /* the heaviest label that may be worth so much for each unit */
 
 static unsigned long tried, alike;
 static struct job job;
@@ -32,7 +33,7 @@ enum {
     ORDERS
 };
 
-/* Above 0 for each label. */
+/* From 1 to the most for each label. */
 static uint32_t rank(int order, uint32_t n, uint32_t i, struct draw *draw) {
     uint32_t half = n / 2, run = 2 + n % 9, down = n - i;
     switch (order) {
@@ -40,14 +41,14 @@ static uint32_t rank(int order, uint32_t n, uint32_t i, struct draw *draw) {
     case ALL_ALIKE: return 3;
     case INTERLEAVED: return i % 2 == 0 ? n + 1 - i / 2 : half + 1 - i / 2;
     case TWO_RUNS: return i < half ? 2 * (half - i) : 2 * down - 1;
-    case TWO_ALIKE: return i < half ? half - i + 1 : down;
+    case TWO_ALIKE: return i < half ? half - i : down;
     case TWO_REVERSED: return i < half ? 2 * i + 1 : 2 * (i - half) + 2;
     case SHORT_RUNS: return run - i % run;
     case LAST_FIRST: return i + 1 == n ? n + 1 : down;
     case FIRST_LAST: return i == 0 ? 1 : down + 1;
     case PIPE: return i < half ? i + 1 : down;
     case FEW_DRAWN: return drawn(draw, 1, 4);
-    case DRAWN: return drawn(draw, 1, MOST_VALUE / 9);
+    case DRAWN: return drawn(draw, 1, MOST_RANK);
     default: return down;
     }
 }
@@ -106,7 +107,6 @@ static void try_ones(int order, uint32_t n) {
 
 /* Labels of other weights: what fits depends on all that came before. */
 static void try_others(int order, uint32_t n) {
-    enum { HEAVIEST = 9 };
     struct draw draw = {n};
     uint32_t k;
     set_order(order, n, HEAVIEST);
