@@ -116,6 +116,21 @@ static void try_case(const struct quick_case *given) {
     }
 }
 
+/* Slices that are only read may be one and the same: labels that are as dear as they are heavy. */
+static void try_one_slice(void) {
+    static const uint32_t both[] = {2, 3, 1}, kept[] = {1, 0, 1}, dearest[] = {0, 1, 0};
+    uint32_t first[3], second[3], which = 77, i;
+    uint64_t value = 77;
+    about("quick", tried++);
+    same("the refusal", 0, quabnester_quick(4, both, 3, both, 3, first, 3, second, 3, &which, &value));
+    same("which list", 1, which);
+    same("its value", 3, value);
+    for (i = 0; i < 3; i++) {
+        same_at("the first list's pick", i, kept[i], first[i]);
+        same_at("the second list's pick", i, dearest[i], second[i]);
+    }
+}
+
 /* ---- half of the best, and barely more */
 
 /* One label of a little more than half of C and two of half: the best is these two, which weigh C and are worth as much. */
@@ -267,6 +282,7 @@ void part_quick(void) {
     unsigned mask;
     uint32_t k, n, number;
     for (k = 0; k < sizeof cases / sizeof cases[0]; k++) try_case(&cases[k]);
+    try_one_slice();
     try_tight(1000);
     try_tight(MOST_BUDGET / 2);
     wide();
