@@ -1,4 +1,5 @@
-/* Quabnester from C: solve a job, write a certificate of a keep list, check one. C99, and usable from C++.
+/* Quabnester from C: solve a job, write a certificate of a keep list, check one; and a quick answer that needs no table.
+ * C99, and usable from C++.
  *
  * What is said below of an entry's numbers and of the slices that it is lent is proved of the code that is called
  * (crates/host, docs/STATEMENTS.md), for a caller who keeps the duties. What is said of C itself is not, since no proof
@@ -9,9 +10,10 @@
  * THE CALLER'S DUTIES. Nothing is assumed of what the slices hold: any bytes, any numbers. C itself asks this much:
  * - A slice is a pointer and a length in elements. It points at so many elements, aligned for their type, and
  *   writable where the pointer isn't to const. A length of 0 may come with any pointer, null too.
- * - first, second and written aren't null; each is aligned and writable.
- * - What a call writes (slices that aren't const; first, second, written) overlaps nothing else that it is given.
- *   Slices that are only read may overlap each other.
+ * - A pointer that comes without a length is to one number that the call gives: *first and *second of what solves,
+ *   *written, *which, *value. It isn't null; it is aligned and writable.
+ * - What a call writes (slices that aren't const, and these numbers) overlaps nothing else that it is given. So the two
+ *   lists of quabnester_quick lie apart from each other. Slices that are only read may overlap each other.
  * - While a call runs, nobody else writes what it was given, and nobody else reads what it writes.
  * Calls allocate nothing and keep nothing between them, so they may run in several threads at once.
  *
@@ -43,10 +45,10 @@ extern "C" {
  * the third where no promise has changed. */
 
 #define QUABNESTER_VERSION_MAJOR 2
-#define QUABNESTER_VERSION_MINOR 0
+#define QUABNESTER_VERSION_MINOR 1
 #define QUABNESTER_VERSION_PATCH 0
 
-/* As one number, which grows with each version, and as text: "2.0.0" and the like. */
+/* As one number, which grows with each version, and as text: "2.1.0" and the like. */
 #define QUABNESTER_VERSION_NUMBER                                                                                          \
     (QUABNESTER_VERSION_MAJOR * 1000000 + QUABNESTER_VERSION_MINOR * 1000 + QUABNESTER_VERSION_PATCH)
 #define QUABNESTER_VERSION_STRING                                                                                          \
@@ -56,7 +58,8 @@ extern "C" {
 #define QUABNESTER_AS_IT_STANDS_(words) #words
 
 /* ---- KINDS of job. What each answers is said at quabnester_solve. Kind 1 has two ways: quabnester_solve leaves a light
- * table, quabnester_solve_full the full one, which a certificate is written from. Other kinds have one way. */
+ * table, quabnester_solve_full the full one, which a certificate is written from. Other kinds have one way. Where half of
+ * the best value is enough, quabnester_quick answers kind 1 without a table. */
 
 #define QUABNESTER_KIND_ONCE 1          /* each label at most once */
 #define QUABNESTER_KIND_COPIES 2        /* label i at most copies[i] times */
@@ -101,7 +104,8 @@ extern "C" {
 #define QUABNESTER_REFUSED_BYTES 1
 /* the kind isn't one of 1 to the last (to solve), or to the last that has certificates (to write and to check) */
 #define QUABNESTER_REFUSED_KIND 2
-/* a list that the kind uses hasn't n numbers, or one that it doesn't use isn't empty */
+/* a list that the kind uses hasn't n numbers, or one that it doesn't use isn't empty; in a quick answer the lists are the
+ * weights and values of kind 1 */
 #define QUABNESTER_REFUSED_LENGTHS 3
 /* n or C is above its bound */
 #define QUABNESTER_REFUSED_BOUND 4
@@ -165,7 +169,8 @@ static inline int quabnester_within_bounds(uint32_t kind, uint64_t n, uint64_t b
     return n <= quabnester_most_labels(kind) && budget <= quabnester_most_budget(kind);
 }
 
-/* The places that quabnester_solve needs of cells, of words and of picks. */
+/* The places that quabnester_solve needs of cells, of words and of picks. quabnester_quick needs the picks of kind 1, which
+ * are n, in each of its two lists. */
 static inline uint64_t quabnester_cells_needed(uint32_t kind, uint64_t n, uint64_t budget) {
     if (!quabnester_within_bounds(kind, n, budget)) return 0;
     switch (kind) {
@@ -263,6 +268,28 @@ uint32_t quabnester_solve(const uint8_t *job, size_t job_len, uint32_t *cells, s
  * same number, give the same *first and *second, and write the same picks. */
 uint32_t quabnester_solve_full(const uint8_t *job, size_t job_len, uint32_t *cells, size_t cells_len, uint64_t *words,
                                size_t words_len, uint32_t *picks, size_t picks_len, uint64_t *first, uint64_t *second);
+
+/* A quick answer for kind 1, where half of the best value is enough: two keep lists, and which of them is the worthier.
+ * Returns 0 or a refusal number, 3 to 6.
+ *
+ * It takes the job as lists and not as job bytes: n is weights_len, C is the budget, and label i weighs weights[i] and is
+ * worth values[i]. It needs no table, and n places in each of the lists that it is lent. After the call the first n places
+ * of each are 1 for a label that it keeps and 0 for another:
+ *   first    the greedy list. Labels are looked at by value per weight, the higher first and of equal ones the lower
+ *            number; each is kept if it still fits into what is left of C. One that doesn't fit is passed over, and so is
+ *            one that is worth 0
+ *   second   the single label of highest value among those that weigh at most C, of equal ones the lower number; no label
+ *            where none fits, or the highest value is 0
+ * *which is 1 where the first list is worth as much as the second or more, and else 2; *value is what that list is worth.
+ * Each list weighs at most C. Twice *value is at least the best value, which quabnester_solve gives for the same job.
+ *
+ * Refuses with 3 where values_len isn't n; with 4 where n is above QUABNESTER_MOST_LABELS, or C above
+ * QUABNESTER_MOST_BUDGET; with 5 where a weight is below QUABNESTER_LEAST_WEIGHT, or a value above QUABNESTER_MOST_VALUE;
+ * and with 6 where first_len or second_len is below n. What stood in the lists before has no influence. They may be longer;
+ * places past the first n keep what they held. On a refusal *which and *value are 0, and neither list is written. */
+uint32_t quabnester_quick(uint32_t budget, const uint32_t *weights, size_t weights_len, const uint32_t *values,
+                          size_t values_len, uint32_t *first, size_t first_len, uint32_t *second, size_t second_len,
+                          uint32_t *which, uint64_t *value);
 
 /* Writes a certificate of a job of kind 1, 2 or 3 from picks and cells. Returns 0 or a refusal number, 1 to 6.
  *

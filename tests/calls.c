@@ -62,8 +62,7 @@ static uint64_t element(const void *slice, size_t size, size_t k) {
     return size == 4 ? ((const uint32_t *)slice)[k] : ((const uint64_t *)slice)[k];
 }
 
-/* Two slices hold the same elements, as far as they are filled. */
-static int same_content(const char *what, const void *expected, const void *got, size_t count, size_t size) {
+int same_content(const char *what, const void *expected, const void *got, size_t count, size_t size) {
     size_t k = 0;
     if (memcmp(expected, got, count * size) == 0) return holds(what, 1);
     while (element(expected, size, k) == element(got, size, k)) k++;

@@ -7,6 +7,9 @@
 #include "plain.h"
 #include "quabnester.h"
 
+/* Whether two slices hold the same elements of a size, as far as they are filled; the first that differs is told. */
+int same_content(const char *what, const void *expected, const void *got, size_t count, size_t size);
+
 /* What the second program reads in job bytes that were put together here. Ends the tests where it can't read them. */
 void read_back(const struct bytes *bytes, struct plain_job *job);
 
@@ -60,6 +63,22 @@ int asks_for_a_total(const struct bytes *job);
 
 /* Asked as both it is answered alike: of each total up to C, of how many are reached, and of C. Answers whether C is reached. */
 int agree_on_totals(const struct bytes *job);
+
+/* ---- the quick answer (calls_quick.c) */
+
+struct quick {
+    struct lent weights, values, first, second;
+    uint64_t value;
+    uint32_t refused, which;
+};
+
+/* Asks for it, with dirty lists of these lengths, and weights and values that end where the job's do. `give_back_quick` frees them. */
+void ask_quick(struct quick *quick, const struct job *job, size_t first_len, size_t second_len, uint64_t salt);
+void give_back_quick(struct quick *quick);
+
+/* What is asked is answered as the second program has it, both lists whole; and what is only read is as it was. Where it isn't so, the job
+ * is told too, as crates/trials/stdin would list it. Answers what is expected, which is there until the next call. */
+const struct plain_quick *try_quick(const struct job *job, size_t first_len, size_t second_len, uint64_t salt);
 
 /* ---- the writer */
 

@@ -45,8 +45,9 @@ void draw_fault(struct draw *draw, struct job *job);
 /* The job's bytes damaged: cut short, some added, one changed, a count changed, two counts swapped. They are other bytes then. */
 void draw_damage(struct draw *draw, const struct job *job, struct bytes *bytes);
 
-/* Lengths of slices to lend: what is needed, or more; now and then one too few, or none. */
+/* Lengths of slices to lend: what is needed, or more; now and then one too few, or none. And one such length. */
 struct plain_room draw_lengths(struct draw *draw, const struct plain_room *needed);
+uint64_t draw_length(struct draw *draw, uint64_t needed);
 
 /* ---- large jobs (draw_large.c) */
 

@@ -6,15 +6,27 @@
 
 enum { CELLS = CASE_A_CELLS, WORDS = ROW(CASE_A_BUDGET), PICKS = CASE_A_LABELS, BYTES = CASE_A_CERTIFICATE };
 
-static unsigned long tried;
+static unsigned long tried, quick;
 static struct job job;
 static struct bytes bytes, certificate;
 static uint32_t cells[CELLS], picks[PICKS];
 static uint64_t words[WORDS];
 static uint8_t out[BYTES];
 
-/* Which slices are empty, by the bits of a mask, and what an empty one's pointer is. */
-enum slice { JOB_SLICE, CELLS_SLICE, WORDS_SLICE, PICKS_SLICE, BYTES_SLICE, SLICES };
+/* Which slices are empty, by the bits of a mask, and what an empty one's pointer is; those of the quick answer are others. */
+enum slice {
+    JOB_SLICE,
+    CELLS_SLICE,
+    WORDS_SLICE,
+    PICKS_SLICE,
+    BYTES_SLICE,
+    SLICES,
+    WEIGHTS_SLICE = 0,
+    VALUES_SLICE,
+    FIRST_SLICE,
+    SECOND_SLICE,
+    QUICK_SLICES
+};
 static unsigned mask;
 static int null;
 
@@ -73,6 +85,39 @@ static void try_check(void) {
     same("the value or place", expected.detail, quabnester_check_detail(job_at, job_len, at, length));
 }
 
+/* Case A for the quick answer, of which the weights, the values or a list may be empty; without both weights and values it has no labels.
+ */
+static void try_quick_slices(void) {
+    static struct job once;
+    static struct bytes given;
+    static struct plain_quick expected;
+    uint32_t first[PICKS], second[PICKS], which = 5;
+    uint64_t value = 5;
+    size_t first_len = length_of(FIRST_SLICE, PICKS), second_len = length_of(SECOND_SLICE, PICKS);
+    struct plain_job read;
+    case_a(&once, KIND_ONCE);
+    once.weights.count = (uint32_t)length_of(WEIGHTS_SLICE, PICKS);
+    once.values.count = (uint32_t)length_of(VALUES_SLICE, PICKS);
+    put_job(&given, &once);
+    read_back(&given, &read);
+    plain_quick(&read, first_len, second_len, &expected);
+    same("the refusal", expected.refused,
+         quabnester_quick(once.budget, pointer_of(WEIGHTS_SLICE, once.weights.at), once.weights.count,
+                          pointer_of(VALUES_SLICE, once.values.at), once.values.count, pointer_of(FIRST_SLICE, first), first_len,
+                          pointer_of(SECOND_SLICE, second), second_len, &which, &value));
+    same("which list", expected.which, which);
+    same("its value", expected.value, value);
+}
+
+static void try_quick_answers(void) {
+    for (null = 0; null <= 1; null++) {
+        for (mask = 0; mask < 1u << QUICK_SLICES; mask++) {
+            about("empty slices, quick", quick++);
+            try_quick_slices();
+        }
+    }
+}
+
 void part_empty(void) {
     uint32_t kind;
     for (kind = 0; kind <= LAST_KIND; kind++) {
@@ -87,5 +132,6 @@ void part_empty(void) {
             }
         }
     }
-    printf("empty: %lu calls of each entry\n", tried);
+    try_quick_answers();
+    printf("empty: %lu calls of each entry, %lu of the quick answer\n", tried, quick);
 }

@@ -121,7 +121,7 @@ void draw_damage(struct draw *draw, const struct job *job, struct bytes *bytes) 
 
 /* ---- the slices */
 
-static uint64_t draw_length(struct draw *draw, uint64_t needed) {
+uint64_t draw_length(struct draw *draw, uint64_t needed) {
     if (needed > 0 && chance(draw, 30)) return needed - 1;
     if (chance(draw, 60)) return 0;
     return needed + (chance(draw, 4) ? drawn(draw, 0, 20) : drawn(draw, 0, 3) / 2);

@@ -1,5 +1,6 @@
 /* What include/quabnester.h says by itself, its constants and its functions, held to the library and to bounds.h: needed lengths are enough
- * and one place less isn't, each bound and one past it, the bytes of jobs and certificates, the marks, and each refusal by its name. */
+ * and one place less isn't, each bound and one past it, those of the quick answer too, the bytes of jobs and certificates, the marks, and
+ * each refusal by its name. */
 #include "calls.h"
 #include "draw.h"
 #include "parts.h"
@@ -65,6 +66,7 @@ static void the_version(void) {
     same("its second number", QUABNESTER_VERSION_MINOR, QUABNESTER_VERSION_NUMBER / 1000 % 1000);
     same("its first number", QUABNESTER_VERSION_MAJOR, QUABNESTER_VERSION_NUMBER / 1000000);
     holds("that it is one of K4, which has kind 1 refused on slices that were enough before", QUABNESTER_VERSION_MAJOR >= 2);
+    holds("that it is one of K5, which adds an entry", QUABNESTER_VERSION_NUMBER >= 2001000);
 }
 
 /* ---- room */
@@ -199,6 +201,58 @@ static void numbers_of_sizes(void) {
     least_and_most(&job.weights.at[0], 0, UINT32_MAX);
 }
 
+/* ---- the quick answer */
+
+/* It is refused with this number on lists of these lengths. */
+static void quick_on(uint64_t first_len, uint64_t second_len, uint32_t number) {
+    struct quick quick;
+    about("header, quick", tried++);
+    ask_quick(&quick, &job, first_len, second_len, tried);
+    if (same("the refusal", number, quick.refused)) met[number]++;
+    holds("a list where it isn't refused", (quick.which == 0) == (number != QUABNESTER_NOT_REFUSED));
+    give_back_quick(&quick);
+}
+
+/* On as many places of each list as kind 1 has picks it is answered, and on one less of either it isn't. */
+static void quick_on_room(uint32_t n, uint32_t budget) {
+    uint64_t room = quabnester_picks_needed(QUABNESTER_KIND_ONCE, n, budget);
+    valid_job(QUABNESTER_KIND_ONCE, n, budget);
+    quick_on(room, room, QUABNESTER_NOT_REFUSED);
+    if (room == 0) return;
+    quick_on(room - 1, room, QUABNESTER_REFUSED_ROOM);
+    quick_on(room, room - 1, QUABNESTER_REFUSED_ROOM);
+}
+
+/* A number of the job at its bounds, and one past each. */
+static void quick_at(uint32_t *number, uint32_t least, uint32_t most) {
+    uint64_t room = job.weights.count;
+    *number = least - 1;
+    if (least > 0) quick_on(room, room, QUABNESTER_REFUSED_RULE);
+    *number = most + 1;
+    if (most < UINT32_MAX) quick_on(room, room, QUABNESTER_REFUSED_RULE);
+    *number = least;
+    quick_on(room, room, QUABNESTER_NOT_REFUSED);
+    *number = most;
+    quick_on(room, room, QUABNESTER_NOT_REFUSED);
+}
+
+/* Its bounds are those of kind 1, and so are its refusals. */
+static void quick_answers(void) {
+    quick_on_room(0, 0);
+    quick_on_room(3, 9);
+    quick_on_room(QUABNESTER_MOST_LABELS, 7);
+    quick_on_room(2, QUABNESTER_MOST_BUDGET);
+    valid_job(QUABNESTER_KIND_ONCE, QUABNESTER_MOST_LABELS + 1, 7);
+    quick_on(QUABNESTER_MOST_LABELS + 1, QUABNESTER_MOST_LABELS + 1, QUABNESTER_REFUSED_BOUND);
+    valid_job(QUABNESTER_KIND_ONCE, 2, QUABNESTER_MOST_BUDGET + 1);
+    quick_on(2, 2, QUABNESTER_REFUSED_BOUND);
+    valid_job(QUABNESTER_KIND_ONCE, 3, 9);
+    quick_at(&job.weights.at[0], QUABNESTER_LEAST_WEIGHT, UINT32_MAX);
+    quick_at(&job.values.at[1], QUABNESTER_LEAST_VALUE, QUABNESTER_MOST_VALUE);
+    job.values.count--;
+    quick_on(3, 3, QUABNESTER_REFUSED_LENGTHS);
+}
+
 /* ---- certificates */
 
 static uint32_t picks[CASE_A_LABELS], cells[CASE_A_CELLS];
@@ -323,6 +377,7 @@ void part_header(void) {
     }
     numbers_of_labels();
     numbers_of_sizes();
+    quick_answers();
     verdicts(QUABNESTER_KIND_ONCE, 1);
     verdicts(QUABNESTER_KIND_COPIES, 1);
     verdicts(QUABNESTER_KIND_ANY, QUABNESTER_MOST_PICK_ANY);

@@ -1,7 +1,9 @@
-/* The trials that crates/trials/stdin lists, cases and bounds, through the solver in both ways: each is answered as document 01's second
- * program has it.
+/* The trials that crates/trials/stdin lists, cases and bounds, through the solver in both ways, and quick answers: each is answered as
+ * document 01's second program has it.
  * A line that starts with - or = is a case, a name and a job; one that starts with > is a bound, a name and two jobs with a slash between
- * them; others are text. A job is `kind; budget; weights; values; copies; places lent`, and what is left out at the end is empty. */
+ * them; one that starts with ~ is a name and a job for a quick answer; others are text. A job is `kind; budget; weights; values; copies;
+ * places lent`, and what is left out at the end is empty. For a quick answer the kind is 1, there are no copies, and the places are those
+ * of its two lists. */
 #include "calls.h"
 #include "parts.h"
 #include "tell.h"
@@ -10,12 +12,13 @@
 
 enum { KIND, BUDGET, WEIGHTS, VALUES, COPIES, LENT, FIELDS };
 enum { CELLS_LENT, WORDS_LENT, PICKS_LENT, LENGTHS };
-enum { MOST_TEXT = 65536 };      /* of the file: no bound of document 01 */
-enum { MORE = 20 };              /* places that are lent beyond the needed ones, where the list says nothing of them */
-enum { JOBS = 160, TRIED = 75 }; /* at least so many have to be listed, and answered by trying too */
+enum { FIRST_LENT, SECOND_LENT, QUICK_LENGTHS };
+enum { MOST_TEXT = 65536 };                  /* of the file: no bound of document 01 */
+enum { MORE = 20 };                          /* places that are lent beyond the needed ones, where the list says nothing of them */
+enum { JOBS = 160, TRIED = 75, QUICK = 20 }; /* at least so many have to be listed, answered by trying too, and answered quickly */
 
 static char text[MOST_TEXT + 1];
-static unsigned long jobs, tried;
+static unsigned long jobs, tried, quick;
 
 /* ---- reading */
 
@@ -89,15 +92,19 @@ static struct plain_room lengths_of(const struct list *fields, const struct job 
     return lengths;
 }
 
+static void set_fields(struct job *job, const struct list *fields) {
+    job->kind = fields[KIND].at[0];
+    job->budget = fields[BUDGET].at[0];
+    job->weights = fields[WEIGHTS];
+    job->values = fields[VALUES];
+    job->copies = fields[COPIES];
+}
+
 static void try_fields(const struct list *fields) {
     static struct job job;
     static struct bytes bytes;
     struct plain_room lengths[PLAIN_WAYS];
-    job.kind = fields[KIND].at[0];
-    job.budget = fields[BUDGET].at[0];
-    job.weights = fields[WEIGHTS];
-    job.values = fields[VALUES];
-    job.copies = fields[COPIES];
+    set_fields(&job, fields);
     put_job(&bytes, &job);
     lengths[LIGHT_WAY] = lengths_of(fields, &job, LIGHT_WAY);
     lengths[FULL_WAY] = lengths_of(fields, &job, FULL_WAY);
@@ -114,12 +121,27 @@ static int read_and_try(const char **at) {
     return 1;
 }
 
+/* One job for a quick answer; where the list says nothing of the places, there are more than it has labels. */
+static int read_and_try_quick(const char **at) {
+    static struct list fields[FIELDS];
+    static struct job job;
+    size_t first_len, second_len;
+    if (!read_fields(at, fields) || fields[KIND].count != 1 || fields[BUDGET].count != 1) return 0;
+    if (fields[KIND].at[0] != KIND_ONCE || fields[COPIES].count != 0) return 0;
+    if (fields[LENT].count != 0 && fields[LENT].count != QUICK_LENGTHS) return 0;
+    set_fields(&job, fields);
+    first_len = fields[LENT].count == 0 ? job.weights.count + MORE : fields[LENT].at[FIRST_LENT];
+    second_len = fields[LENT].count == 0 ? job.weights.count + MORE : fields[LENT].at[SECOND_LENT];
+    try_quick(&job, first_len, second_len, quick++);
+    return 1;
+}
+
 /* A line, up to its end; 0 where it can't be read. Text has no jobs. */
 static int try_line(const char *at) {
-    int bound = *at == '>';
-    if (*at != '-' && *at != '=' && !bound) return 1;
+    int bound = *at == '>', is_quick = *at == '~';
+    if (*at != '-' && *at != '=' && !bound && !is_quick) return 1;
     while (*at != ':' && *at != '\n') at++;
-    if (*at++ != ':' || !read_and_try(&at)) return 0;
+    if (*at++ != ':' || !(is_quick ? read_and_try_quick : read_and_try)(&at)) return 0;
     if (bound && (*at++ != '/' || !read_and_try(&at))) return 0;
     return *at == '\n';
 }
@@ -137,5 +159,6 @@ void part_listed(const char *name) {
     about("listed", line);
     holds("that there are enough jobs", jobs >= JOBS);
     holds("that every selection was tried for enough of them", tried >= TRIED);
-    printf("listed: %lu jobs, %lu of them by trying every selection too\n", jobs, tried);
+    holds("that there are enough quick answers", quick >= QUICK);
+    printf("listed: %lu jobs, %lu of them by trying every selection too, and %lu quick answers\n", jobs, tried, quick);
 }

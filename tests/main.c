@@ -6,8 +6,8 @@
 #include <stdio.h>
 #include <string.h>
 
-/* Most of the solver's parts, its large jobs with rows of any length, and the parts of all entries: each third takes about as long as
- * another. */
+/* Most of the solver's parts, with quick answers by hand and in many orders; its large jobs with rows of any length, and drawn quick
+ * answers; and the parts of all entries: each third takes about as long as another. */
 enum { SOLVER, LARGE, ENTRIES, THIRDS };
 static const char *const thirds[THIRDS] = {[SOLVER] = "--solver", [LARGE] = "--large", [ENTRIES] = "--entries"};
 
@@ -16,10 +16,10 @@ static const struct {
     void (*run)(void);
     int third;
 } parts[] = {
-    {part_header, ENTRIES}, {part_solve, SOLVER},  {part_ties, SOLVER},   {part_totals, SOLVER},  {part_light, LARGE},
-    {part_behind, LARGE},   {part_slips, ENTRIES}, {part_write, ENTRIES}, {part_check, ENTRIES},  {part_empty, ENTRIES},
-    {part_drawn, SOLVER},   {part_large, LARGE},   {part_ring, ENTRIES},  {part_claims, ENTRIES}, {part_claims_long, ENTRIES},
-    {part_damage, ENTRIES}, {part_full, ENTRIES},
+    {part_header, ENTRIES}, {part_solve, SOLVER},        {part_ties, SOLVER},         {part_totals, SOLVER},  {part_light, LARGE},
+    {part_behind, LARGE},   {part_quick, SOLVER},        {part_slips, ENTRIES},       {part_write, ENTRIES},  {part_check, ENTRIES},
+    {part_empty, ENTRIES},  {part_quick_orders, SOLVER}, {part_quick_drawn, LARGE},   {part_drawn, SOLVER},   {part_large, LARGE},
+    {part_ring, ENTRIES},   {part_claims, ENTRIES},      {part_claims_long, ENTRIES}, {part_damage, ENTRIES}, {part_full, ENTRIES},
 };
 
 /* The third that a word asks for, or THIRDS. */

@@ -9,6 +9,9 @@ void part_ties(void);                        /* tie_cases.c: jobs for which ever
 void part_totals(void);                      /* total_cases.c: the number of totals, over many words */
 void part_light(void);                       /* light_cases.c: kind 1 in the light way, its row and its bits */
 void part_behind(void);                      /* behind_cases.c: kind 8, cells and picks, rows of any length */
+void part_quick(void);                       /* quick_cases.c: the quick answer, its lists by hand, its refusals and bounds */
+void part_quick_orders(void);                /* quick_orders.c: quick answers of labels in many orders */
+void part_quick_drawn(void);                 /* quick_drawn.c: quick answers of drawn jobs, beside the best value */
 void part_header(void);                      /* header.c: the constants and functions of include/quabnester.h */
 void part_slips(void);                       /* slips.c: the calls of docs/SLIPS.md */
 void part_write(void);                       /* write_cases.c: the writer's refusals, in order, and what it writes */

@@ -1,6 +1,6 @@
 /* Document 01's second program: job bytes, refusals and the room that is needed. All files plain*.c were written from document 01, the
- * requests K1, K3 and K4 and include/quabnester.h, without sight of the planner's sources: that is what makes them a second opinion, and
- * whoever changes them should keep it so. They allocate nothing and keep nothing between calls. */
+ * requests K1, K3, K4 and K5 and include/quabnester.h, without sight of the planner's sources: that is what makes them a second opinion,
+ * and whoever changes them should keep it so. They allocate nothing and keep nothing between calls. */
 #include "plain.h"
 
 /* ---- job bytes */

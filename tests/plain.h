@@ -103,6 +103,9 @@ uint64_t plain_most(const struct plain_job *job, uint32_t k);
  * many selections, and then the answer says nothing. */
 int plain_try(const struct plain_job *job, struct plain_answer *answer);
 
+/* Kind 1's best value alone, by one look at every selection. Answers 0 where there are too many labels. */
+int plain_try_best(const struct plain_job *job, uint64_t *best);
+
 /* A tie rule: labels are read from the last to the first, or from the first on; each count is as small, or as great, as it can be. */
 struct plain_rule {
     int from_last, small;
@@ -121,6 +124,25 @@ void plain_next_row(const struct plain_job *job, uint32_t k, const uint32_t *bef
 
 /* Kind 7 by a sort (plain_share.c). */
 void plain_share(const struct plain_job *job, struct plain_answer *answer);
+
+/* ---- the quick answer for kind 1, of K5 (plain_quick.c) */
+
+struct plain_quick {
+    uint32_t refused;                                 /* 0, or the lowest of 3 to 6 that applies */
+    uint32_t which;                                   /* the list that is handed back: 1 or 2, or 0 on a refusal */
+    uint64_t value;                                   /* what that list is worth */
+    size_t filled;                                    /* so many places of each list are written, with what stands here */
+    uint32_t first[PLAIN_PICKS], second[PLAIN_PICKS]; /* the greedy list, and the single label */
+};
+
+/* The answer on two lists of these lengths. The job is one of kind 1, whatever number it has for its kind. */
+void plain_quick(const struct plain_job *job, size_t first, size_t second, struct plain_quick *answer);
+
+/* Whether label a comes before label b: it has more value per weight, or as much and the lower number. */
+int plain_comes_first(const struct plain_job *job, uint32_t a, uint32_t b);
+
+/* What the numbers of the labels on a list sum to: their weights or values. */
+uint64_t plain_listed(struct plain_list numbers, const uint32_t *list);
 
 /* ---- certificates (plain_check.c) */
 

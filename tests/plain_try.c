@@ -101,6 +101,14 @@ void plain_picks(const struct plain_job *job, struct plain_rule rule, uint32_t *
     for (k = 0; k < job->weights.count; k++) picks[k] = all.best.counts[k];
 }
 
+/* Each label at most once is no more selections than may be tried. */
+int plain_try_best(const struct plain_job *job, uint64_t *best) {
+    if (job->weights.count > LABELS) return 0;
+    left = SELECTIONS;
+    *best = try_all(job, job->weights.count, job->budget, plain_rule(job->kind)).best.value;
+    return 1;
+}
+
 /* ---- the table and the answer */
 
 /* The number that is asked for: a value, whether c is reached, fewest blocks, ways or a weight. */

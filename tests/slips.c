@@ -1,5 +1,5 @@
 /* The calls of docs/SLIPS.md that the program can't show, with the right answers that stand there: on tables that held something, on slices
- * that are too short, and the checker's. The jobs of the other slips are examples/slip-*.job. */
+ * that are too short, the checker's, and quick answers. The jobs of the other slips are examples/slip-*.job. */
 #include "calls.h"
 #include "parts.h"
 #include "tell.h"
@@ -66,6 +66,20 @@ static const struct claim claims[] = {
      .number = 0, .detail = 6},
 };
 
+/* A quick answer of three labels, on lists that held 77, and what comes of it. */
+enum { LABELS = 3 };
+struct quick_call {
+    uint32_t slip, budget, weights[LABELS], values[LABELS];
+    uint32_t first[LABELS], second[LABELS], which, value;
+};
+
+static const struct quick_call quick_calls[] = {
+    {.slip = 28, .budget = 3, .weights = {2, 2, 1}, .values = {2, 3, 1},
+     .first = {0, 1, 1}, .second = {0, 1, 0}, .which = 1, .value = 4},
+    {.slip = 29, .budget = 3, .weights = {2, 2, 1}, .values = {4, 3, 1},
+     .first = {1, 0, 1}, .second = {1, 0, 0}, .which = 1, .value = 5},
+};
+
 static void one_label(struct bytes *bytes, uint32_t kind, uint32_t value, uint32_t budget) {
     static const uint32_t weight = 1;
     static struct job job;
@@ -102,9 +116,24 @@ static void try_claim(const struct claim *claim) {
     verdict_is(&bytes, &certificate, claim->number, claim->detail);
 }
 
+static void try_quick_call(const struct quick_call *call) {
+    uint32_t first[LABELS] = {77, 77, 77}, second[LABELS] = {77, 77, 77}, which = 77, i;
+    uint64_t value = 77;
+    about("slip", call->slip);
+    same("the refusal", 0,
+         quabnester_quick(call->budget, call->weights, LABELS, call->values, LABELS, first, LABELS, second, LABELS, &which, &value));
+    same("which list", call->which, which);
+    same("its value", call->value, value);
+    for (i = 0; i < LABELS; i++) {
+        same_at("the first list's pick", i, call->first[i], first[i]);
+        same_at("the second list's pick", i, call->second[i], second[i]);
+    }
+}
+
 void part_slips(void) {
-    size_t k;
+    size_t k, others = sizeof claims / sizeof claims[0] + sizeof quick_calls / sizeof quick_calls[0];
     for (k = 0; k < sizeof calls / sizeof calls[0]; k++) try_call(&calls[k]);
     for (k = 0; k < sizeof claims / sizeof claims[0]; k++) try_claim(&claims[k]);
-    printf("slips: %d calls\n", (int)(sizeof calls / sizeof calls[0] + sizeof claims / sizeof claims[0]));
+    for (k = 0; k < sizeof quick_calls / sizeof quick_calls[0]; k++) try_quick_call(&quick_calls[k]);
+    printf("slips: %d calls\n", (int)(sizeof calls / sizeof calls[0] + others));
 }
