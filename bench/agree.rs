@@ -1,12 +1,14 @@
 //! Before anything is timed: the Rust gives the library's answers and verdicts, on small jobs and certificates of which many are refused.
 use crate::bounds::{
     are_sizes, copies_used, full_table, most_of, row, values_used, Way, FIRST_CERTIFICATE_REFUSAL, LAST_CHECKED_KIND, LAST_KIND, LAST_REFUSAL,
-    LEAST_COPIES,
+    LEAST_COPIES, MOST_BUDGET, MOST_VALUE, ONCE,
 };
 use crate::checker::{check, Plain, Strong, Verdict};
+use crate::families::Labels;
 use crate::jobs::{bytes_of, said, Draw};
 use crate::ours;
 use crate::plain;
+use crate::quick;
 use crate::request::Job;
 use crate::strong;
 use crate::timing::Table;
@@ -15,6 +17,8 @@ const JOBS: usize = 200_000;
 /// How large a small job is: the bits of a label are of up to four words.
 const MOST_N: u32 = 6;
 const MOST_C: u32 = 200;
+/// The same of quick answers, half of which have labels enough for runs of many lengths.
+const MOST_N_QUICK: u32 = 40;
 
 /// A small job, with a fault in about every second one; in one of a hundred it has as many labels as are allowed, or one more.
 fn small_job(draw: &mut Draw) -> Vec<u8> {
@@ -145,6 +149,75 @@ pub fn compare() {
         assert!(of_kind[0] > 0 && !of_kind[FIRST_CERTIFICATE_REFUSAL..].contains(&0), "a verdict on kind {kind} never came up");
         println!("Certificates of kind {kind}: accepted {} times; refused with {}.", said(of_kind[0]), times(of_kind, FIRST_CERTIFICATE_REFUSAL));
     }
+}
+
+/// Labels for a quick answer, many of them equal, with a fault in about every second job; in one of a hundred they are as many as are allowed, or one
+/// more.
+fn small_labels(draw: &mut Draw) -> Labels {
+    let most = most_of(ONCE).0 as u32;
+    let n = match draw.number(0, 99) {
+        0 => draw.number(most, most + 1),
+        1..50 => draw.number(0, MOST_N),
+        _ => draw.number(0, MOST_N_QUICK),
+    } as usize;
+    let budget = [draw.number(0, MOST_C), draw.number(MOST_BUDGET - MOST_C, MOST_BUDGET)][draw.number(0, 1) as usize];
+    let heaviest = [3, 30, MOST_C + 9, u32::MAX][draw.number(0, 3) as usize];
+    let greatest = [0, 3, MOST_VALUE][draw.number(0, 2) as usize];
+    let mut job = Labels { budget, weights: draw.list(n, 1, heaviest), values: draw.list(n, 0, greatest) };
+    match draw.number(0, 9) {
+        0 => job.values.push(1),
+        1 => job.values.truncate(n / 2),
+        2 => job.budget = draw.number(MOST_BUDGET, MOST_BUDGET + 1),
+        3 => put(draw, &mut job.weights, 0),
+        4 => {
+            let value = draw.number(MOST_VALUE, MOST_VALUE + 1);
+            put(draw, &mut job.values, value);
+        }
+        // no fault: the first label fits, but nothing beside it
+        5 | 6 => job.budget = job.weights.first().map_or(0, |&w| w.min(MOST_BUDGET)),
+        _ => {}
+    }
+    job
+}
+
+/// A number in one of the places, if there are any.
+fn put(draw: &mut Draw, list: &mut [u32], x: u32) {
+    if !list.is_empty() {
+        let at = draw.number(0, list.len() as u32 - 1) as usize;
+        list[at] = x;
+    }
+}
+
+/// Two lists full of dirt, with places to spare, and now and then one that is too short.
+fn dirty_lists(draw: &mut Draw, n: usize) -> [Vec<u32>; 2] {
+    [(); 2].map(|()| vec![7; (n + draw.number(0, 9) as usize).saturating_sub(1)])
+}
+
+/// The same of quick answers.
+pub fn compare_quick() {
+    let mut draw = Draw::new(0x0a95_ee0a_95ee_0a95);
+    let mut seen = [0; LAST_REFUSAL + 1];
+    let mut single = 0;
+    for _ in 0..JOBS {
+        let job = small_labels(&mut draw);
+        let [mut first, mut second] = dirty_lists(&mut draw, job.weights.len());
+        let [mut first_plain, mut second_plain] = [first.clone(), second.clone()];
+        let answer = ours::quick(&job, &mut first, &mut second);
+        let by_rust = quick::answer(&job, &mut first_plain, &mut second_plain);
+        if by_rust != answer || first_plain != first || second_plain != second {
+            eprintln!("quick: ours {answer:?}, plain Rust {by_rust:?}, on the labels {job:?}");
+            std::process::exit(1);
+        }
+        seen[answer.refusal as usize] += 1;
+        single += usize::from(answer.refusal == 0 && answer.first == 2);
+    }
+    assert!(!seen[3..=6].contains(&0) && single > 0, "an end of a quick answer never came up");
+    println!(
+        "{} small quick answers: no difference. The single list {} times; refusals that came up: {}.",
+        said(JOBS),
+        said(single),
+        times(&seen, 1)
+    );
 }
 
 /// The refusals from the first one on that came up, with how often.

@@ -3,9 +3,11 @@ mod agree;
 mod bounds;
 mod certificates;
 mod checker;
+mod families;
 mod jobs;
 mod ours;
 mod plain;
+mod quick;
 mod request;
 mod strong;
 mod timing;
@@ -13,31 +15,40 @@ mod timing;
 use bounds::{Way, ANY, COPIES, FEWEST, LABELS_BEHIND, LAST_CHECKED_KIND, LAST_KIND, MOST_BUDGET, MOST_COPIES, MOST_SIZES, ONCE, SUMS, WAYS};
 use certificates::Case;
 use checker::{Plain, Strong};
+use families::{families, Family, Labels};
 use jobs::{said, Job};
-use request::answered;
+use request::{answered, Answer};
 use timing::{race, race_apart, Alone, Side, Table, Times, LEAST_ROUNDS};
 
 /// No kind is to take more than this of plain Rust's time.
 const GOAL: f64 = 1.05;
+/// And no quick answer more than this, with 1,000 labels and with 50.
+const GOAL_OF_MANY: f64 = 1.3;
+const GOAL_OF_FEW: f64 = 1.1;
 
 fn main() {
     let part = std::env::args().nth(1);
     if !part.as_deref().is_none_or(is_part) {
-        eprintln!("usage: bench/run [1..{LAST_KIND} | check | growth]");
+        eprintln!("usage: bench/run [1..{LAST_KIND} | check | quick | growth]");
         std::process::exit(2);
     }
     agree::compare();
-    if part.as_deref() != Some("growth") {
+    agree::compare_quick();
+    let asked = |name: &str| part.as_deref().is_none_or(|part| part == name);
+    if !matches!(part.as_deref(), Some("quick" | "growth")) {
         ratios(part.as_deref());
     }
-    if part.is_none_or(|part| part == "growth") {
+    if asked("quick") {
+        quick_ratios();
+    }
+    if asked("growth") {
         growth();
     }
 }
 
-/// A kind, the checker or the growth.
+/// A kind, the checker, the quick answers or the growth.
 fn is_part(part: &str) -> bool {
-    part == "check" || part == "growth" || part.parse().is_ok_and(|kind| (1..=LAST_KIND).contains(&kind))
+    matches!(part, "check" | "quick" | "growth") || part.parse().is_ok_and(|kind| (1..=LAST_KIND).contains(&kind))
 }
 
 /// The library against Rust: all kinds and the checker, or one of them.
@@ -84,6 +95,46 @@ fn ways() {
             println!("| {}, {said} | {} | {} |", job.name.trim_start_matches("kind 1, "), time(best[0]), others.join(" | "));
         }
     }
+}
+
+/// Quick answers: the library against Rust.
+fn quick_ratios() {
+    println!("\n| Quick answer | Ours | Plain Rust | Ratio |\n|---|---|---|---|");
+    let sizes = [(1_000, 60_000, 3_000, GOAL_OF_MANY), (50, 500, 100, GOAL_OF_FEW)];
+    let lines = sizes.into_iter().flat_map(|(n, c, heaviest, goal)| families(n, c, heaviest).map(|family| is_line_above(&family, goal)));
+    let above: Vec<bool> = lines.collect();
+    let count = above.iter().filter(|&&above| above).count();
+    println!("\n{count} of {} ratios are above their goal, {GOAL_OF_MANY} with 1,000 labels and {GOAL_OF_FEW} with 50.", above.len());
+}
+
+/// Prints a line of that table, and says whether the ratio is above its goal.
+fn is_line_above(family: &Family, goal: f64) -> bool {
+    let best = answered_quickly(family, 2).best;
+    let ratio = best[0] / best[1];
+    println!("| {} | {} | {} | {} |", family.name, time(best[0]), time(best[1]), marked(ratio, goal));
+    ratio > goal
+}
+
+/// The jobs of a family answered quickly by the first `count` of the library and plain Rust. The times are of one job, as an average of all.
+fn answered_quickly(family: &Family, count: usize) -> Times {
+    let n = family.jobs[0].weights.len();
+    let mut sides = vec![by_turns(&family.jobs, ours::quick), by_turns(&family.jobs, quick::answer)];
+    sides.truncate(count);
+    let mut times = race(&family.name, [Table::new([n, 0, n]), Table::new([n, 0, n])], sides);
+    assert!(times.answer.refusal == 0, "{}: refused", family.name);
+    times.best.iter_mut().for_each(|best| *best /= family.jobs.len() as f64);
+    times
+}
+
+/// A side that answers job after job, with the cells and the picks as its lists. Each call ends with another job, so that the lists of all are compared.
+fn by_turns<'a>(jobs: &'a [Labels], answer: impl Fn(&Labels, &mut [u32], &mut [u32]) -> Answer + 'a) -> Side<'a> {
+    let mut end = 0;
+    Box::new(move |table| {
+        end = end % jobs.len() + 1;
+        let (last, first) = jobs.split_at(end);
+        let answers = first.iter().chain(last).map(|job| answer(job, &mut table.cells, &mut table.picks));
+        answers.fold(answered(0, 0, 0), |all, one| answered(all.refusal.max(one.refusal), all.first + one.first, all.second + one.second))
+    })
 }
 
 /// The two sizes of kinds 1 to 4 and 8.
@@ -154,15 +205,20 @@ fn time(nanoseconds: f64) -> String {
     format!("{number:.digits$} {unit}")
 }
 
+/// A ratio, bold where it is above its goal.
+fn marked(ratio: f64, goal: f64) -> String {
+    let mark = if ratio > goal { "**" } else { "" };
+    format!("{mark}{ratio:.2}{mark}")
+}
+
 /// Prints a line of the table, and gives the ratio to plain Rust.
 fn line(name: &str, times: &Times) -> f64 {
     let ours = times.best[0];
     let ratio = ours / times.best[1];
-    let mark = if ratio > GOAL { "**" } else { "" };
     let refused = if times.answer.refusal > 0 { format!(" (refused {})", times.answer.refusal) } else { String::new() };
     let few = if times.calls[1] < LEAST_ROUNDS { format!(" (plain Rust: best of {})", times.calls[1]) } else { String::new() };
     let strong = times.best.get(2).map_or("|".to_string(), |&strong| format!("{} | {:.2}", time(strong), ours / strong));
-    println!("| {name}{refused}{few} | {} | {} | {mark}{ratio:.2}{mark} | {strong} |", time(ours), time(times.best[1]));
+    println!("| {name}{refused}{few} | {} | {} | {} | {strong} |", time(ours), time(times.best[1]), marked(ratio, GOAL));
     ratio
 }
 
@@ -195,6 +251,11 @@ fn growth() {
         alone(&random)
     };
     println!("\nKind 7, random claims: {} for 500, {} for 1,000; it doesn't grow with C.", shared(500), shared(1_000));
+    let quick = |n| {
+        let [random, ..] = families(n, 60_000, 3_000);
+        time(answered_quickly(&random, 1).best[0])
+    };
+    println!("\nQuick answers, random labels: {} for 500, {} for 1,000.", quick(500), quick(1_000));
     growth_with_counts();
 }
 

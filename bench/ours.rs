@@ -1,5 +1,6 @@
 //! The proved library, by the entries of include/quabnester.h.
 use crate::bounds::{certificate_bytes, Way};
+use crate::families::Labels;
 use crate::request::{answered, Answer, Lent};
 
 extern "C" {
@@ -38,6 +39,19 @@ extern "C" {
         out_len: usize,
         written: *mut u64,
     ) -> u32;
+    fn quabnester_quick(
+        budget: u32,
+        weights: *const u32,
+        weights_len: usize,
+        values: *const u32,
+        values_len: usize,
+        first: *mut u32,
+        first_len: usize,
+        second: *mut u32,
+        second_len: usize,
+        which: *mut u32,
+        value: *mut u64,
+    ) -> u32;
     fn quabnester_check(job: *const u8, job_len: usize, certificate: *const u8, certificate_len: usize) -> u32;
     fn quabnester_check_detail(job: *const u8, job_len: usize, certificate: *const u8, certificate_len: usize) -> u64;
 }
@@ -66,6 +80,28 @@ pub fn solve(job: &[u8], lent: Lent, way: Way) -> Answer {
         )
     };
     answered(refusal, first, second)
+}
+
+/// A quick answer: which list it is, and its worth.
+pub fn quick(job: &Labels, first: &mut [u32], second: &mut [u32]) -> Answer {
+    let Labels { budget, weights, values } = job;
+    let (mut which, mut value) = (0, 0);
+    let refusal = unsafe {
+        quabnester_quick(
+            *budget,
+            weights.as_ptr(),
+            weights.len(),
+            values.as_ptr(),
+            values.len(),
+            first.as_mut_ptr(),
+            first.len(),
+            second.as_mut_ptr(),
+            second.len(),
+            &mut which,
+            &mut value,
+        )
+    };
+    answered(refusal, which.into(), value)
 }
 
 /// The certificate of what an answer left; none where it is refused.
