@@ -75,3 +75,4 @@ mod CornersShares
 mod CornersAnswers
 mod CornersVerdicts
 mod CornersWriter
+pub mod CornersQuick
