@@ -84,7 +84,7 @@ module _ {j : Job} {a : Quick} {greedy single : List ℕ} (unrefused : quickRefu
   with-none t = with-single (no-single-out j single t)
 
 -- case A of document 01
-caseA-quickly : Quickly caseA (First 9) (1 ∷ 1 ∷ 0 ∷ []) (0 ∷ 0 ∷ 1 ∷ [])
+pub caseA-quickly : Quickly caseA (First 9) (1 ∷ 1 ∷ 0 ∷ []) (0 ∷ 0 ∷ 1 ∷ [])
 unfolding opens nines isGreedy isSingle
 caseA-quickly = with-label refl tt refl 2 tt
 
@@ -134,7 +134,7 @@ unfolding opens nines isGreedy isSingle
 heaviest = with-label refl tt refl 0 tt
 
 -- one label is worth more than the greedy list
-single-wins : Quickly (quickJob 10 (1 ∷ 10 ∷ []) (2 ∷ 10 ∷ [])) (Second 10) (1 ∷ 0 ∷ []) (0 ∷ 1 ∷ [])
+pub single-wins : Quickly (quickJob 10 (1 ∷ 10 ∷ []) (2 ∷ 10 ∷ [])) (Second 10) (1 ∷ 0 ∷ []) (0 ∷ 1 ∷ [])
 unfolding opens nines isGreedy isSingle
 single-wins = with-label refl tt refl 1 tt
 

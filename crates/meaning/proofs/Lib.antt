@@ -75,4 +75,5 @@ mod CornersShares
 mod CornersAnswers
 mod CornersVerdicts
 mod CornersWriter
-pub mod CornersQuick
+mod CornersQuick
+mod QuickWrong
