@@ -1,5 +1,5 @@
--- The quick answer on small jobs, by computation: the order of two labels, both lists, and which of them is handed back with its value; refusals 3 to 6, and
--- the answer's numbers. No law of the order is cited here, so a definition that is altered shows in these cases.
+-- The quick answer on small jobs, by computation: the order of two labels, both lists, and which of them is named with its value; refusals 3 to 6,
+-- and the answer's numbers. A definition that is altered shows here, for no law is cited.
 -- Assumes nothing.
 use mathlib.Core.Path.{_≡_, ap, refl, sym}
 use Prim.Native.Nat.{ℕ, suc}

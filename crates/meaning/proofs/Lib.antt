@@ -76,4 +76,5 @@ mod CornersAnswers
 mod CornersVerdicts
 mod CornersWriter
 mod CornersQuick
+-- wrong quick answers, by these cases
 mod QuickWrong

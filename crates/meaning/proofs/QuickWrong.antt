@@ -1,5 +1,5 @@
--- Wrong quick answers that the promise rules out: lists that aren't the greedy or the single one, and calls that name the wrong list, the wrong value, or write
--- nothing. (QuickPromise has what every answer is held to.) And that the bound of half can't be raised to 51 in a hundred.
+-- Wrong quick answers that the promise rules out: lists that aren't the greedy or the single one, and calls that name or hand back the wrong list, or
+-- write nothing (QuickPromise has what every answer is held to); and that the bound of half can't be raised to 51 in a hundred.
 -- Assumes nothing.
 use mathlib.Core.Path.{_≡_, ap, ap₂, refl}
 use Prim.Native.Nat.{ℕ, _*_, _<_, _≤_}
@@ -95,8 +95,12 @@ module _ (j : Job) (first second : List ℕ) (ok : quickRefusal j (length first)
   leaves-second : (i : ℕ) → i < labels j → 1 < at second i → (a : Quick) (f : List ℕ) → ¬ Filled j first second a f second
   leaves-second i h no-pick a f filled = omega (arith, second-written j first second ok a f second filled i h)
 
--- the greedy list named where the single one is worth more
-greedy-for-less : (v : ℕ) (f s : List ℕ) → let j = quickJob 10 (1 ∷ 10 ∷ []) (2 ∷ 10 ∷ []) in ¬ Filled j (nines j) (nines j) (First v) f s
+-- a label of 1 worth 2, and one of 10 worth 10, which is more than the greedy list
+abbrev heavier : Job
+heavier = quickJob 10 (1 ∷ 10 ∷ []) (2 ∷ 10 ∷ [])
+
+-- the greedy list named
+greedy-for-less : (v : ℕ) (f s : List ℕ) → ¬ Filled heavier (nines heavier) (nines heavier) (First v) f s
 unfolding opens
 greedy-for-less v f s filled =
     let right = no-second-filling _ _ _ _ _ _ _ _ _ filled (single-wins .call) .answer in
@@ -104,7 +108,8 @@ greedy-for-less v f s filled =
     omega arith
 
 -- the single list in the first one, and the greedy list in the second
-lists-exchanged : (a : Quick) → ¬ Filled caseA (nines caseA) (nines caseA) a (over (0 ∷ 0 ∷ 1 ∷ []) (nines caseA)) (over (1 ∷ 1 ∷ 0 ∷ []) (nines caseA))
+lists-exchanged : (a : Quick)
+    → ¬ Filled caseA (nines caseA) (nines caseA) a (over (0 ∷ 0 ∷ 1 ∷ []) (nines caseA)) (over (1 ∷ 1 ∷ 0 ∷ []) (nines caseA))
 unfolding opens
 lists-exchanged a filled =
     let right = no-second-filling _ _ _ _ _ _ _ _ _ filled (caseA-quickly .call) .in-first in
@@ -125,15 +130,13 @@ module _ (j : Job) (m n : ℕ) (first second place : ℕ × ℕ) (p : List ℕ) 
   another-length : ¬ (length p ≡ labels j) → ¬ Picked j m n first second place p
   another-length other picked = other (pick-fits j m n first second ok place p picked .selection .one-each)
 
--- the greedy list, where the single one is worth more
-lesser-handed-back : (first second : ℕ × ℕ) → ¬ (first ≡ second) → (p : List ℕ)
-    → ¬ Picked (quickJob 10 (1 ∷ 10 ∷ []) (2 ∷ 10 ∷ [])) 2 2 first second first p
+-- the list that is worth less
+lesser-handed-back : (first second : ℕ × ℕ) → ¬ (first ≡ second) → (p : List ℕ) → ¬ Picked heavier 2 2 first second first p
 unfolding opens PickedAs isGreedy isSingle
 lesser-handed-back first second apart p picked =
-    let j = quickJob 10 (1 ∷ 10 ∷ []) (2 ∷ 10 ∷ []) in
-    let right : Picked j 2 2 first second second (0 ∷ 1 ∷ []) =
-    record { kept = the-second (1 ∷ 0 ∷ []) refl (single-out j 1 (0 ∷ 1 ∷ []) tt) (greedy-out j (1 ∷ 0 ∷ []) tt) (lit≤ tt) } in
-    apart (no-second-pick j 2 2 first second first second p (0 ∷ 1 ∷ []) picked right .where-it-is)
+    let right : Picked heavier 2 2 first second second (0 ∷ 1 ∷ []) =
+    record { kept = the-second (1 ∷ 0 ∷ []) refl (single-out heavier 1 (0 ∷ 1 ∷ []) tt) (greedy-out heavier (1 ∷ 0 ∷ []) tt) (lit≤ tt) } in
+    apart (no-second-pick heavier 2 2 first second first second p (0 ∷ 1 ∷ []) picked right .where-it-is)
 
 -- ---- calls that are refused: another answer, and one that writes
 
@@ -166,13 +169,12 @@ room-for-three : (m n : ℕ) → 3 ≤ m → 3 ≤ n → quickRefusal nearHalf m
 unfolding opens
 room-for-three m n h l = ap₂ (λ (one other : Bool). if (not (one && other)) 6 0) (le-leb 3 m h) (le-leb 3 n l)
 
--- it can't be 51 in a hundred: every call on this job says less than that of the best value
+-- it can't be 51 in a hundred: on this job every call names less than that of the best value
 tight : (first second : List ℕ) → 3 ≤ length first → 3 ≤ length second → (a : Quick) (f s : List ℕ) → Filled nearHalf first second a f s
     → (best : ℕ) → BestValue once nearHalf 3 1_000 best → 100 * (quickNumbers a .value) < 51 * best
 unfolding opens BestPicks
 tight first second h l a f s filled best b =
-    let says : a ≡ First 502 =
-    with-any-lists nearHalf (First 502) _ _ half-quickly first second (room-for-three _ _ h l) a f s filled in
+    let says : a ≡ First 502 = with-any-lists nearHalf (First 502) _ _ half-quickly first second (room-for-three _ _ h l) a f s filled in
     let value : quickNumbers a .value ≡ 502 = ap (λ (x : Quick). quickNumbers x .value) says in
     let more : 1_000 ≤ total (nearHalf .values) (b .picks) = b .best .greatest (0 ∷ 1 ∷ 1 ∷ []) (half-best .one-of .fits) in
     omega (arith, b .value)
