@@ -75,3 +75,6 @@ mod CornersShares
 mod CornersAnswers
 mod CornersVerdicts
 mod CornersWriter
+mod CornersQuick
+-- wrong quick answers, by these cases
+mod QuickWrong

@@ -13,11 +13,12 @@ use Rattle.meaning.specs.Light.{labelBit}
 use Rattle.meaning.specs.Behind.{totalOrder}
 use Rattle.meaning.specs.Blocks.{blockOrder, tooMany}
 use Rattle.meaning.specs.Shares.{startOf, remainderOf, spareOf, precedes, rankOf, shareOf, sharesOf}
-use Rattle.meaning.specs.Answers.{answerNumbers, verdictNumbers, writtenNumbers}
+use Rattle.meaning.specs.Answers.{answerNumbers, verdictNumbers, writtenNumbers, quickNumbers}
 use Rattle.meaning.specs.Solved.{waysAnswer}
 use Rattle.meaning.specs.Certificates.{orElse, first, someOf, mostPicks, certificateCells, certificateCell, cellAt, belowWith, lowInRow}
 use Rattle.meaning.specs.Certificates.{lowForOne, tooLow, overPicked, overweight, lowCell, misvalued, unlessFound, verdictOnCells, certificateBroken}
 use Rattle.meaning.specs.Certificates.{verdictOnCertificate, certifiedKnapsack, verdictFor, unlessRefused, verdictOnJob, verdictOf}
+use Rattle.meaning.specs.Quick.{goesBefore, keptBefore, stillFits, quickRefusal, worthier}
 
 unfoldable pub opens : Unit {0}
 unfolding sum total every upTo if tally
@@ -32,9 +33,10 @@ unfolding sum total every upTo if tally
     totalOrder
     blockOrder tooMany
     startOf remainderOf spareOf precedes rankOf shareOf sharesOf
-    answerNumbers verdictNumbers writtenNumbers
+    answerNumbers verdictNumbers writtenNumbers quickNumbers
     waysAnswer
     orElse first someOf mostPicks certificateCells certificateCell cellAt belowWith lowInRow lowForOne tooLow overPicked overweight lowCell
     misvalued unlessFound verdictOnCells certificateBroken verdictOnCertificate certifiedKnapsack
     verdictFor unlessRefused verdictOnJob verdictOf
+    goesBefore keptBefore stillFits quickRefusal worthier
 opens = tt
