@@ -18,6 +18,7 @@ use Rattle.meaning.specs.Knapsacks.{Fits, BestValue, MayPick}
 use Rattle.meaning.specs.Answers.{QuickNumbers, quickNumbers}
 use Rattle.meaning.specs.Quick.{Greedy, Single, quickRefusal, worthier, BothFilled, NoneFilled, FilledAs, Filled}
 use Rattle.meaning.specs.Quick.{Worthier, the-first, the-second, EmptyPart, PickedAs, Picked}
+use Rattle.meaning.specs.Host.{QuickHost}
 use Rattle.meaning.proofs.Unique.{holds-unique}
 use Rattle.meaning.proofs.Laws.{holds-first, held-at}
 use Rattle.meaning.proofs.Valid.{has-passed, is-valid, past-if, Valid, weight-rule}
@@ -300,3 +301,26 @@ module _ (j : Job) (m n : ℕ) (first second : ℕ × ℕ) where
       go : (r : ℕ) → quickRefusal j m n ≡ r → PickedAs r j first second place p → PickedAs r j first second place′ p′ → OnePick place place′ p p′
       go zero e x y = worthier-unique e place place′ p p′ x y
       go (suc r) e x y = record { where-it-is = x .of-first ∙ sym (y .of-first); list = x .empty ∙ sym (y .empty) }
+
+-- ---- the entry for C
+
+-- one number for each, and one content of each list
+pub record OneQuickCall (r r′ which which′ value value′ : ℕ) (first first′ second second′ : List ℕ) : Type 0 where
+  pub refusal : r ≡ r′
+  pub which-same : which ≡ which′
+  pub value-same : value ≡ value′
+  pub in-first : first ≡ first′
+  pub in-second : second ≡ second′
+
+pub one-host-quick : (j : Job) (first second f f′ s s′ : List ℕ) (r r′ which which′ value value′ : ℕ)
+    → QuickHost j first second r which value f s → QuickHost j first second r′ which′ value′ f′ s′ → OneQuickCall r r′ which which′ value value′ f f′ s s′
+one-host-quick j first second f f′ s s′ r r′ which which′ value value′ x y =
+    let one = no-second-filling j first second (x .answer) (y .answer) f f′ s s′ (x .filled) (y .filled) in
+    let said : quickNumbers (x .answer) ≡ quickNumbers (y .answer) = ap quickNumbers (one .answer) in
+    record {
+      refusal = x .refusal ∙ ap (λ (n : QuickNumbers). n .refusal) said ∙ sym (y .refusal);
+      which-same = x .which-is ∙ ap (λ (n : QuickNumbers). n .which) said ∙ sym (y .which-is);
+      value-same = x .value-is ∙ ap (λ (n : QuickNumbers). n .value) said ∙ sym (y .value-is);
+      in-first = one .in-first;
+      in-second = one .in-second;
+    }

@@ -41,13 +41,17 @@ pub record Greedy (j : Job) (p : List ℕ) : Type 0 where
 
 -- ---- the single label
 
+-- label i fits by itself
+abbrev pub FitsAlone : Job → ℕ → Type 0
+FitsAlone j i = at (j .weights) i ≤ j .budget
+
 -- of the labels that fit, label k has the highest value, which is not 0, and is the first that has it
 pub record Highest (j : Job) (k : ℕ) : Type 0 where
   pub label : k < labels j
-  pub fits : at (j .weights) k ≤ j .budget
+  pub fits : FitsAlone j k
   pub worth : 0 < at (j .values) k
-  pub highest : (i : ℕ) → i < labels j → at (j .weights) i ≤ j .budget → at (j .values) i ≤ at (j .values) k
-  pub first : (i : ℕ) → i < k → at (j .weights) i ≤ j .budget → at (j .values) i < at (j .values) k
+  pub highest : (i : ℕ) → i < labels j → FitsAlone j i → at (j .values) i ≤ at (j .values) k
+  pub first : (i : ℕ) → i < k → FitsAlone j i → at (j .values) i < at (j .values) k
 
 -- s keeps label k of n, once, and no other
 pub record KeepsOnly (n k : ℕ) (s : List ℕ) : Type 0 where
@@ -62,7 +66,7 @@ pub record KeepsNone (n : ℕ) (s : List ℕ) : Type 0 where
 
 -- every label that fits is worth 0
 unfoldable pub Worthless : Job → Type 0
-Worthless j = (i : ℕ) → i < labels j → at (j .weights) i ≤ j .budget → at (j .values) i ≡ 0
+Worthless j = (i : ℕ) → i < labels j → FitsAlone j i → at (j .values) i ≡ 0
 
 -- s is the single list: that label, or none where the best is 0
 pub data Single (j : Job) (s : List ℕ) : Type 0 where

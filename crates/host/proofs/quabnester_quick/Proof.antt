@@ -1,0 +1,97 @@
+-- `host::quabnester_quick` meets its contract: the quick answer as numbers.
+-- Assumes nothing.
+use Rattle.meaning.specs.Answers.{quickNumbers}
+use borrow.Author.Needs.{needs}
+use Rattle.host.proofs.quabnester_quick.Statement.{statement}
+use Rattle.host.proofs.quabnester_quick.Tie as tie
+
+-- what the quick answer was, from the match
+abbrev answered : tie.After-slice-known4 → tie.After-fill
+answered c = c .before .before .before .before
+
+fill-requires : tie.Need-fill-requires
+fill-requires c κs = search needs
+
+enum-known-answer : tie.Need-enum-known-answer
+enum-known-answer c = search needs
+
+enum-known-answer-2 : tie.Need-enum-known-answer-2
+enum-known-answer-2 c = search needs
+
+enum-known-answer-3 : tie.Need-enum-known-answer-3
+enum-known-answer-3 c = search needs
+
+same-length : tie.Need-same-length
+same-length c = search needs
+
+same-length-2 : tie.Need-same-length-2
+same-length-2 c = search needs
+
+returns : tie.Need-returns
+unfolding quickNumbers
+returns c =
+    let known = c .before in
+    let told = answered (known .before .before) .fill in
+    record {
+      answer = told .result;
+      filled = told .ensures;
+      refusal = rw (known .answer .given .1);
+      which-is = rw (known .answer .given .1);
+      value-is = rw (known .answer .given .1);
+    }
+
+same-length-3 : tie.Need-same-length-3
+same-length-3 c = search needs
+
+same-length-4 : tie.Need-same-length-4
+same-length-4 c = search needs
+
+returns-2 : tie.Need-returns-2
+unfolding quickNumbers
+returns-2 c =
+    let known = c .before in
+    let told = answered (known .before .before) .fill in
+    record {
+      answer = told .result;
+      filled = told .ensures;
+      refusal = rw (known .answer2 .given .1);
+      which-is = rw (known .answer2 .given .1);
+      value-is = rw (known .answer2 .given .1);
+    }
+
+same-length-5 : tie.Need-same-length-5
+same-length-5 c = search needs
+
+same-length-6 : tie.Need-same-length-6
+same-length-6 c = search needs
+
+returns-3 : tie.Need-returns-3
+unfolding quickNumbers
+returns-3 c =
+    let known = c .before in
+    let told = answered (known .before .before) .fill in
+    record {
+      answer = told .result;
+      filled = told .ensures;
+      refusal = rw (known .answer3 .given .1);
+      which-is = rw (known .answer3 .given .1);
+      value-is = rw (known .answer3 .given .1);
+    }
+
+pub quabnester-quick-spec : {M : Type 1} → statement M
+quabnester-quick-spec =
+    tie.close
+    (tie.spec
+    fill-requires
+    enum-known-answer
+    enum-known-answer-2
+    enum-known-answer-3
+    same-length
+    same-length-2
+    returns
+    same-length-3
+    same-length-4
+    returns-2
+    same-length-5
+    same-length-6
+    returns-3)
