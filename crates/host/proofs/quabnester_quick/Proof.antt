@@ -1,5 +1,6 @@
 -- `host::quabnester_quick` meets its contract: the quick answer as numbers.
 -- Assumes nothing.
+use mathlib.Core.Path.{refl}
 use Rattle.meaning.specs.Answers.{quickNumbers}
 use borrow.Author.Needs.{needs}
 use Rattle.host.proofs.quabnester_quick.Statement.{statement}
@@ -35,9 +36,9 @@ returns c =
     record {
       answer = told .result;
       filled = told .ensures;
-      refusal = rw (known .answer .given .1);
-      which-is = rw (known .answer .given .1);
-      value-is = rw (known .answer .given .1);
+      refusal = rw (known .answer .given .1) refl;
+      which-is = rw (known .answer .given .1) refl;
+      value-is = rw (known .answer .given .1) refl;
     }
 
 same-length-3 : tie.Need-same-length-3
@@ -54,9 +55,9 @@ returns-2 c =
     record {
       answer = told .result;
       filled = told .ensures;
-      refusal = rw (known .answer2 .given .1);
-      which-is = rw (known .answer2 .given .1);
-      value-is = rw (known .answer2 .given .1);
+      refusal = rw (known .answer2 .given .1) refl;
+      which-is = rw (known .answer2 .given .1) refl;
+      value-is = rw (known .answer2 .given .1) refl;
     }
 
 same-length-5 : tie.Need-same-length-5
@@ -73,9 +74,9 @@ returns-3 c =
     record {
       answer = told .result;
       filled = told .ensures;
-      refusal = rw (known .answer3 .given .1);
-      which-is = rw (known .answer3 .given .1);
-      value-is = rw (known .answer3 .given .1);
+      refusal = rw (known .answer3 .given .1) refl;
+      which-is = rw (known .answer3 .given .1) refl;
+      value-is = rw (known .answer3 .given .1) refl;
     }
 
 pub quabnester-quick-spec : {M : Type 1} → statement M
