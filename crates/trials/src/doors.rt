@@ -7,14 +7,14 @@ ghost use Prim.Native.Nat.{_≤_};
 ghost use lib.ListN.{length};
 
 // Where the weights' count stands.
-const WEIGHTS: usize = 4;
+pub const WEIGHTS: usize = 4;
 
 // How many cells, words and picks are lent where a job says nothing of it, and how many bytes a job may have: more than any of the list needs.
 const CELLS: usize = 131_072;
 
 const WORDS: usize = 65_536;
 
-const PICKS: usize = 4_096;
+pub const PICKS: usize = 4_096;
 
 const BYTES: usize = 65_536;
 
@@ -31,7 +31,7 @@ pub fn wide(x: u32) -> usize {
 }
 
 // The number at a place.
-fn at(numbers: &[u32], place: usize) -> u32 {
+pub fn at(numbers: &[u32], place: usize) -> u32 {
     if place < numbers.len() {
         return numbers[place];
     }
@@ -39,7 +39,7 @@ fn at(numbers: &[u32], place: usize) -> u32 {
 }
 
 // The place after the list whose count stands at a place.
-fn after(numbers: &[u32], place: usize) -> usize {
+pub fn after(numbers: &[u32], place: usize) -> usize {
     std::num::wrapping_add_usize(
         place,
         std::num::wrapping_add_usize(wide(at(numbers, place)), 1),
@@ -47,7 +47,7 @@ fn after(numbers: &[u32], place: usize) -> usize {
 }
 
 // The list whose count stands at a place.
-fn list(numbers: &[u32], place: usize) -> &[u32] {
+pub fn list(numbers: &[u32], place: usize) -> &[u32] {
     let end = lesser(after(numbers, place), numbers.len());
     let start = lesser(std::num::wrapping_add_usize(place, 1), end);
     &numbers[start..end]
@@ -59,7 +59,7 @@ fn end_of_job(numbers: &[u32]) -> usize {
 }
 
 // How many cells, words or picks are lent, of so many: the first, second or third number of the list after the copies.
-fn lent(numbers: &[u32], which: usize, most: usize) -> usize
+pub fn lent(numbers: &[u32], which: usize, most: usize) -> usize
     ensures { λ r. ⌜ r ≤ most ⌝ }
 {
     let place = end_of_job(numbers);

@@ -1,8 +1,10 @@
 // The trials of document 01 that standard input lists: its cases, whose mark is `-`, or `=` where kind 1 goes the full way, and its bounds, whose mark
-// is `>`, with what comes at the bound and one past it. Each job is answered as lists and as bytes, on slices that held something else before. Lines
-// with no mark are words for who reads the list. The gate holds the print to the file stdout.
+// is `>`, with what comes at the bound and one past it. Each job is answered as lists and as bytes, on slices that held something else before; a job
+// whose mark is `~` gets a quick answer, which there is for lists alone. Lines with no mark are words for who reads the list. The gate holds the print
+// to the file stdout.
 mod doors;
 mod lines;
+mod quickly;
 mod reading;
 
 use bytes::scan::find;
@@ -26,17 +28,28 @@ fn run_bound(line: &[u8], colon: usize, as_bytes: bool) {
     lines::text(b"\n");
 }
 
-// A case or a bound, after its name.
+// The job of a quick answer.
+fn run_quick(line: &[u8], colon: usize) {
+    lines::text(b"\n");
+    let mut numbers = [0u32; 16_384];
+    reading::read_job(line, colon, &mut numbers);
+    quickly::answer(&numbers);
+}
+
+// A case, a bound or a quick answer, after its name.
 fn trial(way: Way, line: &[u8], as_bytes: bool) {
     let colon = find(line, 0, line.len(), b':');
     if colon == 0 {
         return;
     }
     lines::text(&line[1..colon]);
-    if line[0] == b'>' {
-        return run_bound(line, colon, as_bytes);
+    match line[0] {
+        b'>' => run_bound(line, colon, as_bytes),
+        b'~' => run_quick(line, colon),
+        _ => {
+            run_job(way, line, colon, as_bytes, true);
+        }
     }
-    run_job(way, line, colon, as_bytes, true);
 }
 
 // A case or a bound, as lists and as bytes.
@@ -51,6 +64,7 @@ fn run_line(line: &[u8]) {
     match mark {
         b'-' | b'>' => both(Way::Light, line),
         b'=' => both(Way::Full, line),
+        b'~' => trial(Way::Light, line, false),
         _ => {}
     }
 }
