@@ -3,6 +3,7 @@
 -- labels put in order
 pub mod Runs
 pub mod Choosing
+pub mod Laying
 pub mod Merging
 -- the greedy list, label by label in order
 pub mod Settling
