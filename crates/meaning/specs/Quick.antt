@@ -75,7 +75,8 @@ pub data Single (j : Job) (s : List ℕ) : Type 0 where
 
 -- ---- both lists, for every input
 
--- refusals 3 to 6, the lowest that applies, where the two lists have these lengths; 0 for none. The rules are kind 1's, and 6 is given if either list is short
+-- refusals 3 to 6, the lowest that applies, where the two lists have these lengths; 0 for none. The rules are kind 1's, and 6 is given if either list
+-- is short
 unfoldable pub quickRefusal : Job → ℕ → ℕ → ℕ
 quickRefusal j first-length second-length =
     jobRefusal (rulesOf (packing once)) j (if (not (leb (labels j) first-length && leb (labels j) second-length)) 6 0)
@@ -85,8 +86,8 @@ unfoldable pub worthier : Job → List ℕ → List ℕ → Quick
 worthier j greedy single =
     if (ltb (total (j .values) greedy) (total (j .values) single)) (Hands.Second (total (j .values) single)) (Hands.First (total (j .values) greedy))
 
--- a job that isn't refused: the first n places of the first list get the greedy list, those of the second the single one, and past them stands what stood
--- there; the answer says which is the worthier
+-- a job that isn't refused: the first n places of the first list get the greedy list, those of the second the single one, and past them stands what
+-- stood there; the answer says which is the worthier
 pub record BothFilled (j : Job) (first second : List ℕ) (a : Quick) (first′ second′ : List ℕ) : Type 0 where
   pub greedy : List ℕ
   pub single : List ℕ
