@@ -16,8 +16,9 @@ use Rattle.meaning.specs.Shares.{startOf, remainderOf, spareOf, precedes
 use Rattle.meaning.specs.Answers.{answerNumbers, verdictNumbers, writtenNumbers, quickNumbers}
 use Rattle.meaning.specs.Solved.{waysAnswer}
 use Rattle.meaning.specs.Certificates.{orElse, first, someOf, mostPicks, certificateCells, certificateCell, cellAt, belowWith, lowInRow}
-use Rattle.meaning.specs.Certificates.{lowForOne, tooLow, overPicked, overweight, lowCell, misvalued, unlessFound, verdictOnCells, certificateBroken}
-use Rattle.meaning.specs.Certificates.{verdictOnCertificate, certifiedKnapsack, verdictFor, unlessRefused, verdictOnJob, verdictOf}
+use Rattle.meaning.specs.Certificates.{lowForOne, tooLow, overPicked, overweight, lowCell, misvalued, unlessFound, verdictOnCells}
+use Rattle.meaning.specs.Certificates.{certificateBroken, verdictOnCertificate, certifiedKnapsack}
+use Rattle.meaning.specs.Certificates.{verdictFor, unlessRefused, verdictOnJob, verdictOf}
 use Rattle.meaning.specs.Quick.{goesBefore, keptBefore, stillFits, quickRefusal, worthier}
 
 unfoldable pub opens : Unit {0}

@@ -2,7 +2,7 @@
 -- Assumes nothing.
 use mathlib.Core.Path.{_≡_, refl, sym, ap, _∙_}
 use mathlib.Core.Logic.{inl, inr}
-use Prim.Native.Nat.{ℕ, suc, _+_, _*_, _≤_, _<_}
+use Prim.Native.Nat.{ℕ, suc, _+_, _≤_, _<_}
 use native.Mathlib.Decide.{ℕ-discrete}
 use native.Mathlib.Nat.{le-refl}
 use native.Mathlib.Omega.{arith}
@@ -14,7 +14,8 @@ use mir.Facts.{and-yes, leb-yes, eqb-no, no-eqb}
 use Rattle.meaning.specs.Lists.{at, total, if}
 use Rattle.meaning.specs.Job.{Job, labels, once}
 use Rattle.meaning.specs.Knapsacks.{Fits, MayPick}
-use Rattle.meaning.proofs.Totals.{one-more, length-more, more-total, at-more, at-more-other, one-fewer, length-fewer, fewer-total, at-fewer, at-fewer-other}
+use Rattle.meaning.proofs.Totals.{one-more, length-more, more-total, at-more, at-more-other}
+use Rattle.meaning.proofs.Totals.{one-fewer, length-fewer, fewer-total, at-fewer, at-fewer-other}
 use Rattle.meaning.specs.Quick.{goesBefore, keptBefore, stillFits, Greedy, Single, one-label, no-label}
 use Rattle.meaning.proofs.EachLabel.{total-same, total-zeros}
 use Rattle.meaning.proofs.QuickOrder.{First, first-of, greedy-ordered, backwards, not-self, one-or-other}
@@ -46,14 +47,18 @@ module _ (j : Job) where
   abbrev w : ℕ → ℕ
   w i = at (j .weights) i
 
+  abbrev before : ℕ → ℕ → Bool
+  before i m = goesBefore (j .values) (j .weights) i m
+
   -- a list of ones and zeros that is light enough fits
-  fits-of : (p : List ℕ) → length p ≡ labels j → ((i : ℕ) → i < labels j → at p i ≤ 1) → total (j .weights) p ≤ j .budget → Fits once j (labels j) (j .budget) p
+  fits-of : (p : List ℕ) → length p ≡ labels j → ((i : ℕ) → i < labels j → at p i ≤ 1) → total (j .weights) p ≤ j .budget
+      → Fits once j (labels j) (j .budget) p
   unfolding MayPick
   fits-of p long ones light = record { selection = record { one-each = long; allowed = ones }; weight = light }
 
   module _ (light : (i : ℕ) → i < labels j → 1 ≤ w i) (p : List ℕ) (g : Greedy j p) where
     -- the last label that is kept let in all before it, and none stands behind it
-    module _ (d : First (λ i m. goesBefore (j .values) (j .weights) m i) (λ i. not (eqb (at p i) 0)) (labels j)) where
+    module _ (d : First (λ i m. before m i) (λ i. not (eqb (at p i) 0)) (labels j)) where
       abbrev k : ℕ
       k = d .label
 
@@ -66,15 +71,18 @@ module _ (j : Job) where
       same : (m : ℕ) → m < labels j → at p m ≡ at (one-more a k) m
       unfolding if
       same m h = elim (ℕ-discrete m k) [
-        | yes here ↦ rw here (kept .1 ∙ sym (at-more a k (omega (arith, kept-long j p k, d .inside)) ∙ ap suc (kept-at j p k k (d .inside) ∙ off (goesBefore (j .values) (j .weights) k k) (not-self (j .values) (j .weights) k))))
-        | no other ↦ sym (at-more-other a k m other ∙ kept-at j p k m h ∙ go other (goesBefore (j .values) (j .weights) m k) refl)
+        | yes here ↦
+            let fits : k < length a = omega (arith, kept-long j p k, d .inside) in
+            let none = kept-at j p k k (d .inside) ∙ off (before k k) (not-self (j .values) (j .weights) k) in
+            rw here (kept .1 ∙ sym (at-more a k fits ∙ ap suc none))
+        | no other ↦ sym (at-more-other a k m other ∙ kept-at j p k m h ∙ go other (before m k) refl)
       ]
         where
           off : (b : Bool) → (T b → ⊥) → if b (at p k) 0 ≡ 0
           off true no′ = absurd (no′ tt)
           off false no′ = refl
 
-          go : ¬ (m ≡ k) → (b : Bool) → goesBefore (j .values) (j .weights) m k ≡ b → if b (at p m) 0 ≡ at p m
+          go : ¬ (m ≡ k) → (b : Bool) → before m k ≡ b → if b (at p m) 0 ≡ at p m
           go other true e = refl
           go other false e =
               elim (ℕ-discrete (at p m) 0) [
@@ -99,8 +107,9 @@ module _ (j : Job) where
 
     pub greedy-fits : Fits once j (labels j) (j .budget) p
     greedy-fits =
+        let order = backwards (greedy-ordered (j .values) (j .weights) (labels j) light) in
         fits-of p (g .one-each) (greedy-ones p g)
-        (elim (first-of (backwards (greedy-ordered (j .values) (j .weights) (labels j) light)) (λ i. not (eqb (at p i) 0)) (labels j) (le-refl (labels j))) [
+        (elim (first-of order (λ i. not (eqb (at p i) 0)) (labels j) (le-refl (labels j))) [
           | inl none ↦ omega (arith, total-zeros (j .weights) p (labels j) (g .one-each) (λ m h. zero-at m (none m h)))
           | inr d ↦ weight d
         ])

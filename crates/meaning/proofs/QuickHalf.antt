@@ -57,6 +57,9 @@ module _ (j : Job) (light : (i : ℕ) → i < labels j → 1 ≤ at (j .weights)
   abbrev w : ℕ → ℕ
   w i = at (j .weights) i
 
+  abbrev before : ℕ → ℕ → Bool
+  before i m = goesBefore (j .values) (j .weights) i m
+
   -- a label that fits is worth no more than the single list
   pub single-worth : (s : List ℕ) → Single j s → (k : ℕ) → k < labels j → w k ≤ j .budget → v k ≤ total (j .values) s
   unfolding Worthless
@@ -75,7 +78,9 @@ module _ (j : Job) (light : (i : ℕ) → i < labels j → 1 ≤ at (j .weights)
       where
         go : (x : ℕ) → at q m ≡ x → (at q m ≡ 0) ⊎ (w m ≤ j .budget)
         go zero e = inl e
-        go (suc x) e = inr (omega (arith, total-part (j .weights) q m, fit .weight, mul-le-mul-left {m = 1} {n = at q m} (w m) (omega arith), mul-one (w m)))
+        go (suc x) e =
+            let heavy = mul-le-mul-left {m = 1} {n = at q m} (w m) (omega arith) in
+            inr (omega (arith, total-part (j .weights) q m, fit .weight, heavy, mul-one (w m)))
 
     once-each : (m : ℕ) → m < labels j → at q m ≤ 1
     unfolding MayPick
@@ -88,7 +93,9 @@ module _ (j : Job) (light : (i : ℕ) → i < labels j → 1 ≤ at (j .weights)
         elim (light-pick m h) [
           | inl e ↦ inl e
           | inr fits ↦ elim (decLt 0 (v m)) [
-            | yes pos ↦ absurd (not-missed (yes-and (leb (w m) (j .budget)) _ (yes-leb fits) (yes-and (ltb 0 (v m)) (eqb (at p m) 0) (yes-ltb pos) (yes-eqb none))))
+            | yes pos ↦
+                let left-out = yes-and (ltb 0 (v m)) (eqb (at p m) 0) (yes-ltb pos) (yes-eqb none) in
+                absurd (not-missed (yes-and (leb (w m) (j .budget)) _ (yes-leb fits) left-out))
             | no zero′ ↦ inr (omega arith)
           ]
         ]
@@ -106,7 +113,7 @@ module _ (j : Job) (light : (i : ℕ) → i < labels j → 1 ≤ at (j .weights)
         part m h (suc x) e = mul-le-mul-left (v m) (omega (arith, once-each m h))
 
     -- the first label that is missed: with those kept before it, it is too heavy
-    module _ (d : First (goesBefore (j .values) (j .weights)) missed (labels j)) where
+    module _ (d : First before missed (labels j)) where
       abbrev k : ℕ
       k = d .label
 
@@ -117,7 +124,7 @@ module _ (j : Job) (light : (i : ℕ) → i < labels j → 1 ≤ at (j .weights)
       unfolding a
       a-long = kept-long j p k
 
-      a-at : (m : ℕ) → m < labels j → at a m ≡ if (goesBefore (j .values) (j .weights) m k) (at p m) 0
+      a-at : (m : ℕ) → m < labels j → at a m ≡ if (before m k) (at p m) 0
       unfolding a
       a-at = kept-at j p k
 
@@ -135,8 +142,9 @@ module _ (j : Job) (light : (i : ℕ) → i < labels j → 1 ≤ at (j .weights)
             | yes h ↦ h
             | no h ↦
                 let fits : total (j .weights) (keptBefore j p k) + w k ≤ j .budget = omega arith in
-                let stays = yes-and (ltb 0 (v k)) (leb (total (j .weights) (keptBefore j p k) + w k) (j .budget)) (yes-ltb (known .1)) (yes-leb fits) in
-                absurd (clash (stillFits j p k) stays (sym (known .2) ∙ greedy .each k (d .inside)))
+                let within = leb (total (j .weights) (keptBefore j p k) + w k) (j .budget) in
+                let still = yes-and (ltb 0 (v k)) within (yes-ltb (known .1)) (yes-leb fits) in
+                absurd (clash (stillFits j p k) still (sym (known .2) ∙ greedy .each k (d .inside)))
           ]
         where
           clash : (b : Bool) → T b → _≡_ {A = ℕ} 0 (if b 1 0) → ⊥
@@ -145,11 +153,13 @@ module _ (j : Job) (light : (i : ℕ) → i < labels j → 1 ≤ at (j .weights)
 
       part : (m : ℕ) → m < labels j → w k * (v m * at q m) + v k * (w m * at a m) ≤ v k * (w m * at q m) + w k * (v m * at a m)
       unfolding if
-      part m h = go (goesBefore (j .values) (j .weights) m k) refl (stillFits j p m) (greedy .each m h)
+      part m h = go (before m k) refl (stillFits j p m) (greedy .each m h)
         where
-          go : (b : Bool) → goesBefore (j .values) (j .weights) m k ≡ b → (s : Bool) → at p m ≡ if s 1 0 → w k * (v m * at q m) + v k * (w m * at a m) ≤ v k * (w m * at q m) + w k * (v m * at a m)
+          go : (b : Bool) → before m k ≡ b → (s : Bool) → at p m ≡ if s 1 0
+              → w k * (v m * at q m) + v k * (w m * at a m) ≤ v k * (w m * at q m) + w k * (v m * at a m)
           go true e true kept =
-              kept-part (v k) (w k) (v m) (w m) (at q m) (at a m) (once-each m h) (a-at m h ∙ rw e kept) (before-worth (j .values) (j .weights) m k (rw e tt))
+              kept-part (v k) (w k) (v m) (w m) (at q m) (at a m) (once-each m h) (a-at m h ∙ rw e kept)
+              (before-worth (j .values) (j .weights) m k (rw e tt))
           go true e false left =
               other-part (v k) (w k) (v m) (w m) (at q m) (at a m) (once-each m h) (a-at m h ∙ rw e left)
               (elim (nothing-missed m h (λ t. d .first m h t (rw e tt)) left) [
@@ -157,22 +167,25 @@ module _ (j : Job) (light : (i : ℕ) → i < labels j → 1 ≤ at (j .weights)
                 | inr z ↦ inr (rw z (omega (arith, zero-mul (w k))))
               ])
           go false e s x =
-              other-part (v k) (w k) (v m) (w m) (at q m) (at a m) (once-each m h) (a-at m h ∙ rw e) (inr (behind-worth (j .values) (j .weights) m k (λ t. rw e at t)))
+              other-part (v k) (w k) (v m) (w m) (at q m) (at a m) (once-each m h) (a-at m h ∙ rw e)
+              (inr (behind-worth (j .values) (j .weights) m k (λ t. rw e at t)))
 
       -- the kept labels before it, and it, are worth no less than the selection
       with-missed : total (j .values) q ≤ total (j .values) p + v k
       with-missed =
           let sums = total-exchange (labels j) q a (fit .selection .one-each) a-long (j .values) (j .weights) (w k) (v k) part in
           let front = total-le (labels j) a p a-long (greedy .one-each) (j .values) (λ m h. mul-le-mul-left (v m) (at-most m h)) in
-          let worth = weighed (v k) (w k) (total (j .values) q) (total (j .values) a) (total (j .weights) q) (total (j .weights) a) (j .budget) (light k (d .inside)) sums (fit .weight) too-heavy in
+          let worth =
+          weighed (v k) (w k) (total (j .values) q) (total (j .values) a) (total (j .weights) q) (total (j .weights) a) (j .budget)
+          (light k (d .inside)) sums (fit .weight) too-heavy in
           omega arith
         where
           at-most : (m : ℕ) → m < labels j → at a m ≤ at p m
-          at-most m h = go (goesBefore (j .values) (j .weights) m k) refl
+          at-most m h = go (before m k) refl
             where
-              go : (b : Bool) → goesBefore (j .values) (j .weights) m k ≡ b → at a m ≤ at p m
-              go true e = omega (arith, a-at m h ∙ if-taken (goesBefore (j .values) (j .weights) m k) e (at p m))
-              go false e = omega (arith, a-at m h ∙ if-left (goesBefore (j .values) (j .weights) m k) e (at p m))
+              go : (b : Bool) → before m k ≡ b → at a m ≤ at p m
+              go true e = omega (arith, a-at m h ∙ if-taken (before m k) e (at p m))
+              go false e = omega (arith, a-at m h ∙ if-left (before m k) e (at p m))
 
     -- both lists together are worth no less than the selection
     pub both-worth : (s : List ℕ) → Single j s → total (j .values) q ≤ total (j .values) p + total (j .values) s

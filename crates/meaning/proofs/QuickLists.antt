@@ -30,11 +30,11 @@ module _ (j : Job) where
 
   pub kept-long : (p : List ℕ) (i : ℕ) → length (keptBefore j p i) ≡ labels j
   unfolding keptBefore
-  kept-long p i = made-length (λ m. if (goesBefore (j .values) (j .weights) m i) (at p m) 0) (labels j)
+  kept-long p i = made-length (λ m. if (before m i) (at p m) 0) (labels j)
 
-  pub kept-at : (p : List ℕ) (i m : ℕ) → m < labels j → at (keptBefore j p i) m ≡ if (goesBefore (j .values) (j .weights) m i) (at p m) 0
+  pub kept-at : (p : List ℕ) (i m : ℕ) → m < labels j → at (keptBefore j p i) m ≡ if (before m i) (at p m) 0
   unfolding keptBefore
-  kept-at p i m h = made-at (λ m′. if (goesBefore (j .values) (j .weights) m′ i) (at p m′) 0) (labels j) m h
+  kept-at p i m h = made-at (λ m′. if (before m′ i) (at p m′) 0) (labels j) m h
 
   -- whether a label still fits depends on the labels before it alone
   pub fits-same : (p q : List ℕ) (i : ℕ) → ((m : ℕ) → m < labels j → T (before m i) → at p m ≡ at q m) → stillFits j p i ≡ stillFits j q i

@@ -1,7 +1,8 @@
--- The quick answer's promises: no second choice is left; the list fits, and twice its value is at least the best value; and what every answer is held to.
+-- The quick answer's promises: no second choice is left; the list fits, and twice its value is at least the best value; and what every answer is
+-- held to.
 -- Assumes nothing.
 use mathlib.Core.Path.{_∙_, _≡_, ap, ap₂, refl, subst, sym}
-use Prim.Native.Nat.{ℕ, zero, suc, _+_, _*_, _≤_, _<_}
+use Prim.Native.Nat.{ℕ, zero, suc, _*_, _≤_, _<_}
 use native.Mathlib.Omega.{arith}
 use mathlib.Core.Bool.{Bool, true, false, _&&_}
 use mathlib.Core.List.{List, []}
@@ -116,7 +117,8 @@ module _ (j : Job) (first second : List ℕ) where
         in-second = x .second-kept ∙ sym (y .second-kept);
       }
 
-  pub no-second-filling : (a a′ : Quick) (f f′ s s′ : List ℕ) → Filled j first second a f s → Filled j first second a′ f′ s′ → OneFilling a a′ f f′ s s′
+  pub no-second-filling : (a a′ : Quick) (f f′ s s′ : List ℕ) → Filled j first second a f s → Filled j first second a′ f′ s′
+      → OneFilling a a′ f f′ s s′
   no-second-filling a a′ f f′ s s′ x y = filled-unique (quickRefusal j (length first) (length second)) a a′ f f′ s s′ refl (x .kept) (y .kept)
 
   -- a refused call names its refusal and leaves both lists
@@ -154,7 +156,8 @@ module _ (j : Job) (first second : List ℕ) where
           omega (
             arith,
             b .value,
-            both-worth j (light j (length first) (length second) ok) (both .greedy) (b .picks) (both .is-greedy) (b .best .fits) (both .single) (both .is-single),
+            both-worth j (light j (length first) (length second) ok) (both .greedy) (b .picks) (both .is-greedy) (b .best .fits)
+                (both .single) (both .is-single),
             value-of,
           )
 
@@ -165,12 +168,17 @@ module _ (j : Job) (first second : List ℕ) where
 
       -- and worth no less than any label that fits
       pub worth-a-label : (k : ℕ) → k < labels j → at (j .weights) k ≤ j .budget → at (j .values) k ≤ quickNumbers a .value
-      worth-a-label k h fits = omega (arith, single-worth j (light j (length first) (length second) ok) (both .single) (both .is-single) k h fits, value-of)
+      worth-a-label k h fits =
+          omega (arith, single-worth j (light j (length first) (length second) ok) (both .single) (both .is-single) k h fits, value-of)
 
       -- each place of either list is a pick, 0 or 1, whatever stood there
       pub first-written : (i : ℕ) → i < labels j → at f i ≤ 1
       first-written i h =
-          omega (arith, held-at _ _ _ i (both .first-holds) (omega (arith, both .is-greedy .one-each)), greedy-ones j (both .greedy) (both .is-greedy) i h)
+          omega (
+            arith,
+            held-at _ _ _ i (both .first-holds) (omega (arith, both .is-greedy .one-each)),
+            greedy-ones j (both .greedy) (both .is-greedy) i h,
+          )
 
       pub second-written : (i : ℕ) → i < labels j → at s i ≤ 1
       unfolding MayPick
@@ -206,7 +214,8 @@ module _ (j : Job) (first second : List ℕ) where
         unfolding quickNumbers
         first-handed v e =
             let value : quickNumbers a .value ≡ v = ap (λ (x : Quick). quickNumbers x .value) e in
-            the-first (both .single) refl (subst (Greedy j) (sym in-first) (both .is-greedy)) (both .is-single) (omega (arith, value-of .1, first-worth v e))
+            the-first (both .single) refl (subst (Greedy j) (sym in-first) (both .is-greedy)) (both .is-single)
+            (omega (arith, value-of .1, first-worth v e))
 
         second-handed : (v : ℕ) → a ≡ Hands.Second v → Worthier j p q q (take (labels j) s)
         second-handed v e =
@@ -244,7 +253,8 @@ module _ (j : Job) (first second : List ℕ) (a : Quick) (f s : List ℕ) (fille
       go (suc r) e = absurd (some (refused-which r e))
 
   pub picks-none : (r : ℕ) → a ≡ Hands.Refused r → Picked j (length first) (length second) p q p []
-  picks-none r is = by-number p [] (λ ok. absurd (refuses-none j first second ok a f s filled r is)) (λ r′ e. record { of-first = refl; empty = refl })
+  picks-none r is =
+      by-number p [] (λ ok. absurd (refuses-none j first second ok a f s filled r is)) (λ r′ e. record { of-first = refl; empty = refl })
 
   pub picks-first : (v : ℕ) → a ≡ Hands.First v → Picked j (length first) (length second) p q p (take (labels j) f)
   unfolding quickNumbers
@@ -266,13 +276,16 @@ pub record OnePick (place place′ : ℕ × ℕ) (p p′ : List ℕ) : Type 0 wh
 module _ (j : Job) (m n : ℕ) (first second : ℕ × ℕ) where
   -- what is handed back where the call isn't refused
   module _ (ok : quickRefusal j m n ≡ 0) where
-    worthier-unique : (place place′ : ℕ × ℕ) (p p′ : List ℕ) → Worthier j first second place p → Worthier j first second place′ p′ → OnePick place place′ p p′
+    worthier-unique : (place place′ : ℕ × ℕ) (p p′ : List ℕ) → Worthier j first second place p → Worthier j first second place′ p′
+        → OnePick place place′ p p′
     worthier-unique place place′ p p′ (the-first s at-first g one more) (the-first s′ at-first′ g′ one′ more′) =
         record { where-it-is = at-first ∙ sym at-first′; list = one-greedy j (light j m n ok) p p′ g g′ }
     worthier-unique place place′ p p′ (the-first s at-first g one more) (the-second g′ at-second one′ greedy more′) =
-        absurd (omega (arith, ap (total (j .values)) (one-greedy j (light j m n ok) p g′ g greedy), ap (total (j .values)) (one-single j s p′ one one′)))
+        absurd
+        (omega (arith, ap (total (j .values)) (one-greedy j (light j m n ok) p g′ g greedy), ap (total (j .values)) (one-single j s p′ one one′)))
     worthier-unique place place′ p p′ (the-second g at-second one greedy more) (the-first s at-first g′ one′ more′) =
-        absurd (omega (arith, ap (total (j .values)) (one-greedy j (light j m n ok) g p′ greedy g′), ap (total (j .values)) (one-single j p s one one′)))
+        absurd
+        (omega (arith, ap (total (j .values)) (one-greedy j (light j m n ok) g p′ greedy g′), ap (total (j .values)) (one-single j p s one one′)))
     worthier-unique place place′ p p′ (the-second g at-second one greedy more) (the-second g′ at-second′ one′ greedy′ more′) =
         record { where-it-is = at-second ∙ sym at-second′; list = one-single j p p′ one one′ }
 
@@ -290,11 +303,14 @@ module _ (j : Job) (m n : ℕ) (first second : ℕ × ℕ) where
       -- twice its worth is at least the best value
       pub half-handed-back : (best : ℕ) → BestValue once j (labels j) (j .budget) best → best ≤ 2 * total (j .values) p
       half-handed-back best b = elim handed-back [
-        | the-first s place-is greedy single more ↦ omega (arith, b .value, both-worth j (light j m n ok) p (b .picks) greedy (b .best .fits) s single)
-        | the-second g place-is single greedy more ↦ omega (arith, b .value, both-worth j (light j m n ok) g (b .picks) greedy (b .best .fits) p single)
+        | the-first s place-is greedy single more ↦
+            omega (arith, b .value, both-worth j (light j m n ok) p (b .picks) greedy (b .best .fits) s single)
+        | the-second g place-is single greedy more ↦
+            omega (arith, b .value, both-worth j (light j m n ok) g (b .picks) greedy (b .best .fits) p single)
       ]
 
-  pub no-second-pick : (place place′ : ℕ × ℕ) (p p′ : List ℕ) → Picked j m n first second place p → Picked j m n first second place′ p′ → OnePick place place′ p p′
+  pub no-second-pick : (place place′ : ℕ × ℕ) (p p′ : List ℕ) → Picked j m n first second place p → Picked j m n first second place′ p′
+      → OnePick place place′ p p′
   unfolding PickedAs
   no-second-pick place place′ p p′ x y = go (quickRefusal j m n) refl (x .kept) (y .kept)
     where
@@ -313,7 +329,8 @@ pub record OneQuickCall (r r′ which which′ value value′ : ℕ) (first firs
   pub in-second : second ≡ second′
 
 pub one-host-quick : (j : Job) (first second f f′ s s′ : List ℕ) (r r′ which which′ value value′ : ℕ)
-    → QuickHost j first second r which value f s → QuickHost j first second r′ which′ value′ f′ s′ → OneQuickCall r r′ which which′ value value′ f f′ s s′
+    → QuickHost j first second r which value f s → QuickHost j first second r′ which′ value′ f′ s′
+    → OneQuickCall r r′ which which′ value value′ f f′ s s′
 one-host-quick j first second f f′ s s′ r r′ which which′ value value′ x y =
     let one = no-second-filling j first second (x .answer) (y .answer) f f′ s s′ (x .filled) (y .filled) in
     let said : quickNumbers (x .answer) ≡ quickNumbers (y .answer) = ap quickNumbers (one .answer) in

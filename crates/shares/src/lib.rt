@@ -272,7 +272,8 @@ fn gets(remainder: u64, border: u64, seen: usize, left: usize) -> bool
     ahead(counted, border)
 }
 
-// The units go to the labels at the border or before it, and to the first ones next behind it. A label's start is read before its share takes its place.
+// The units go to the labels at the border or before it, and to the first ones next behind it. A label's start is read before its share
+// takes its place.
 fn give(
     budget: u32,
     weights: &[u32],
