@@ -3,7 +3,7 @@
 use meaning::Answer;
 ghost use mathlib.Core.Path.{_≡_};
 ghost use mathlib.Core.List.{[], _∷_};
-ghost use Prim.Native.Nat.{_+_, _*_, _/_, _%_, _≤_, _<_, max, min};
+ghost use Prim.Native.Nat.{_+_, _/_, _%_, _≤_, _<_, max, min};
 ghost use lib.ListN.{length};
 ghost use lib.Dec.{ltb};
 ghost use Rattle.meaning.specs.Lists.{sum, if};
