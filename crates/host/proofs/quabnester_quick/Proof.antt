@@ -1,10 +1,24 @@
 -- `host::quabnester_quick` meets its contract: the quick answer as numbers.
 -- Assumes nothing.
-use mathlib.Core.Path.{refl}
+use mathlib.Core.Path.{_≡_, refl}
+use Prim.Native.Nat.{ℕ}
+use mathlib.Core.List.{List}
+use Rattle.meaning.specs.Job.{Job}
+use Rattle.meaning.specs.declared.Quick.{Quick}
 use Rattle.meaning.specs.Answers.{quickNumbers}
+use Rattle.meaning.specs.Quick.{Filled}
+use Rattle.meaning.specs.Host.{QuickHost}
 use borrow.Author.Needs.{needs}
 use Rattle.host.proofs.quabnester_quick.Statement.{statement}
 use Rattle.host.proofs.quabnester_quick.Tie as tie
+
+-- the numbers of an answer that is known to be this case
+in-numbers : {j : Job} → {first second first′ second′ : List ℕ} → {a : Quick} → (case : Quick)
+    → Filled j first second a first′ second′
+    → a ≡ case
+    → QuickHost j first second (quickNumbers case .refusal) (quickNumbers case .which) (quickNumbers case .value) first′ second′
+in-numbers {a = a} case filled is =
+    record { answer = a; filled = filled; refusal = rw is refl; which-is = rw is refl; value-is = rw is refl }
 
 -- what the quick answer was, from the match
 abbrev answered : tie.After-slice-known4 → tie.After-fill
@@ -33,13 +47,7 @@ unfolding quickNumbers
 returns c =
     let known = c .before in
     let told = answered (known .before .before) .fill in
-    record {
-      answer = told .result;
-      filled = told .ensures;
-      refusal = rw (known .answer .given .1) refl;
-      which-is = rw (known .answer .given .1) refl;
-      value-is = rw (known .answer .given .1) refl;
-    }
+    in-numbers _ (told .ensures) (known .answer .given .1)
 
 same-length-3 : tie.Need-same-length-3
 same-length-3 c = search needs
@@ -52,13 +60,7 @@ unfolding quickNumbers
 returns-2 c =
     let known = c .before in
     let told = answered (known .before .before) .fill in
-    record {
-      answer = told .result;
-      filled = told .ensures;
-      refusal = rw (known .answer2 .given .1) refl;
-      which-is = rw (known .answer2 .given .1) refl;
-      value-is = rw (known .answer2 .given .1) refl;
-    }
+    in-numbers _ (told .ensures) (known .answer2 .given .1)
 
 same-length-5 : tie.Need-same-length-5
 same-length-5 c = search needs
@@ -71,13 +73,7 @@ unfolding quickNumbers
 returns-3 c =
     let known = c .before in
     let told = answered (known .before .before) .fill in
-    record {
-      answer = told .result;
-      filled = told .ensures;
-      refusal = rw (known .answer3 .given .1) refl;
-      which-is = rw (known .answer3 .given .1) refl;
-      value-is = rw (known .answer3 .given .1) refl;
-    }
+    in-numbers _ (told .ensures) (known .answer3 .given .1)
 
 pub quabnester-quick-spec : {M : Type 1} → statement M
 quabnester-quick-spec =
