@@ -1,6 +1,6 @@
 /* A worked call: three labels that weigh 3, 4 and 5 and are worth 4, 5 and 6, with a budget of 7 (document 01's case A). Solves the job,
  * writes the certificate of the answer, and has it checked. A certificate of kind 1 is written from the full table, so it is solved in the
- * full way. tests/example.out is what it prints. */
+ * full way. Then the quick answer, for the same labels. tests/example.out is what it prints. */
 #include "quabnester.h"
 #include <stdio.h>
 #include <stdlib.h>
@@ -56,8 +56,19 @@ static int is_checked(void) {
     return refused == QUABNESTER_NOT_REFUSED && other == QUABNESTER_REFUSED_VALUE;
 }
 
+/* The same labels as lists, where half of the best is enough: two keep lists, and no table. */
+static uint32_t answer_quickly(void) {
+    static const uint32_t weights[LABELS] = {3, 4, 5}, values[LABELS] = {4, 5, 6};
+    uint32_t greedy[LABELS], single[LABELS], which;
+    uint64_t value;
+    uint32_t refused = quabnester_quick(BUDGET, weights, LABELS, values, LABELS, greedy, LABELS, single, LABELS, &which, &value);
+    if (refused != QUABNESTER_NOT_REFUSED) return refused;
+    printf("quick: list %d, value %d\n", (int)which, (int)value);
+    return refused;
+}
+
 int main(void) {
-    int well = has_room() && solve_and_write() == QUABNESTER_NOT_REFUSED && is_checked();
+    int well = has_room() && solve_and_write() == QUABNESTER_NOT_REFUSED && is_checked() && answer_quickly() == QUABNESTER_NOT_REFUSED;
     if (!well) printf("not as it has to be\n");
     free(certificate);
     free(picks);
