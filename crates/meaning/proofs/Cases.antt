@@ -13,7 +13,7 @@ use Rattle.meaning.specs.declared.Way.{Way}
 use Rattle.meaning.specs.declared.Way.the-variants.{Light, Full}
 use Rattle.meaning.specs.Lists.{at}
 use Rattle.meaning.specs.Job.{Job, Kind, block-ways, fewest-blocks, free, jobOf, limited, once, packing, sharing, subset-sums}
-use Rattle.meaning.specs.Job.{labels-behind, kindOf}
+use Rattle.meaning.specs.Job.{labels-behind, stated-share, kindOf}
 use Rattle.meaning.specs.Lent.{Lent, lentOf, roomBy}
 use Rattle.meaning.specs.Refusals.{kindRefusal}
 use Rattle.meaning.specs.Bytes.{jobBytes, readJob, readable}
@@ -23,6 +23,7 @@ use Rattle.meaning.specs.Host.{firstNumber}
 use Rattle.meaning.specs.Trials.{AllGo, Goes, Trial, _and_, done, justEnough, solve, trials}
 use Rattle.meaning.proofs.EachKind.{refusals, tableOf}
 use Rattle.meaning.proofs.Small.{behind-out, behind-weighs, isBehind}
+use Rattle.meaning.proofs.SmallStated.{isStated, stated-out}
 use Rattle.meaning.proofs.Opens.{opens}
 use Rattle.meaning.proofs.Sixteen.{goes, sixteen}
 
@@ -46,13 +47,17 @@ caseJ = plain 1 2 (2 ∷ []) (3 ∷ []) []
 abbrev pub noLabels : Job
 noLabels = plain 1 0 [] [] []
 
+-- kind 9 with q 2: the divisor is 2, both cut values are 4, and the lighter label is worth less than the other
+abbrev pub shareJob : Job
+shareJob = jobOf 9 (3 ∷ 2 ∷ []) (3 ∷ 2 ∷ []) (9 ∷ 8 ∷ []) []
+
 -- a job, with its answer and its picks
 pub record Tried : Type 0 where
   pub job : Job
   pub answer : Answer
   pub picks : List ℕ
 
--- document 01's first trial of each kind: A, D, E, F, G, H and I; and F as kind 8
+-- document 01's first trial of each kind: A, D, E, F, G, H and I; F as kind 8; and one of kind 9
 abbrev pub tried : Kind → Tried
 tried (packing once) = record { job = caseA; answer = Knapsack 9 7; picks = 1 ∷ 1 ∷ 0 ∷ [] }
 tried (packing limited) = record { job = plain 2 7 (2 ∷ 3 ∷ []) (3 ∷ 5 ∷ []) (2 ∷ 1 ∷ []); answer = Knapsack 11 7; picks = 2 ∷ 1 ∷ [] }
@@ -62,6 +67,7 @@ tried fewest-blocks = record { job = plain 5 6 (1 ∷ 3 ∷ 4 ∷ []) [] []; ans
 tried block-ways = record { job = plain 6 5 (1 ∷ 2 ∷ 5 ∷ []) [] []; answer = Ways 4; picks = [] }
 tried sharing = record { job = plain 7 10 (1 ∷ 1 ∷ 1 ∷ []) [] []; answer = Shares 1; picks = 4 ∷ 3 ∷ 3 ∷ [] }
 tried labels-behind = record { job = plain 8 8 (3 ∷ 5 ∷ 9 ∷ []) [] []; answer = Weight 8; picks = 1 ∷ 1 ∷ 0 ∷ [] }
+tried stated-share = record { job = shareJob; answer = Knapsack 8 2; picks = 0 ∷ 1 ∷ [] }
 
 -- ---- what is shown of the trial of each kind
 
@@ -83,7 +89,7 @@ filled way x k =
     let room = roomBy way k (tried k .job) in
     lentOf (replicate (room .cells) x) (replicate (room .words) x) (replicate (room .picks) x)
 
--- it goes as the sixteen say (kind 8's as F, which is among them, says), and is read back from its bytes; its answer is no refusal, and its first number isn't 0; with `filled` slices it isn't
+-- it goes as the sixteen say (kind 8's as F, which is among them, says, and kind 9's as its definition says), and is read back from its bytes; its answer is no refusal, and its first number isn't 0; with `filled` slices it isn't
 -- refused, and its table, where the kind has one, begins with what they are filled with
 pub record TrialFacts (k : Kind) : Type 0 where
   pub goes : Goes (solve (tried k .job) (tried k .answer) (tried k .picks))
@@ -108,6 +114,11 @@ behind-F : Goes (solve (tried labels-behind .job) (tried labels-behind .answer) 
 unfolding opens Goes justEnough Gives Weighed isBehind
 behind-F = goes labels-behind refl refl (a-sum (behind-weighs _ _ tt) (behind-out _ _ tt) refl)
 
+-- the job of kind 9
+stated-goes : Goes (solve (tried stated-share .job) (tried stated-share .answer) (tried stated-share .picks))
+unfolding opens Goes justEnough Gives isStated
+stated-goes = goes stated-share refl refl (record { picked = stated-out _ _ tt; numbers = refl })
+
 -- kind 1's, by either way
 once-unrefused : (way : Way) (x : ℕ) → UnrefusedBy way (packing once) (tried (packing once) .job) (filled way x (packing once))
 unfolding opens filled
@@ -129,3 +140,4 @@ trial-facts fewest-blocks = facts-by (goes-at 8 sixteen) refl refl (lit≤ tt) (
 trial-facts block-ways = facts-by (goes-at 10 sixteen) refl refl (lit≤ tt) (λ way x. unrefused-by refl refl) (λ has way x. refl)
 trial-facts sharing = facts-by (goes-at 12 sixteen) refl refl (lit≤ tt) (λ way x. unrefused-by refl refl) (λ has way x. absurd (has refl))
 trial-facts labels-behind = facts-by behind-F refl refl (lit≤ tt) (λ way x. unrefused-by refl refl) (λ has way x. refl)
+trial-facts stated-share = facts-by stated-goes refl refl (lit≤ tt) (λ way x. unrefused-by refl refl) (λ has way x. refl)

@@ -4,7 +4,7 @@
 use mathlib.Core.Path.{_∙_, _≡_, ap, refl, sym}
 use mathlib.Core.Option.{Option·some-injective, some}
 use Prim.Native.Nat.{_+_, _<_, _≤_, suc, zero, ℕ}
-use native.Mathlib.Nat.{not-suc-le-zero}
+use native.Mathlib.Nat.{add-mul, not-suc-le-zero, one-mul}
 use native.Mathlib.Omega.{arith}
 use mathlib.Core.Bool.{Bool, _&&_, false, true}
 use mathlib.Core.List.{List, [], _∷_}
@@ -20,7 +20,8 @@ use Rattle.meaning.specs.Lists.{at, if, sum, total}
 use Rattle.meaning.specs.Slices.{Holds}
 use Rattle.meaning.specs.Cells.{LeastShown}
 use Rattle.meaning.specs.Job.{Job, Kind, Knapsack, allKinds, block-ways, fewest-blocks, free}
-use Rattle.meaning.specs.Job.{kindOf, labels, labels-behind, limited, once, packing, sharing, subset-sums}
+use Rattle.meaning.specs.Job.{kindOf, labels, labels-behind, limited, once, packing, sharing, stated-share, subset-sums}
+use Rattle.meaning.specs.Cuts.{cutSum, remain, statedCells}
 use Rattle.meaning.specs.Lent.{Lent, Room, cellCount, onceRoom, roomBy, roomOf}
 use Rattle.meaning.specs.Knapsacks.{FullTable, ValueTable}
 use Rattle.meaning.specs.Sums.{Weighs}
@@ -31,8 +32,8 @@ use Rattle.meaning.specs.Answers.{AnswerNumbers, Which, is-blocks, is-kn
 use Rattle.meaning.specs.Answers.{answerNumbers}
 use Rattle.meaning.specs.Certificates.{certificateCells}
 use Rattle.meaning.specs.Solved.{Answered, Built, Gives, OnceTable, TableBy, Weighed, a-sum, no-such-sum, waysAnswer}
-use Rattle.meaning.proofs.OneOfEach.{same-list, rows-unique, row-unique, bits-table-unique, label-words-unique, least-shown-unique, ways-shown-unique}
-use Rattle.meaning.proofs.OneOfEach.{packed-unique, summed-unique, sum-or-none-unique, laid-unique, ways-given-unique, behind-unique}
+use Rattle.meaning.proofs.OneOfEach.{same-list, rows-unique, row-unique, stated-cells-unique, bits-table-unique, label-words-unique, least-shown-unique, ways-shown-unique}
+use Rattle.meaning.proofs.OneOfEach.{packed-unique, best-unique, stated-unique, summed-unique, sum-or-none-unique, laid-unique, ways-given-unique, behind-unique}
 
 -- ---- the number
 
@@ -46,6 +47,7 @@ numberOf fewest-blocks = 5
 numberOf block-ways = 6
 numberOf sharing = 7
 numberOf labels-behind = 8
+numberOf stated-share = 9
 
 -- the kinds of a list have the numbers m, m + 1, ..
 unfoldable inOrder : ℕ → List Kind → Bool
@@ -124,6 +126,10 @@ same-places way block-ways j s t a b = record {
 }
 same-places way sharing j s t a b = record { cells = none-needed (s .cells) (t .cells); words = none-needed (s .words) (t .words) }
 same-places way labels-behind j s t a b = shown-places (j .budget) (labels j) s t a b
+same-places way stated-share j s t a b = record {
+  cells = stated-cells-unique j (s .cells) (t .cells) a b;
+  words = none-needed (s .words) (t .words);
+}
 
 -- each kind's table leaves one content, whichever way kind 1 goes
 pub table-unique : (way : Way) (k : Kind) (j : Job) → OneTable (roomBy way k j) (TableBy way k j)
@@ -144,6 +150,7 @@ tableOf fewest-blocks lent = lent .cells
 tableOf block-ways lent = lent .words
 tableOf sharing lent = []
 tableOf labels-behind lent = lent .cells
+tableOf stated-share lent = lent .cells
 
 -- the places that are needed for the table hold it, and there is one at least
 pub record TableLeft (k : Kind) (content before after : Lent) : Type 0 where
@@ -154,6 +161,10 @@ once-cells : (way : Way) (j : Job) → 1 ≤ onceRoom way j .cells
 unfolding onceRoom roomOf cellCount
 once-cells Light j = omega arith
 once-cells Full j = omega arith
+
+stated-some : (j : Job) → 1 ≤ statedCells j
+unfolding statedCells
+stated-some j = omega (arith, add-mul (remain j) 1 (cutSum j + 1), one-mul (cutSum j + 1))
 
 pub table-left : (way : Way) (k : Kind) {j : Job} {before after : Lent} {s : AnswerNumbers}
     (x : Answered (roomBy way k j) (TableBy way k j) k j before s after) → TableLeft k (x .content) before after
@@ -166,6 +177,7 @@ table-left way fewest-blocks x = record { held = x .cells-hold; needed = λ has.
 table-left way block-ways x = record { held = x .words-hold; needed = λ has. omega (arith, x .words-needed) }
 table-left way sharing x = record { held = refl; needed = λ has. absurd (has refl) }
 table-left way labels-behind x = record { held = x .cells-hold; needed = λ has. omega (arith, x .cells-needed) }
+table-left way stated-share {j} x = record { held = x .cells-hold; needed = λ has. omega (arith, x .cells-needed, stated-some j) }
 
 -- ---- the two ways
 
@@ -189,6 +201,7 @@ one-way way other fewest-blocks j not-1 = record { room = refl; table = refl }
 one-way way other block-ways j not-1 = record { room = refl; table = refl }
 one-way way other sharing j not-1 = record { room = refl; table = refl }
 one-way way other labels-behind j not-1 = record { room = refl; table = refl }
+one-way way other stated-share j not-1 = record { room = refl; table = refl }
 
 -- by such a way the table of a knapsack is what its certificate needs, and holds the values
 pub record ClaimTable (way : Way) (k : Knapsack) (j : Job) : Type 1 where
@@ -207,12 +220,13 @@ full-claims free j = record { room = refl; table = refl }
 -- each kind says one thing and writes one list
 pub gives-unique : (k : Kind) (j : Job) (s s′ : AnswerNumbers) (p p′ : List ℕ) → Gives k j s p → Gives k j s′ p′ → (p ≡ p′) × (s ≡ s′)
 unfolding Gives Built Weighed
-gives-unique (packing k) j s s′ p p′ a b = packed-unique a b
+gives-unique (packing k) j s s′ p p′ a b = packed-unique (best-unique k j (labels j) (j .budget)) a b
 gives-unique subset-sums j s s′ p p′ a b = summed-unique a b
 gives-unique fewest-blocks j s s′ p p′ a b = sum-or-none-unique (laid-unique j (j .budget)) a b
 gives-unique block-ways j s s′ p p′ a b = ways-given-unique a b
 gives-unique sharing j s s′ p p′ a b = (a .given ∙ sym (b .given), a .numbers ∙ sym (b .numbers))
 gives-unique labels-behind j s s′ p p′ a b = sum-or-none-unique (behind-unique j (labels j) (j .budget)) a b
+gives-unique stated-share j s s′ p p′ a b = packed-unique (stated-unique j) a b
 
 -- ---- a refusal, of a job that none of 2 to 6 and 9 meets: 'exactly when'
 
@@ -224,6 +238,7 @@ Late fewest-blocks j r = (r ≡ 7) × ((q : List ℕ) → ¬ Makes j (labels j) 
 Late block-ways j r = (r ≡ 8) × ((w : ℕ) × WaysFor j (labels j) (j .budget) w × (tooMany ≤ w))
 Late sharing j r = ⊥
 Late labels-behind j r = (r ≡ 7) × ((q : List ℕ) → ¬ Weighs j (labels j) (j .budget) q)
+Late stated-share j r = ⊥
 
 -- 1 for a refusal, 0 for any other case
 unfoldable pub refusals : Which → ℕ
@@ -256,6 +271,7 @@ late block-ways j r p g = late-ways j (g .ways) r (g .how-many) (ltb (g .ways) t
 late sharing j r p g = not-said r (Says.Shares (spareOf j)) refl (g .numbers)
 late labels-behind j r p (a-sum weighs behind e) = absurd (not-said r (Says.Weight (total (j .weights) p)) refl e)
 late labels-behind j r p (no-such-sum none e written) = (ap (λ (s : AnswerNumbers). s .refusal) e, none)
+late stated-share j r p g = not-said r (Says.Knapsack (total (j .values) p) (total (j .weights) p)) refl (g .numbers)
 
 -- a refusal is told by its number
 pub numbered : (a : Answer) → ¬ (answerNumbers a .refusal ≡ 0) → (r : ℕ) × (a ≡ Says.Refused r)

@@ -16,6 +16,8 @@ pub mod Free
 pub mod Greedy
 pub mod Reaching
 pub mod Behind
+pub mod Remaining
+pub mod CutCells
 pub mod Making
 -- kind 7: shares sum to C
 pub mod Tally
@@ -27,6 +29,8 @@ pub mod QuickOrder
 pub mod QuickLists
 pub mod QuickFits
 pub mod QuickHalf
+-- kind 9: the picks are worth the stated share of the best
+pub mod StatedShare
 -- no second choice is left
 pub mod CellNumbers
 pub mod OneOfEach
@@ -56,6 +60,7 @@ pub mod Ways
 pub mod Small
 pub mod SmallTables
 pub mod SmallQuick
+pub mod SmallStated
 pub mod Opens
 pub mod Sixteen
 pub mod Cases

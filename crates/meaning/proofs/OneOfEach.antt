@@ -21,10 +21,13 @@ use Rattle.meaning.specs.Knapsacks.{BestValue, FullTable, OneRow, Best, 
 use Rattle.meaning.specs.Sums.{Weighs, BitTable, Tells, bit, is-not, is-so, TotalCount, YesOrNo}
 use Rattle.meaning.specs.Light.{LightTable, labelBit}
 use Rattle.meaning.specs.Behind.{Behind, totalOrder}
+use Rattle.meaning.specs.Cuts.{cutSum, cutValues, remain, remainOf, statedCells}
+use Rattle.meaning.specs.Stated.{CutBest, StatedPicks, StatedTable, statedCell, statedOrder}
 use Rattle.meaning.specs.Blocks.{WaysFor, WaysShown, tooMany, Fewest, Laid, blockOrder}
 use Rattle.meaning.specs.Answers.{AnswerNumbers, answerNumbers}
 use Rattle.meaning.specs.Solved.{Packed, SumOrNone, Summed, WaysGiven, a-sum, no-such-sum, waysAnswer}
 use Rattle.meaning.proofs.Counting.{counted-unique}
+use Rattle.meaning.proofs.Remaining.{row-of}
 use Rattle.meaning.proofs.CellNumbers.{RowAndBudget, row-and-budget}
 
 -- lists of the same length that agree at each place are the same
@@ -150,6 +153,18 @@ least-shown-unique {x = x} (shown a f) (none-shown n e) = absurd (n x a)
 least-shown-unique {y = y} (none-shown n e) (shown b g) = absurd (n y b)
 least-shown-unique (none-shown n e) (none-shown n′ e′) = e ∙ sym e′
 
+-- each row of kind 9's table is that of some first labels
+pub stated-cells-unique : (j : Job) (s t : List ℕ) → StatedTable j s → StatedTable j t → (m : ℕ) → m < statedCells j → at s m ≡ at t m
+unfolding StatedTable statedCells statedCell
+stated-cells-unique j s t a b m h =
+    let width : ℕ = cutSum j + 1 in
+    let pos : 0 < width = omega arith in
+    let row : m / width < remain j + 1 = div-lt-iff-lt-mul pos .1 h in
+    let column : m % width < width = mod-lt m pos in
+    let (i, inside, there) = row-of j (m / width) (omega arith) in
+    let numbered : remainOf j i * width + m % width ≡ m = ap (λ (x : ℕ). x * width + m % width) there ∙ div-add-mod' m width in
+    subst (λ (x : ℕ). at s x ≡ at t x) numbered (least-shown-unique (a i (m % width) inside (omega arith)) (b i (m % width) inside (omega arith)))
+
 -- the ways are one number
 pub ways-unique : (j : Job) (i a n m : ℕ) → WaysFor j i a n → WaysFor j i a m → n ≡ m
 unfolding WaysFor
@@ -162,12 +177,22 @@ ways-shown-unique {j} {i} {a} c d =
 
 -- ---- what each kind says and writes
 
-pub packed-unique : {k : Knapsack} {j : Job} {s s′ : AnswerNumbers} {p p′ : List ℕ} → Packed k j s p → Packed k j s′ p′ → (p ≡ p′) × (s ≡ s′)
-unfolding BestPicks
-packed-unique {k} {j} {s} {s′} {p} {p′} a b =
-    let same : p ≡ p′ = chosen-unique (orderOf k) (labels j) (Best k j (labels j) (j .budget)) p p′ (a .picked) (b .picked)
-    (a .picked .one-of .fits .selection .one-each) (b .picked .one-of .fits .selection .one-each) in
+-- picks with their value and weight, where there is one choice at most
+pub packed-unique : {Choice : List ℕ → Type 0} {j : Job} {s s′ : AnswerNumbers} {p p′ : List ℕ} → ((q r : List ℕ) → Choice q → Choice r → q ≡ r)
+    → Packed Choice j s p → Packed Choice j s′ p′ → (p ≡ p′) × (s ≡ s′)
+packed-unique {j = j} {p = p} {p′ = p′} one a b =
+    let same : p ≡ p′ = one p p′ (a .picked) (b .picked) in
     (same, a .numbers ∙ ap (λ (x : List ℕ). answerNumbers (Says.Knapsack (total (j .values) x) (total (j .weights) x))) same ∙ sym (b .numbers))
+
+pub best-unique : (k : Knapsack) (j : Job) (i c : ℕ) (p q : List ℕ) → BestPicks k j i c p → BestPicks k j i c q → p ≡ q
+unfolding BestPicks
+best-unique k j i c p q b b′ =
+    chosen-unique (orderOf k) i (Best k j i c) p q b b′ (b .one-of .fits .selection .one-each) (b′ .one-of .fits .selection .one-each)
+
+pub stated-unique : (j : Job) (p q : List ℕ) → StatedPicks j p → StatedPicks j q → p ≡ q
+unfolding StatedPicks
+stated-unique j p q b b′ =
+    chosen-unique statedOrder (labels j) (CutBest j (cutValues j)) p q b b′ (b .one-of .fits .selection .one-each) (b′ .one-of .fits .selection .one-each)
 
 same-bit : (x y : Bool) → _≡_ {A = ℕ} (if x 1 0) (if y 1 0) → x ≡ y
 unfolding if

@@ -160,7 +160,7 @@ module _ (way : Way) (j : Job) (leaves : LeavesClaims j way) (before after : Len
   abbrev picks : List ℕ
   picks = answered .content .picks
 
-  packed : Packed k j (answerNumbers a) picks
+  packed : Packed (BestPicks k j (labels j) (j .budget)) j (answerNumbers a) picks
   unfolding Gives
   packed = answered .gives
 

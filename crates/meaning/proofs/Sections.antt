@@ -4,9 +4,9 @@ use mathlib.Core.Path.{_∙_, _≡_, ap, refl, subst, sym}
 use Prim.Native.Nat.{_%_, _*_, _+_, _-_, _/_, _<_, _≤_, suc, zero, zero-le, ℕ}
 use native.Mathlib.Nat.{add-zero, div-add-mod', div-div-eq-div-mul, div-lt-iff-lt-mul, mod-eq-of-lt}
 use native.Mathlib.Omega.{arith}
-use mathlib.Core.Bool.{true}
+use mathlib.Core.Bool.{Bool, true, false}
 use mathlib.Core.List.{List, [], _++_, _∷_, append-assoc, append-nil}
-use lib.Dec.{lit<}
+use lib.Dec.{eqb, lit<}
 use lib.ListN.{drop, length, length-append, length-drop, take, take-append-drop}
 use lib.Seq.{drop-drop, drop-at, drop-cons, ext-getD, getD-drop, length-take-le, take-at}
 use borrow.Author.Tests.{le-ltb}
@@ -15,7 +15,7 @@ use Rattle.meaning.specs.declared.Section.the-variants.{Part}
 use Rattle.meaning.specs.declared.Needed.{Needed}
 use Rattle.meaning.specs.declared.Needed.the-variants.{Any, Exactly}
 use Rattle.meaning.specs.Lists.{at, if}
-use Rattle.meaning.specs.Job.{Job, jobOf, budgetsOf}
+use Rattle.meaning.specs.Job.{Job, hasQ, budgetCount, jobOf, budgetsOf}
 use Rattle.meaning.specs.Bytes.{atEnd, bytesOf, bytesOfAll, isNeeded, jobBytes, numberAt, numbersIn, between}
 use Rattle.meaning.specs.Bytes.{readJob, readSection, readable, sectionBytes, unreadable, wholeSection, withSection}
 use Rattle.meaning.proofs.Numbers.{all-append, all-long, number-long, numbers-at, numbers-long, section-long, section-whole}
@@ -34,6 +34,12 @@ one32 : (x : ℕ) → x < limit32 → All32 (x ∷ [])
 unfolding All32
 one32 x h zero k = h
 one32 x h (suc m) k = absurd (omega arith)
+
+two32 : (x y : ℕ) → x < limit32 → y < limit32 → All32 (x ∷ y ∷ [])
+unfolding All32
+two32 x y h h′ zero k = h
+two32 x y h h′ (suc zero) k = h′
+two32 x y h h′ (suc (suc m)) k = absurd (omega arith)
 
 -- ---- one number
 
@@ -150,10 +156,12 @@ end-back b p stop done s = simp (le-ltb p (length b) (omega (arith, stands-long 
 
 -- ---- a job is read back
 
--- the numbers of a job fit the bytes
+-- the numbers of a job fit the bytes, and it has no q where its kind has none
 pub record Job32 (j : Job) : Type 0 where
   pub kind-number : j .kind-number < limit32
   pub budget : j .budget < limit32
+  pub q : j .q < limit32
+  pub ignored : hasQ (j .kind-number) ≡ false → j .q ≡ 0
   pub weights : All32 (j .weights)
   pub values : All32 (j .values)
   pub copies : All32 (j .copies)
@@ -161,13 +169,29 @@ pub record Job32 (j : Job) : Type 0 where
   pub many-values : length (j .values) < limit32
   pub many-copies : length (j .copies) < limit32
 
+-- its budgets are as many as its kind has, they fit, and with them it is made
+record BudgetsBack (j : Job) : Type 0 where
+  few : length (budgetsOf j) < limit32
+  many : eqb (length (budgetsOf j)) (budgetCount (j .kind-number)) ≡ true
+  fit : All32 (budgetsOf j)
+  made : jobOf (j .kind-number) (budgetsOf j) (j .weights) (j .values) (j .copies) ≡ j
+
+budgets-back : (j : Job) → Job32 j → BudgetsBack j
+unfolding budgetsOf budgetCount jobOf if
+budgets-back j s = go (hasQ (j .kind-number)) refl
+  where
+    go : (b : Bool) → hasQ (j .kind-number) ≡ b → BudgetsBack j
+    go true e = record { few = rw e (lit< tt); many = rw e; fit = rw e (two32 (j .budget) (j .q) (s .budget) (s .q)); made = rw e }
+    go false e = record { few = rw e (lit< tt); many = rw e; fit = rw e (one32 (j .budget) (s .budget)); made = rw (e, s .ignored e) }
+
 -- a job's bytes are read as that job
 pub job-back : (j : Job) → Job32 j → readJob (jobBytes j) ≡ readable j
-unfolding readJob jobOf budgetsOf jobBytes isNeeded
+unfolding readJob jobBytes isNeeded
 job-back j s =
     let b : List ℕ = jobBytes j in
     let ks : List ℕ = j .kind-number ∷ [] in
-    let bs : List ℕ = j .budget ∷ [] in
+    let bs : List ℕ = budgetsOf j in
+    let budgets = budgets-back j s in
     let laid : b ≡ sectionBytes ks ++
     (sectionBytes bs ++ (sectionBytes (j .weights) ++ (sectionBytes (j .values) ++ (sectionBytes (j .copies) ++ [])))) =
     simp (append-assoc, append-nil) in
@@ -178,8 +202,9 @@ job-back j s =
     let s₅ = section-next b _ (j .values) _ s₄ in
     let s₆ = section-next b _ (j .copies) [] s₅ in
     read-on b 0 ks _ s₁ (lit< tt) (Exactly 1) unreadable _ (one32 (j .kind-number) (s .kind-number)) refl
-    ∙ read-on b _ bs _ s₂ (lit< tt) (Exactly 1) unreadable _ (one32 (j .budget) (s .budget)) refl
+    ∙ read-on b _ bs _ s₂ (budgets .few) (Exactly (budgetCount (j .kind-number))) unreadable _ (budgets .fit) (budgets .many)
     ∙ read-on b _ (j .weights) _ s₃ (s .many-weights) Any unreadable _ (s .weights) refl
     ∙ read-on b _ (j .values) _ s₄ (s .many-values) Any unreadable _ (s .values) refl
     ∙ read-on b _ (j .copies) [] s₅ (s .many-copies) Any unreadable _ (s .copies) refl
-    ∙ end-back b _ unreadable (readable j) s₆
+    ∙ end-back b _ unreadable (readable (jobOf (j .kind-number) bs (j .weights) (j .values) (j .copies))) s₆
+    ∙ ap readable (budgets .made)

@@ -155,10 +155,10 @@ module _ (o : Order) (n : ℕ) (limits : List ℕ) (suits : List ℕ → Bool) (
         (implied (suits q) (good p q && (good q p implies settles o n p q))
         (all-out limits (λ q′. suits q′ implies (good p q′ && (good q′ p implies settles o n p q′))) t q within) suited)
 
-    as-good : T (good p q)
+    pub as-good : T (good p q)
     as-good = against .0
 
-    well-settled : T (good q p) → (m : ℕ) → m < n → AgreeEarlier o n m q p → NoWorse o (at p m) (at q m)
+    pub well-settled : T (good q p) → (m : ℕ) → m < n → AgreeEarlier o n m q p → NoWorse o (at p m) (at q m)
     well-settled tied = settles-out o n p q (implied (good q p) (settles o n p q) (against .1) tied)
 
 module _ {A : Type 0} (eq : A → A → Bool) (name : List ℕ → A) (limits : List ℕ) (suits : List ℕ → Bool) (names : List A) where

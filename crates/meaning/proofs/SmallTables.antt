@@ -31,7 +31,7 @@ use Rattle.meaning.proofs.Small.{selects, selects-out, unmade, unmade-o
 -- ---- some list of counts
 
 -- some list within the limits passes
-unfoldable some : List ℕ → (List ℕ → Bool) → Bool
+unfoldable pub some : List ℕ → (List ℕ → Bool) → Bool
 unfolding someOf
 some [] f = f []
 some (l ∷ ls) f = someOf (λ x. some ls (λ q. f (x ∷ q))) (suc l)
@@ -41,7 +41,7 @@ unfolding someOf
 some-of-out f zero t = absurd t
 some-of-out f (suc n) t = elim (or-yes (someOf f n) (f n) t) [ inl a ↦ some-of-out f n a | inr b ↦ (n, b) ]
 
-some-out : (ls : List ℕ) (f : List ℕ → Bool) → T (some ls f) → (q : List ℕ) × T (f q)
+pub some-out : (ls : List ℕ) (f : List ℕ → Bool) → T (some ls f) → (q : List ℕ) × T (f q)
 unfolding some
 some-out [] f t = ([], t)
 some-out (l ∷ ls) f t =

@@ -18,7 +18,7 @@ use Rattle.meaning.specs.Refusals.{boundsFit, claimsFit, eachWithin, kin
 use Rattle.meaning.specs.Answers.{answerNumbers}
 use Rattle.meaning.specs.Solved.{Gives, TableBy, TableHolds, Unrefused, UnrefusedBy}
 use Rattle.meaning.specs.SolvedIn.{SolvedInCellsBy, SolvedInWords, SolvedInPicks}
-use Rattle.meaning.proofs.Valid.{is-cleared}
+use Rattle.meaning.proofs.Valid.{is-cleared, each-number}
 use Rattle.meaning.proofs.Laws.{answered-solved}
 use Rattle.meaning.proofs.Unique.{no-second-choice}
 
@@ -34,16 +34,12 @@ pub record KeptBy (way : Way) (k : Kind) (j : Job) (lent : Lent) : Type 0 where
   pub claimed : T (claimsFit (rulesOf k) j)
 
 pub kept : {way : Way} (k : Kind) (j : Job) (lent : Lent) → UnrefusedBy way k j lent → KeptBy way k j lent
-unfolding boundsFit numbersFit roomFits
+unfolding boundsFit roomFits
 kept {way} k j lent ok =
     let room = roomBy way k j in
     let rules = rulesOf k in
     let c = is-cleared room k j lent (ok .no-refusal) in
     let (n, b) = and-yes (leb (labels j) (rules .label-bound)) (leb (j .budget) (rules .budget-bound)) (c .keeps .bounds) in
-    let (wv, _) =
-    and-yes ((rules .weight-rule) (j .weights) && eachWithin (rules .value-floor) mostValue (j .values))
-    (eachWithin leastCopies mostCopies (j .copies)) (c .keeps .numbers) in
-    let (w, _) = and-yes ((rules .weight-rule) (j .weights)) (eachWithin (rules .value-floor) mostValue (j .values)) wv in
     let (cw, p) =
     and-yes (leb (room .cells) (length (lent .cells)) && leb (room .words) (length (lent .words))) (leb (room .picks) (length (lent .picks)))
     (c .roomy) in
@@ -51,7 +47,7 @@ kept {way} k j lent ok =
     record {
       few = leb-yes n;
       small = leb-yes b;
-      weights-right = w;
+      weights-right = each-number rules j (c .keeps .numbers) .weights;
       cells-room = leb-yes cs;
       words-room = leb-yes ws;
       picks-room = leb-yes p;

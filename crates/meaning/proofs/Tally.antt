@@ -106,7 +106,7 @@ unfolding tally
 tally-map f g [] = refl
 tally-map f g (x ∷ xs) = ap (λ (n : ℕ). if (f (g x)) 1 0 + n) (tally-map f g xs)
 
-tally-append : (f : ℕ → Bool) (xs ys : List ℕ) → tally f (xs ++ ys) ≡ tally f xs + tally f ys
+pub tally-append : (f : ℕ → Bool) (xs ys : List ℕ) → tally f (xs ++ ys) ≡ tally f xs + tally f ys
 unfolding tally
 tally-append f [] ys = omega arith
 tally-append f (x ∷ xs) ys = omega (arith, tally-append f xs ys)

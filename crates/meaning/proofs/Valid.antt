@@ -15,7 +15,7 @@ use Rattle.meaning.specs.Job.{Job, Knapsack, once, limited, free, packin
 use Rattle.meaning.specs.Lent.{cellCount, Lent, Room}
 use Rattle.meaning.specs.Bounds.{leastCopies, mostBudget, mostCopies, mostLabels, mostValue}
 use Rattle.meaning.specs.Refusals.{Rules, ascendingFrom, boundsFit, eachWithin, hasCopies, jobRefusal, knapsackRules, leastValue}
-use Rattle.meaning.specs.Refusals.{listsFit, numbersFit, positive, rulesOf, claimsFit, kindRefusal, roomFits}
+use Rattle.meaning.specs.Refusals.{listsFit, numbersFit, positive, qFits, rulesOf, claimsFit, kindRefusal, roomFits}
 use Rattle.meaning.specs.Knapsacks.{BestValue, MayPick}
 use Rattle.meaning.specs.Certificates.{certificateCells}
 use Rattle.meaning.proofs.Steps.{best-by}
@@ -45,6 +45,24 @@ has-passed r j later e =
     let (c, e₃) = past-if (numbersFit r j) 4 _ e₂ in
     record { lists = a; bounds = b; numbers = c; later-none = e₃ }
 
+-- 5 asks four things
+pub record Numbers (r : Rules) (j : Job) : Type 0 where
+  pub weights : T ((r .weight-rule) (j .weights))
+  pub values : T (eachWithin (r .value-floor) mostValue (j .values))
+  pub copies : T (eachWithin leastCopies mostCopies (j .copies))
+  pub q : T (qFits r j)
+
+pub each-number : (r : Rules) (j : Job) → T (numbersFit r j) → Numbers r j
+unfolding numbersFit
+each-number r j t =
+    let weights = (r .weight-rule) (j .weights) in
+    let values = eachWithin (r .value-floor) mostValue (j .values) in
+    let copies = eachWithin leastCopies mostCopies (j .copies) in
+    let (wvc, q) = and-yes (weights && values && copies) (qFits r j) t in
+    let (wv, c) = and-yes (weights && values) copies wvc in
+    let (w, v) = and-yes weights values wv in
+    record { weights = w; values = v; copies = c; q = q }
+
 -- a job that isn't refused with 3 to 6 or 9
 pub record Cleared (room : Room) (k : Kind) (j : Job) (lent : Lent) : Type 0 where
   pub keeps : Passed (rulesOf k) j (if (not (roomFits room lent)) 6 (if (not (claimsFit (rulesOf k) j)) 9 0))
@@ -71,23 +89,21 @@ pub record Valid (k : Knapsack) (j : Job) : Type 0 where
   pub values : T (eachWithin (leastValue k) mostValue (j .values))
   pub copies : T (eachWithin leastCopies mostCopies (j .copies))
 
--- a knapsack that passed is valid
-pub is-valid : (k : Knapsack) (j : Job) (later : ℕ) → Passed (rulesOf (packing k)) j later → Valid k j
-unfolding listsFit boundsFit numbersFit rulesOf knapsackRules if
-is-valid k j later p =
+-- a knapsack that passed is valid, with a q or without
+pub is-valid : (k : Knapsack) (uses-q : Bool) (j : Job) (later : ℕ) → Passed (knapsackRules k uses-q) j later → Valid k j
+unfolding listsFit boundsFit knapsackRules if
+is-valid k uses-q j later p =
     let (l, l′) = and-yes (eqb (length (j .values)) (labels j)) (eqb (length (j .copies)) (if (hasCopies k) (labels j) 0)) (p .lists) in
     let (n, c) = and-yes (leb (labels j) mostLabels) (leb (j .budget) mostBudget) (p .bounds) in
-    let (wv, cs) =
-    and-yes (positive (j .weights) && eachWithin (leastValue k) mostValue (j .values)) (eachWithin leastCopies mostCopies (j .copies)) (p .numbers) in
-    let (w, v) = and-yes (positive (j .weights)) (eachWithin (leastValue k) mostValue (j .values)) wv in
+    let numbers = each-number (knapsackRules k uses-q) j (p .numbers) in
     record {
       few = leb-yes n;
       small = leb-yes c;
       valued = eqb-yes l;
       copied = eqb-yes l′;
-      weights = w;
-      values = v;
-      copies = cs;
+      weights = numbers .weights;
+      values = numbers .values;
+      copies = numbers .copies;
     }
 
 -- what every member passes, the one at a place does
@@ -134,9 +150,9 @@ pub not-refused : (room : Room) (k : Knapsack) (j : Job) (lent : Lent) (later : 
     → kindRefusal room (packing k) j lent ≡ 0
 unfolding kindRefusal jobRefusal claimsFit rulesOf knapsackRules
 not-refused room k j lent later p fits =
-    if-passed (listsFit (knapsackRules k) j) 3 _ (p .lists)
-    ∙ if-passed (boundsFit (knapsackRules k) j) 4 _ (p .bounds)
-    ∙ if-passed (numbersFit (knapsackRules k) j) 5 _ (p .numbers)
+    if-passed (listsFit (knapsackRules k false) j) 3 _ (p .lists)
+    ∙ if-passed (boundsFit (knapsackRules k false) j) 4 _ (p .bounds)
+    ∙ if-passed (numbersFit (knapsackRules k false) j) 5 _ (p .numbers)
     ∙ if-passed (roomFits room lent) 6 _ fits
     ∙ if-passed true 9 0 tt
 

@@ -2,7 +2,7 @@
 -- Assumes nothing.
 use Prim.Native.Nat.{ℕ}
 
--- n in kinds 1 to 4 and 8
+-- n in kinds 1 to 4, 8 and 9
 unfoldable pub mostLabels : ℕ
 mostLabels = 1_024
 
@@ -14,7 +14,7 @@ mostSizes = 64
 unfoldable pub mostClaims : ℕ
 mostClaims = 1_024
 
--- C in kinds 1 to 6 and 8
+-- C in kinds 1 to 6, 8 and 9
 unfoldable pub mostBudget : ℕ
 mostBudget = 65_535
 
@@ -33,6 +33,14 @@ mostCopies = 65_535
 -- copies, at least
 unfoldable pub leastCopies : ℕ
 leastCopies = 0
+
+-- q, at least
+unfoldable pub leastQ : ℕ
+leastQ = 2
+
+-- q, at most
+unfoldable pub mostQ : ℕ
+mostQ = 100
 
 -- picks of one label in a certificate of kind 3
 unfoldable pub mostOfOne : ℕ

@@ -10,7 +10,7 @@ use Rattle.meaning.specs.declared.Section.the-variants.{Part, Broken}
 use Rattle.meaning.specs.declared.Needed.{Needed}
 use Rattle.meaning.specs.declared.Needed.the-variants.{Any, Exactly}
 use Rattle.meaning.specs.Lists.{at, upTo, if}
-use Rattle.meaning.specs.Job.{Job, jobOf, budgetsOf}
+use Rattle.meaning.specs.Job.{Job, jobOf, budgetsOf, budgetCount}
 
 -- ---- numbers
 
@@ -61,11 +61,11 @@ pub data JobRead : Type 0 where
   unreadable : (place : ℕ) → JobRead
   readable : Job → JobRead
 
--- kinds, budgets, weights, values, copies; the first two sections have count 1
+-- kinds, budgets, weights, values, copies; the first section has count 1, and the second that of the kind
 unfoldable pub readJob : List ℕ → JobRead
 readJob b =
     withSection b (readSection (Exactly 1) b 0) unreadable λ kinds p₁.
-    withSection b (readSection (Exactly 1) b p₁) unreadable λ budgets p₂.
+    withSection b (readSection (Exactly (budgetCount (at kinds 0))) b p₁) unreadable λ budgets p₂.
     withSection b (readSection Any b p₂) unreadable λ weights p₃.
     withSection b (readSection Any b p₃) unreadable λ values p₄.
     withSection b (readSection Any b p₄) unreadable λ copies p₅.

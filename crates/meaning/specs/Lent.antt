@@ -4,7 +4,8 @@ use Prim.Native.Nat.{ℕ, _+_, _*_, _/_}
 use mathlib.Core.List.{List}
 use Rattle.meaning.specs.declared.Way.{Way}
 use Rattle.meaning.specs.declared.Way.the-variants.{Light, Full}
-use Rattle.meaning.specs.Job.{Job, labels, once, limited, free, Kind, packing, subset-sums, fewest-blocks, block-ways, sharing, labels-behind}
+use Rattle.meaning.specs.Job.{Job, labels, once, limited, free, Kind, packing, subset-sums, fewest-blocks, block-ways, sharing, labels-behind, stated-share}
+use Rattle.meaning.specs.Cuts.{statedCells}
 
 -- what the slices hold: a table of 32-bit cells, a table of 64-bit words, and picks
 pub record Lent : Type 0 where
@@ -39,7 +40,7 @@ unfoldable pub onceRoom : Way → Job → Room
 onceRoom Light j = roomOf (j .budget + 1) (labels j * bitWords j) (labels j)
 onceRoom Full j = roomOf (cellCount j) 0 (labels j)
 
--- the document's table of cells needed, by the way that kind 1 goes; picks need n places in kinds 1, 2, 3, 5, 7 and 8, none in 4 and 6
+-- the document's table of cells needed, by the way that kind 1 goes; picks need n places in kinds 1, 2, 3, 5, 7, 8 and 9, none in 4 and 6
 unfoldable pub roomBy : Way → Kind → Job → Room
 roomBy way (packing once) j = onceRoom way j
 roomBy way (packing limited) j = roomOf (cellCount j) 0 (labels j)
@@ -49,6 +50,7 @@ roomBy way fewest-blocks j = roomOf (j .budget + 1) 0 (labels j)
 roomBy way block-ways j = roomOf 0 (j .budget + 1) 0
 roomBy way sharing j = roomOf 0 0 (labels j)
 roomBy way labels-behind j = roomOf (j .budget + 1) 0 (labels j)
+roomBy way stated-share j = roomOf (statedCells j) 0 (labels j)
 
 -- by the light way, which `solve` goes
 abbrev pub roomFor : Kind → Job → Room

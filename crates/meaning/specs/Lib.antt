@@ -7,6 +7,7 @@ pub mod Counting
 pub mod Cells
 pub mod Slices
 pub mod Job
+pub mod Cuts
 pub mod Lent
 pub mod Refusals
 pub mod Bytes
@@ -15,6 +16,7 @@ pub mod Knapsacks
 pub mod Sums
 pub mod Light
 pub mod Behind
+pub mod Stated
 pub mod Blocks
 pub mod Shares
 pub mod Answers

@@ -6,7 +6,7 @@ use mathlib.Core.List.{List}
 use Rattle.meaning.specs.Lists.{at}
 
 -- the orders in which counts are settled, each named by the label that is settled first and by what its count is to be.
--- last-least: smallest read from the last label to the first (kinds 1, 2 and 8);
+-- last-least: smallest read from the last label to the first (kinds 1, 2, 8 and 9);
 -- first-most: label 0's count as great as it can be, then label 1's, and so on (kind 3);
 -- last-most: the last size's count as great as it can be, then the one before it, and so on (kind 5)
 pub data Order : Type 0 where

@@ -8,9 +8,9 @@ use mathlib.Core.Bool.{Bool, true, false, _&&_, _||_, not}
 use mathlib.Core.List.{List, [], _∷_}
 use lib.Dec.{leb, ltb, eqb}
 use lib.ListN.{length}
-use Rattle.meaning.specs.Bounds.{mostLabels, mostSizes, mostClaims, mostBudget, mostShared, mostValue, mostCopies, leastCopies}
+use Rattle.meaning.specs.Bounds.{mostLabels, mostSizes, mostClaims, mostBudget, mostShared, mostValue, mostCopies, leastCopies, leastQ, mostQ}
 use Rattle.meaning.specs.Lists.{sum, every, if}
-use Rattle.meaning.specs.Job.{Job, labels, Knapsack, once, limited, free, Kind, packing, subset-sums, fewest-blocks, block-ways, sharing, labels-behind}
+use Rattle.meaning.specs.Job.{Job, labels, Knapsack, once, limited, free, Kind, packing, subset-sums, fewest-blocks, block-ways, sharing, labels-behind, stated-share}
 use Rattle.meaning.specs.Lent.{Lent, Room}
 
 -- ---- rules on the numbers of a list
@@ -34,7 +34,7 @@ eachWithin low high xs = every (λ x. leb low x && leb x high) xs
 
 -- ---- the rules of a kind
 
--- which lists it uses, its bounds on n and C, its rule on weights, its least value, and whether the weights' sum S has to be positive
+-- which lists it uses, its bounds on n and C, its rule on weights, its least value, whether the weights' sum S has to be positive, and whether it has a q
 pub record Rules : Type 0 where
   pub uses-values : Bool
   pub uses-copies : Bool
@@ -43,6 +43,7 @@ pub record Rules : Type 0 where
   pub weight-rule : List ℕ → Bool
   pub value-floor : ℕ
   pub needs-sum : Bool
+  pub uses-q : Bool
 
 -- of kinds 1 to 3 only kind 2 uses copies
 unfoldable pub hasCopies : Knapsack → Bool
@@ -56,9 +57,9 @@ leastValue once = 0
 leastValue limited = 0
 leastValue free = 1
 
--- kinds 1 to 3
-unfoldable pub knapsackRules : Knapsack → Rules
-knapsackRules k = record {
+-- kinds 1 to 3; and 9, which is kind 1 with a q
+unfoldable pub knapsackRules : Knapsack → Bool → Rules
+knapsackRules k uses-q = record {
   uses-values = true;
   uses-copies = hasCopies k;
   label-bound = mostLabels;
@@ -66,6 +67,7 @@ knapsackRules k = record {
   weight-rule = positive;
   value-floor = leastValue k;
   needs-sum = false;
+  uses-q = uses-q;
 }
 
 -- kinds 4 to 8 use weights alone
@@ -78,16 +80,18 @@ weightRules label-bound budget-bound weight-rule needs-sum = record {
   weight-rule = weight-rule;
   value-floor = 0;
   needs-sum = needs-sum;
+  uses-q = false;
 }
 
 -- the rules of each kind
 unfoldable pub rulesOf : Kind → Rules
-rulesOf (packing k) = knapsackRules k
+rulesOf (packing k) = knapsackRules k false
 rulesOf subset-sums = weightRules mostLabels mostBudget positive false
 rulesOf fewest-blocks = weightRules mostSizes mostBudget (ascendingFrom 1) false
 rulesOf block-ways = weightRules mostSizes mostBudget (ascendingFrom 1) false
 rulesOf sharing = weightRules mostClaims mostShared anything true
 rulesOf labels-behind = weightRules mostLabels mostBudget positive false
+rulesOf stated-share = knapsackRules once true
 
 -- ---- the tests, by refusal number
 
@@ -101,12 +105,17 @@ listsFit r j =
 unfoldable pub boundsFit : Rules → Job → Bool
 boundsFit r j = leb (labels j) (r .label-bound) && leb (j .budget) (r .budget-bound)
 
--- 5: every weight, value and copies number keeps its rule
+-- q is from 2 to 100, in a kind that has one
+unfoldable pub qFits : Rules → Job → Bool
+qFits r j = not (r .uses-q) || leb leastQ (j .q) && leb (j .q) mostQ
+
+-- 5: every weight, value and copies number keeps its rule, and so does q
 unfoldable pub numbersFit : Rules → Job → Bool
 numbersFit r j =
     (r .weight-rule) (j .weights)
     && eachWithin (r .value-floor) mostValue (j .values)
     && eachWithin leastCopies mostCopies (j .copies)
+    && qFits r j
 
 -- 6: no lent slice is too short
 unfoldable pub roomFits : Room → Lent → Bool

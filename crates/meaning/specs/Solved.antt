@@ -14,7 +14,7 @@ use Rattle.meaning.specs.declared.Way.the-variants.{Light, Full}
 use Rattle.meaning.specs.Lists.{sum, total, if}
 use Rattle.meaning.specs.Slices.{Holds}
 use Rattle.meaning.specs.Job.{Job, labels, Knapsack, once, limited, free, Kind, packing, subset-sums, fewest-blocks, block-ways, sharing}
-use Rattle.meaning.specs.Job.{labels-behind, kindOf}
+use Rattle.meaning.specs.Job.{labels-behind, stated-share, kindOf}
 use Rattle.meaning.specs.Lent.{Lent, Room, roomBy}
 use Rattle.meaning.specs.Refusals.{kindRefusal}
 use Rattle.meaning.specs.Bytes.{JobRead, unreadable, readable, readJob}
@@ -22,15 +22,16 @@ use Rattle.meaning.specs.Knapsacks.{BestPicks, ValueTable}
 use Rattle.meaning.specs.Sums.{Weighs, YesOrNo, TotalCount, BitTable}
 use Rattle.meaning.specs.Light.{LightTable}
 use Rattle.meaning.specs.Behind.{Behind, FirstRow}
+use Rattle.meaning.specs.Stated.{StatedPicks, StatedTable}
 use Rattle.meaning.specs.Blocks.{Makes, Laid, FewestRow, WaysFor, WaysRow, tooMany}
 use Rattle.meaning.specs.Shares.{spareOf, sharesOf}
 use Rattle.meaning.specs.Answers.{AnswerNumbers, answerNumbers}
 
 -- ---- what is said, as s, of a job j that none of 1 to 6 and 9 refuses, with the picks p that are written ([] where none are)
 
--- kinds 1 to 3: the chosen best picks, with their value and weight
-pub record Packed (k : Knapsack) (j : Job) (s : AnswerNumbers) (p : List ℕ) : Type 0 where
-  pub picked : BestPicks k j (labels j) (j .budget) p
+-- kinds 1 to 3 and 9: the picks that are the choice, with their value and weight
+pub record Packed (Choice : List ℕ → Type 0) (j : Job) (s : AnswerNumbers) (p : List ℕ) : Type 0 where
+  pub picked : Choice p
   pub numbers : s ≡ answerNumbers (Says.Knapsack (total (j .values) p) (total (j .weights) p))
 
 -- kind 4: yes or no, and the number of totals; no picks
@@ -74,12 +75,13 @@ Weighed j s p =
 
 -- what a job of each kind is answered by
 unfoldable pub Gives : Kind → Job → AnswerNumbers → List ℕ → Type 0
-Gives (packing k) j s p = Packed k j s p
+Gives (packing k) j s p = Packed (BestPicks k j (labels j) (j .budget)) j s p
 Gives subset-sums j s p = Summed j s p
 Gives fewest-blocks j s p = Built j s p
 Gives block-ways j s p = WaysGiven j s p
 Gives sharing j s p = Shared j s p
 Gives labels-behind j s p = Weighed j s p
+Gives stated-share j s p = Packed (StatedPicks j) j s p
 
 -- kind 1: a row and a bit for each label and budget; or the full table
 unfoldable pub OnceTable : Way → Job → Lent → Type 0
@@ -96,6 +98,7 @@ TableBy way fewest-blocks j content = FewestRow j (content .cells)
 TableBy way block-ways j content = WaysRow j (content .words)
 TableBy way sharing j content = Unit
 TableBy way labels-behind j content = FirstRow j (content .cells)
+TableBy way stated-share j content = StatedTable j (content .cells)
 
 -- by the light way, which `solve` goes
 abbrev pub TableHolds : Kind → Job → Lent → Type 0

@@ -9,7 +9,7 @@ use Rattle.meaning.specs.Job.{Job}
 use Rattle.meaning.specs.Lent.{lentOf}
 use Rattle.meaning.specs.Solved.{SolvedBy, Solved}
 
--- kinds 2, 3, 5 and 8 use cells and picks, and so does kind 1 by the full way; by the light way it uses all three
+-- kinds 2, 3, 5, 8 and 9 use cells and picks, and so does kind 1 by the full way; by the light way it uses all three
 unfoldable pub SolvedInCellsBy : Way → Job → List ℕ → List ℕ → Answer → List ℕ → List ℕ → Type 0
 SolvedInCellsBy way j cells picks a cells-after picks-after =
     (words : List ℕ) → SolvedBy way j (lentOf cells words picks) a (lentOf cells-after words picks-after)
