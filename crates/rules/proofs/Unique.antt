@@ -15,7 +15,7 @@ use Rattle.meaning.specs.Job.{Knapsack, Kind, once, packing, subset-sums, fewes
 use Rattle.meaning.specs.Job.{kindOf, jobOf, labels}
 use Rattle.meaning.specs.Lent as lent
 use Rattle.meaning.specs.Refusals as meaning
-use Rattle.meaning.specs.Bounds.{mostLabels, mostBudget, mostValue, mostCopies, leastCopies}
+use Rattle.meaning.specs.Bounds.{mostLabels, mostBudget, mostValue, mostCopies, leastCopies, leastQ, mostQ}
 use Rattle.meaning.specs.Refusals.{rulesOf, positive, ascendingFrom, anything}
 use Rattle.rules.specs.declared.WeightRule.{WeightRule}
 use Rattle.rules.specs.declared.WeightRule.the-variants.{Positive, Ascending, Anything}
@@ -80,7 +80,7 @@ blocks-rules-unique r r′ a b = rules-unique false (rulesOf fewest-blocks) r r�
 pub shares-rules-unique : (r r′ : Rules) → rulesFrom r true ≡ rulesOf sharing → rulesFrom r′ true ≡ rulesOf sharing → r ≡ r′
 shares-rules-unique = rules-unique true (rulesOf sharing)
 
--- ---- the bounds of values and of copies
+-- ---- the bounds of values, of copies and of q
 
 bounds-unique : (least most : ℕ) (r r′ : Bounds) → (r .least ≡ least) × (r .most ≡ most) → (r′ .least ≡ least) × (r′ .most ≡ most) → r ≡ r′
 bounds-unique least most r r′ a b =
@@ -97,6 +97,10 @@ value-bounds-unique rules = bounds-unique (rules .floor) mostValue
 pub copies-bounds-unique : (r r′ : Bounds) → (r .least ≡ leastCopies) × (r .most ≡ mostCopies)
     → (r′ .least ≡ leastCopies) × (r′ .most ≡ mostCopies) → r ≡ r′
 copies-bounds-unique = bounds-unique leastCopies mostCopies
+
+-- `q_bounds`
+pub q-bounds-unique : (r r′ : Bounds) → (r .least ≡ leastQ) × (r .most ≡ mostQ) → (r′ .least ≡ leastQ) × (r′ .most ≡ mostQ) → r ≡ r′
+q-bounds-unique = bounds-unique leastQ mostQ
 
 -- ---- the room that `meaning` asks for settles the code's
 

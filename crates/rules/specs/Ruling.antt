@@ -1,7 +1,7 @@
 -- The rules of a kind as the code holds them.
 -- Assumes nothing.
 use Prim.Native.Nat.{ℕ}
-use mathlib.Core.Bool.{Bool}
+use mathlib.Core.Bool.{Bool, false}
 use mathlib.Core.List.{List}
 use Rattle.meaning.specs.Refusals as meaning
 use Rattle.rules.specs.declared.WeightRule.{WeightRule}
@@ -14,7 +14,7 @@ ruleFrom Positive = meaning.positive
 ruleFrom Ascending = meaning.ascendingFrom 1
 ruleFrom Anything = meaning.anything
 
--- the rules that the code's are, beside whether the weights' sum has to be positive, which is asked elsewhere
+-- the rules that the code's are, beside whether the weights' sum has to be positive, and of a kind without q: both are asked elsewhere
 unfoldable pub rulesFrom : Rules → Bool → meaning.Rules
 rulesFrom r needs-sum = record {
   uses-values = r .valued;
@@ -24,4 +24,5 @@ rulesFrom r needs-sum = record {
   weight-rule = ruleFrom (r .weights);
   value-floor = r .floor;
   needs-sum = needs-sum;
+  uses-q = false;
 }

@@ -5,21 +5,21 @@ ghost use mathlib.Core.Option.{some};
 ghost use Prim.Native.Nat.{ℕ, _≤_, min};
 ghost use mathlib.Core.Bool.{Bool, true, false};
 ghost use Rattle.meaning.specs.declared.Way.the-variants.{Full};
-ghost use Rattle.meaning.specs.Job.{Knapsack, once, packing, subset-sums, fewest-blocks, block-ways, sharing, labels-behind, kindOf};
-ghost use Rattle.meaning.specs.Bounds.{mostLabels, mostBudget, mostValue, mostCopies, leastCopies, mostOfOne};
+ghost use Rattle.meaning.specs.Job.{Knapsack, once, packing, subset-sums, fewest-blocks, block-ways, sharing, labels-behind, kindOf, budgetCount};
+ghost use Rattle.meaning.specs.Bounds.{mostLabels, mostBudget, mostValue, mostCopies, leastCopies, leastQ, mostQ, mostOfOne};
 ghost use Rattle.meaning.specs.Refusals.{rulesOf, weightRules};
 ghost use Rattle.rules.specs.Ruling.{rulesFrom, ruleFrom};
 ghost use Rattle.rules.specs.Places.{NeededFor, NeededBy, hasRoom};
 
 // ---- the bounds
 
-// n in kinds 1 to 4 and 8.
+// n in kinds 1 to 4, 8 and 9.
 const MOST_LABELS: usize = 1_024;
 // n in kinds 5 and 6.
 const MOST_SIZES: usize = 64;
 // n in kind 7.
 const MOST_CLAIMS: usize = 1_024;
-// C in kinds 1 to 6 and 8.
+// C in kinds 1 to 6, 8 and 9.
 const MOST_BUDGET: u32 = 65_535;
 // C in kind 7: any number.
 const MOST_SHARED: u32 = 4_294_967_295;
@@ -29,10 +29,21 @@ const MOST_VALUE: u32 = 65_535;
 const MOST_COPIES: u32 = 65_535;
 // Copies, at least.
 const LEAST_COPIES: u32 = 0;
+// q, at least.
+const LEAST_Q: u32 = 2;
+// q, at most.
+const MOST_Q: u32 = 100;
 // Picks of one label in a certificate of kind 3.
 const MOST_OF_ONE: u32 = 65_535;
 
 // ---- the rules
+
+// How many budgets a job of a kind has: C and q, or C alone.
+pub fn budget_count(kind: u32) -> u32
+    ensures { λ r. ⌜ r ≡ budgetCount kind ⌝ }
+{
+    if kind == 9 { 2 } else { 1 }
+}
 
 // What a kind asks of its weights.
 pub enum WeightRule {
@@ -51,7 +62,7 @@ pub struct Rules {
     pub floor: u32,
 }
 
-// The rules of kinds 1 to 3.
+// The rules of kinds 1 to 3; those of kind 1 are kind 9's, but for its q.
 pub fn knapsack_rules(kind: u32) -> Rules
     requires { ⌜ (1 ≤ kind) × (kind ≤ 3) ⌝ }
     ensures { λ r. ⌜ ((k : Knapsack) → kindOf kind ≡ some (packing k) → rulesFrom r false ≡ rulesOf (packing k)) ⌝ }
@@ -125,6 +136,16 @@ pub fn copies_bounds() -> Bounds
     Bounds {
         least: LEAST_COPIES,
         most: MOST_COPIES,
+    }
+}
+
+// The bounds of q.
+pub fn q_bounds() -> Bounds
+    ensures { λ r. ⌜ (r .least ≡ leastQ) × (r .most ≡ mostQ) ⌝ }
+{
+    Bounds {
+        least: LEAST_Q,
+        most: MOST_Q,
     }
 }
 
