@@ -39,7 +39,8 @@ pub mod EachKind
 pub mod Unique
 pub mod Laws
 pub mod QuickPromise
--- bytes
+-- budgets, and bytes
+pub mod Budgets
 pub mod Numbers
 pub mod Sections
 -- certificates: the third demand

@@ -15,7 +15,7 @@ use Rattle.meaning.specs.Lists.{at, if, sum, every}
 use Rattle.meaning.specs.Job.{Job, labels}
 use Rattle.meaning.specs.Refusals as meaning
 use Rattle.meaning.specs.Bounds.{mostValue, mostCopies, leastCopies}
-use Rattle.meaning.specs.Refusals.{ascendingFrom, boundsFit, eachWithin, jobRefusal, listsFit, numbersFit}
+use Rattle.meaning.specs.Refusals.{ascendingFrom, boundsFit, eachWithin, jobRefusal, listsFit, numbersFit, qFits}
 use Rattle.meaning.proofs.Loops.{and-assoc, and-true, every-joined, every-step}
 use Rattle.rules.specs.declared.Rules.{Rules}
 use Rattle.rules.specs.Ruling.{rulesFrom, ruleFrom}
@@ -111,8 +111,8 @@ module _ (rules : Rules) (needs-sum : Bool) (j : Job) where
 
     pub rest-copies : eachWithin (rules .floor) mostValue (j .values) ≡ true
         → eachWithin leastCopies mostCopies (j .copies) ≡ numbersFit (rulesFrom rules needs-sum) j
-    unfolding numbersFit rulesFrom
-    rest-copies values-right = simp (weights-right, values-right)
+    unfolding numbersFit qFits rulesFrom
+    rest-copies values-right = simp (weights-right, values-right) (sym (and-true (eachWithin leastCopies mostCopies (j .copies))))
 
 -- ---- the lowest number that applies
 

@@ -1,10 +1,12 @@
 -- Job bytes, read section by section: what is known where reading breaks, and where it comes to the end.
 -- Assumes nothing.
 use mathlib.Core.Path.{_≡_, sym, ap, _∙_}
-use Prim.Native.Nat.{ℕ, _+_, _≤_, _<_}
+use Prim.Native.Nat.{ℕ, _+_, _-_, _*_, _≤_, _<_}
 use native.Mathlib.Omega.{arith}
+use mathlib.Core.Bool.{true}
 use mathlib.Core.List.{List, [], _∷_}
 use lib.ListN.{length}
+use lib.Dec.{lit<}
 use mir.Facts.{eqb-yes}
 use borrow.Author.Tests.{lt-ltb, le-ltb}
 use Rattle.meaning.specs.declared.Section.{Section}
@@ -12,8 +14,9 @@ use Rattle.meaning.specs.declared.Section.the-variants as Finds
 use Rattle.meaning.specs.declared.Needed.{Needed}
 use Rattle.meaning.specs.declared.Needed.the-variants.{Any, Exactly}
 use Rattle.meaning.specs.Lists.{at, if}
-use Rattle.meaning.specs.Job.{jobOf}
+use Rattle.meaning.specs.Job.{hasQ, budgetCount, jobOf}
 use Rattle.meaning.specs.Bytes.{JobRead, atEnd, between, isNeeded, numberAt, numbersIn, readJob, readSection, readable, unreadable, withSection}
+use Rattle.meaning.proofs.Budgets.{same-budgets, some-budget, two-budgets}
 use Rattle.meaning.proofs.Numbers.{between-long, between-number, numbers-at, goes-on, numbers-long, section-found, stops}
 use Rattle.numbers.specs.TwoSlices.{jobFrom, listFrom}
 use Rattle.requests.specs.declared.Parts.{Parts}
@@ -44,24 +47,33 @@ within needed b p start count next e =
     let f = section-found needed b p start count next e in
     record { ordered = omega (arith, f .ends); inside = f .inside }
 
--- a section of one number has it at its start
-pub one-inside : (b : List ℕ) (p start count next : ℕ) → readSection (Exactly 1) b p ≡ Finds.Part start count next → start + 4 ≤ length b
-unfolding isNeeded
-one-inside b p start count next e =
-    let f = section-found (Exactly 1) b p start count next e in
-    let one : count ≡ 1 = eqb-yes (rw (f .right) tt) in
-    omega (arith, f .ends, f .inside)
+-- a section of a needed number of numbers
+module _ (b : List ℕ) (p start count next needed : ℕ) (e : readSection (Exactly needed) b p ≡ Finds.Part start count next) where
+  -- it has as many
+  ends : next ≡ start + 4 * needed
+  unfolding isNeeded
+  ends =
+      let f = section-found (Exactly needed) b p start count next e in
+      let same : count ≡ needed = eqb-yes (rw (f .right) tt) in
+      omega (arith, f .ends)
 
-one-number : (b : List ℕ) (p start count next : ℕ) → readSection (Exactly 1) b p ≡ Finds.Part start count next
-    → at (numbersIn (between b start next)) 0 ≡ numberAt b start
-unfolding isNeeded
-one-number b p start count next e =
-    let f = section-found (Exactly 1) b p start count next e in
-    let one : count ≡ 1 = eqb-yes (rw (f .right) tt) in
-    let long : length (between b start next) ≡ 4 = between-long b start next (f .inside) ∙ omega (arith, f .ends) in
-    numbers-at (between b start next) 0 (omega (arith, numbers-long (between b start next)))
-    ∙ between-number b start next 0 (omega (arith, f .ends))
-    ∙ ap (λ (q : ℕ). numberAt b q) (omega arith)
+  -- and each of them stands in the bytes
+  pub one-inside : (i : ℕ) → i < needed → start + 4 * i + 4 ≤ length b
+  one-inside i h = let f = section-found (Exactly needed) b p start count next e in omega (arith, ends, f .inside)
+
+  -- the last of them too
+  pub last-there : 0 < needed → 4 ≤ next
+  last-there h = omega (arith, ends)
+
+  pub last-inside : 0 < needed → next - 4 + 4 ≤ length b
+  last-inside h = let f = section-found (Exactly needed) b p start count next e in omega (arith, ends, f .inside)
+
+  one-number : (i : ℕ) → i < needed → at (numbersIn (between b start next)) i ≡ numberAt b (start + 4 * i)
+  one-number i h =
+      let f = section-found (Exactly needed) b p start count next e in
+      let long : length (between b start next) ≡ 4 * needed = between-long b start next (f .inside) ∙ omega (arith, ends) in
+      numbers-at (between b start next) i (omega (arith, numbers-long (between b start next)))
+      ∙ between-number b start next (4 * i) (omega (arith, ends))
 
 -- ---- all five: what is read after so many of them
 
@@ -79,7 +91,7 @@ module _ (b : List ℕ) where
   after-budgets kind budgets p = withSection b (readSection Any b p) unreadable (after-weights kind budgets)
 
   abbrev after-kinds : List ℕ → ℕ → JobRead
-  after-kinds kinds p = withSection b (readSection (Exactly 1) b p) unreadable (after-budgets (at kinds 0))
+  after-kinds kinds p = withSection b (readSection (Exactly (budgetCount (at kinds 0))) b p) unreadable (after-budgets (at kinds 0))
 
   pub broken-1 : (place : ℕ) → readSection (Exactly 1) b 0 ≡ Finds.Broken place → readJob b ≡ unreadable place
   unfolding readJob
@@ -93,62 +105,85 @@ module _ (b : List ℕ) where
     unfolding readJob
     so-far-1 = goes-on b _ unreadable after-kinds kind n₁ p₁ e₁
 
-    pub broken-2 : (place : ℕ) → readSection (Exactly 1) b p₁ ≡ Finds.Broken place → readJob b ≡ unreadable place
-    broken-2 place e = so-far-1 ∙ stops b _ unreadable (after-budgets (at kinds 0)) place e
+    -- the number of the kind
+    kind-read : at kinds 0 ≡ numberAt b kind
+    kind-read = one-number b 0 kind n₁ p₁ 1 e₁ 0 (lit< tt) ∙ ap (λ (q : ℕ). numberAt b q) (omega arith)
 
-    module _ {budget n₂ p₂ : ℕ} (e₂ : readSection (Exactly 1) b p₁ ≡ Finds.Part budget n₂ p₂) where
-      abbrev budgets : List ℕ
-      budgets = numbersIn (between b budget p₂)
+    -- by which it has so many budgets
+    module _ {many : ℕ} (m : many ≡ budgetCount (numberAt b kind)) where
+      so-far-kind : readJob b ≡ withSection b (readSection (Exactly many) b p₁) unreadable (after-budgets (at kinds 0))
+      so-far-kind =
+          so-far-1
+          ∙ ap (λ (x : ℕ). withSection b (readSection (Exactly x) b p₁) unreadable (after-budgets (at kinds 0)))
+          (ap budgetCount kind-read ∙ sym m)
 
-      so-far-2 : readJob b ≡ after-budgets (at kinds 0) budgets p₂
-      so-far-2 = so-far-1 ∙ goes-on b _ unreadable (after-budgets (at kinds 0)) budget n₂ p₂ e₂
+      pub broken-2 : (place : ℕ) → readSection (Exactly many) b p₁ ≡ Finds.Broken place → readJob b ≡ unreadable place
+      broken-2 place e = so-far-kind ∙ stops b _ unreadable (after-budgets (at kinds 0)) place e
 
-      pub broken-3 : (place : ℕ) → readSection Any b p₂ ≡ Finds.Broken place → readJob b ≡ unreadable place
-      broken-3 place e = so-far-2 ∙ stops b _ unreadable (after-weights (at kinds 0) budgets) place e
+      module _ {budget n₂ p₂ : ℕ} (e₂ : readSection (Exactly many) b p₁ ≡ Finds.Part budget n₂ p₂) where
+        abbrev budgets : List ℕ
+        budgets = numbersIn (between b budget p₂)
 
-      module _ {weights n₃ p₃ : ℕ} (e₃ : readSection Any b p₂ ≡ Finds.Part weights n₃ p₃) where
-        so-far-3 : readJob b ≡ after-weights (at kinds 0) budgets (numbersIn (between b weights p₃)) p₃
-        so-far-3 = so-far-2 ∙ goes-on b _ unreadable (after-weights (at kinds 0) budgets) weights n₃ p₃ e₃
+        -- the first of them, and where there are two the last
+        first : at budgets 0 ≡ numberAt b budget
+        first = one-number b p₁ budget n₂ p₂ many e₂ 0 (rw m (some-budget (numberAt b kind))) ∙ ap (λ (q : ℕ). numberAt b q) (omega arith)
 
-        pub broken-4 : (place : ℕ) → readSection Any b p₃ ≡ Finds.Broken place → readJob b ≡ unreadable place
-        broken-4 place e = so-far-3 ∙ stops b _ unreadable (after-values (at kinds 0) budgets (numbersIn (between b weights p₃))) place e
+        last : hasQ (numberAt b kind) ≡ true → at budgets 1 ≡ numberAt b (p₂ - 4)
+        last has =
+            let two : many ≡ 2 = m ∙ two-budgets (numberAt b kind) has in
+            one-number b p₁ budget n₂ p₂ many e₂ 1 (omega arith)
+            ∙ ap (λ (q : ℕ). numberAt b q) (omega (arith, ends b p₁ budget n₂ p₂ many e₂))
 
-        module _ {values n₄ p₄ : ℕ} (e₄ : readSection Any b p₃ ≡ Finds.Part values n₄ p₄) where
-          abbrev next : List ℕ → ℕ → JobRead
-          next = after-copies (at kinds 0) budgets (numbersIn (between b weights p₃)) (numbersIn (between b values p₄))
+        so-far-2 : readJob b ≡ after-budgets (at kinds 0) budgets p₂
+        so-far-2 = so-far-kind ∙ goes-on b _ unreadable (after-budgets (at kinds 0)) budget n₂ p₂ e₂
 
-          so-far-4 : readJob b ≡ withSection b (readSection Any b p₄) unreadable next
-          so-far-4 =
-              so-far-3 ∙ goes-on b _ unreadable (after-values (at kinds 0) budgets (numbersIn (between b weights p₃))) values n₄ p₄ e₄
+        pub broken-3 : (place : ℕ) → readSection Any b p₂ ≡ Finds.Broken place → readJob b ≡ unreadable place
+        broken-3 place e = so-far-2 ∙ stops b _ unreadable (after-weights (at kinds 0) budgets) place e
 
-          pub broken-5 : (place : ℕ) → readSection Any b p₄ ≡ Finds.Broken place → readJob b ≡ unreadable place
-          broken-5 place e = so-far-4 ∙ stops b _ unreadable next place e
+        module _ {weights n₃ p₃ : ℕ} (e₃ : readSection Any b p₂ ≡ Finds.Part weights n₃ p₃) where
+          so-far-3 : readJob b ≡ after-weights (at kinds 0) budgets (numbersIn (between b weights p₃)) p₃
+          so-far-3 = so-far-2 ∙ goes-on b _ unreadable (after-weights (at kinds 0) budgets) weights n₃ p₃ e₃
 
-          module _ {copies n₅ p₅ : ℕ} (e₅ : readSection Any b p₄ ≡ Finds.Part copies n₅ p₅) where
-            so-far-5 : readJob b ≡ next (numbersIn (between b copies p₅)) p₅
-            so-far-5 = so-far-4 ∙ goes-on b _ unreadable next copies n₅ p₅ e₅
+          pub broken-4 : (place : ℕ) → readSection Any b p₃ ≡ Finds.Broken place → readJob b ≡ unreadable place
+          broken-4 place e = so-far-3 ∙ stops b _ unreadable (after-values (at kinds 0) budgets (numbersIn (between b weights p₃))) place e
 
-            -- bytes are left over
-            pub left-over : p₅ < length b → readJob b ≡ unreadable p₅
-            unfolding atEnd if
-            left-over h = so-far-5 ∙ simp (lt-ltb p₅ (length b) h)
+          module _ {values n₄ p₄ : ℕ} (e₄ : readSection Any b p₃ ≡ Finds.Part values n₄ p₄) where
+            abbrev next : List ℕ → ℕ → JobRead
+            next = after-copies (at kinds 0) budgets (numbersIn (between b weights p₃)) (numbersIn (between b values p₄))
 
-            -- all is read
-            pub parts-read : {k c : ℕ} → k ≡ numberAt b kind → c ≡ numberAt b budget → length b ≤ p₅
-                → PartsOf b (record {
-                  kind = k;
-                  budget = c;
-                  weights = record { start = weights; end = p₃ };
-                  values = record { start = values; end = p₄ };
-                  copies = record { start = copies; end = p₅ };
-                })
-            unfolding atEnd if jobOf listFrom bytesAt
-            parts-read e f h = record {
-              read = so-far-5 ∙ simp (e, f, le-ltb p₅ (length b) h, one-number b 0 kind n₁ p₁ e₁, one-number b p₁ budget n₂ p₂ e₂);
-              weights-within = within Any b p₂ weights n₃ p₃ e₃;
-              values-within = within Any b p₃ values n₄ p₄ e₄;
-              copies-within = within Any b p₄ copies n₅ p₅ e₅;
-            }
+            so-far-4 : readJob b ≡ withSection b (readSection Any b p₄) unreadable next
+            so-far-4 =
+                so-far-3 ∙ goes-on b _ unreadable (after-values (at kinds 0) budgets (numbersIn (between b weights p₃))) values n₄ p₄ e₄
+
+            pub broken-5 : (place : ℕ) → readSection Any b p₄ ≡ Finds.Broken place → readJob b ≡ unreadable place
+            broken-5 place e = so-far-4 ∙ stops b _ unreadable next place e
+
+            module _ {copies n₅ p₅ : ℕ} (e₅ : readSection Any b p₄ ≡ Finds.Part copies n₅ p₅) where
+              so-far-5 : readJob b ≡ next (numbersIn (between b copies p₅)) p₅
+              so-far-5 = so-far-4 ∙ goes-on b _ unreadable next copies n₅ p₅ e₅
+
+              -- bytes are left over
+              pub left-over : p₅ < length b → readJob b ≡ unreadable p₅
+              unfolding atEnd if
+              left-over h = so-far-5 ∙ simp (lt-ltb p₅ (length b) h)
+
+              -- all is read
+              pub parts-read : {k c q : ℕ} → k ≡ numberAt b kind → c ≡ numberAt b budget → q ≡ numberAt b (p₂ - 4) → length b ≤ p₅
+                  → PartsOf b (record {
+                    kind = k;
+                    budget = c;
+                    q = q;
+                    weights = record { start = weights; end = p₃ };
+                    values = record { start = values; end = p₄ };
+                    copies = record { start = copies; end = p₅ };
+                  })
+              unfolding atEnd if listFrom bytesAt
+              parts-read e f g h = record {
+                read = so-far-5 ∙ simp (e, le-ltb p₅ (length b) h) (ap readable (rw kind-read (same-budgets (numberAt b kind) _ _ _ budgets _ _ (first ∙ sym f) (λ has. last has ∙ sym g))));
+                weights-within = within Any b p₂ weights n₃ p₃ e₃;
+                values-within = within Any b p₃ values n₄ p₄ e₄;
+                copies-within = within Any b p₄ copies n₅ p₅ e₅;
+              }
 
 -- ---- what was read, for those who took its case
 
@@ -163,5 +198,5 @@ read-in b e h = rw e at h
 -- the job with the lists that are cut out of the bytes is the one that they are read as
 pub lists-cut : (b : List ℕ) {parts : Parts} {weights values copies : List ℕ} → PartsOf b parts
     → weights ≡ bytesAt b (parts .weights) → values ≡ bytesAt b (parts .values) → copies ≡ bytesAt b (parts .copies)
-    → readJob b ≡ readable (jobFrom (parts .kind) (parts .budget ∷ []) [] weights [] values [] copies)
+    → readJob b ≡ readable (jobFrom (parts .kind) (parts .budget ∷ parts .q ∷ []) [] weights [] values [] copies)
 lists-cut b p weights-are values-are copies-are = rw (weights-are, values-are, copies-are) (p .read)

@@ -26,7 +26,7 @@ bytesAt b part = between b (part .start) (part .end)
 -- the job whose lists stand in these parts of the bytes
 abbrev pub jobAt : List ℕ → Parts → Job
 jobAt b parts =
-    jobFrom (parts .kind) (parts .budget ∷ [])
+    jobFrom (parts .kind) (parts .budget ∷ parts .q ∷ [])
     [] (bytesAt b (parts .weights)) [] (bytesAt b (parts .values)) [] (bytesAt b (parts .copies))
 
 -- it is the one that the bytes are read as

@@ -1,5 +1,5 @@
-// What is asked of a request before it is answered: job bytes are read (refusal 1), a job is held to the rules of its kind (3 to 5), and
-// claims need a sum (9). The rules, and the room that 6 asks for, are those of `rules`; which kinds there are, and so refusal 2, is for the
+// What is asked of a request before it is answered: job bytes are read (refusal 1), a job is held to the rules of its kind (3 to 5), q to its
+// bounds (5 too), and claims need a sum (9). The rules, and the room that 6 asks for, are those of `rules`; which kinds there are, and so refusal 2, is for the
 // planner, the checker and the writer to say.
 use meaning::Needed;
 use meaning::Section;
@@ -11,6 +11,7 @@ ghost use Prim.Native.Nat.{ℕ};
 ghost use mathlib.Core.Bool.{Bool, _&&_};
 ghost use lib.Dec.{ltb, leb, eqb};
 ghost use Rattle.meaning.specs.Lists.{sum, if};
+ghost use Rattle.meaning.specs.Bounds.{leastQ, mostQ};
 ghost use Rattle.meaning.specs.Bytes.{numbersIn};
 ghost use Rattle.meaning.specs.Refusals.{ascendingFrom, numbersFit, jobRefusal};
 ghost use Rattle.numbers.specs.TwoSlices.{listFrom, jobFrom};
@@ -26,10 +27,12 @@ pub struct Part {
     pub end: usize,
 }
 
-// What job bytes that can be read tell: the kind, the budget, and where the numbers of each list stand.
+// What job bytes that can be read tell: the kind, the budget, q, and where the numbers of each list stand. Where the kind has no q, its number
+// stands for nothing.
 pub struct Parts {
     pub kind: u32,
     pub budget: u32,
+    pub q: u32,
     pub weights: Part,
     pub values: Part,
     pub copies: Part,
@@ -51,7 +54,7 @@ fn broken(section: Section) -> Request
     }
 }
 
-// Reads job bytes, section by section.
+// Reads job bytes, section by section. Of two budgets q is the last.
 pub fn read_job(job: &[u8]) -> Request
     ensures { λ r. ⌜ ReadAs (now (job .entry)) r ⌝ }
 {
@@ -59,11 +62,13 @@ pub fn read_job(job: &[u8]) -> Request
     let Section::Part(kind, _, at) = first else {
         return broken(first);
     };
-    let second = numbers::read_section(job, at, Needed::Exactly(1));
-    let Section::Part(budget, _, at) = second else {
+    let number = numbers::number_at(job, kind);
+    let count = rules::budget_count(number);
+    let second = numbers::read_section(job, at, Needed::Exactly(count));
+    let Section::Part(budget, _, budgets_end) = second else {
         return broken(second);
     };
-    let third = numbers::read_section(job, at, Needed::Any);
+    let third = numbers::read_section(job, budgets_end, Needed::Any);
     let Section::Part(weights, _, weights_end) = third else {
         return broken(third);
     };
@@ -79,8 +84,9 @@ pub fn read_job(job: &[u8]) -> Request
         return Request::Broken(copies_end);
     }
     Request::Read(Parts {
-        kind: numbers::number_at(job, kind),
+        kind: number,
         budget: numbers::number_at(job, budget),
+        q: numbers::number_at(job, budgets_end - 4),
         weights: Part {
             start: weights,
             end: weights_end,
@@ -231,7 +237,15 @@ fn numbers_fit(
     each_within(copies, cbytes, counts.least, counts.most)
 }
 
-// The lowest of 3 to 5 that applies to a job, and 0 for none.
+// 5, of a kind with a q: whether it is within its bounds.
+pub fn q_fits(q: u32) -> bool
+    ensures { λ r. ⌜ r ≡ (leb leastQ q && leb q mostQ) ⌝ }
+{
+    let bounds = rules::q_bounds();
+    bounds.least <= q && q <= bounds.most
+}
+
+// The lowest of 3 to 5 that applies to a job, but for its q, and 0 for none.
 pub fn job_refusal(
     rules: Rules,
     budget: u32,

@@ -1,23 +1,36 @@
 -- `requests::read_job` meets its contract: each way out is one of the laws in proofs/Reading.
 -- Assumes nothing.
-use mathlib.Core.Path.{_≡_, sym, _∙_}
-use Prim.Native.Nat.{ℕ}
+use mathlib.Core.Path.{_≡_, sym, ap, _∙_}
+use Prim.Native.Nat.{ℕ, _<_}
 use mathlib.Core.List.{List}
+use lib.Dec.{lit<}
 use native.Mathlib.Omega.{arith}
 use Rattle.meaning.specs.declared.Needed.the-variants.{Any, Exactly}
+use Rattle.meaning.specs.Job.{budgetCount}
+use Rattle.meaning.specs.Bytes.{numberAt}
+use Rattle.meaning.proofs.Budgets.{some-budget}
 use Rattle.requests.specs.Reading.{ReadAs}
-use Rattle.requests.proofs.Reading.{Whole, breaks, broken-1, broken-2, broken-3, broken-4, broken-5, left-over, parts-read, one-inside}
+use Rattle.requests.proofs.Reading.{Whole, breaks, broken-1, broken-2, broken-3, broken-4, broken-5, left-over, parts-read, one-inside, last-inside, last-there}
 use borrow.Author.Needs.{needs}
 use Rattle.requests.proofs.read_job.Statement.{statement}
 use Rattle.requests.proofs.read_job.Tie as tie
 
--- ---- the contexts: after each section that was whole, the one before it
+-- ---- the contexts: after each section that was whole, the one before it; between the first two the budgets were counted
 
 abbrev entry : tie.After-first → tie.Start
 entry c = c .before .before .before .before
 
+abbrev numbered : tie.After-budget-count → tie.After-number-at
+numbered c = c .before
+
+abbrev kind-read : tie.After-budget-count → tie.After-first
+kind-read c = numbered c .before .before
+
+abbrev counted : tie.After-second → tie.After-budget-count
+counted c = c .before .before .before
+
 abbrev first : tie.After-second → tie.After-first
-first c = c .before .before .before .before
+first c = kind-read (counted c)
 
 abbrev second : tie.After-third → tie.After-second
 second c = c .before .before .before .before
@@ -37,7 +50,12 @@ bytes c = entry c .args .job .now
 whole-1 : (c : tie.After-first) → Whole (Exactly 1) (bytes c) 0 (c .first .given .0)
 whole-1 c = sym (c .before .before .read-section .ensures) ∙ c .first .given .1
 
-whole-2 : (c : tie.After-second) → Whole (Exactly 1) (bytes (first c)) (first c .first .given .0 .1 .1 .0) (c .second .given .0)
+-- how many budgets there are to be, by the number of the kind
+by-kind : (c : tie.After-budget-count) → c .budget-count .result ≡ budgetCount (numberAt (bytes (kind-read c)) (kind-read c .first .given .0 .0))
+by-kind c = c .budget-count .ensures ∙ ap budgetCount (numbered c .number-at .ensures)
+
+whole-2 : (c : tie.After-second)
+    → Whole (Exactly (counted c .budget-count .result)) (bytes (first c)) (first c .first .given .0 .1 .1 .0) (c .second .given .0)
 whole-2 c = sym (c .before .before .read-section2 .ensures) ∙ c .second .given .1
 
 whole-3 : (c : tie.After-third) → Whole Any (bytes (first (second c))) (second c .second .given .0 .1 .1 .0) (c .third .given .0)
@@ -66,6 +84,12 @@ broken-requires c κs = search needs
 returns : tie.Need-returns
 returns c = breaks _ (c .before .before .before .read-section .ensures) (c .before .enum-told .given .1) (broken-1 _ _) (c .broken .ensures)
 
+number-at-requires : tie.Need-number-at-requires
+number-at-requires c κs = omega (arith, one-inside _ _ _ _ _ 1 (whole-1 (c .before)) 0 (lit< tt))
+
+budget-count-requires : tie.Need-budget-count-requires
+budget-count-requires c κs = search needs
+
 read-section-requires-2 : tie.Need-read-section-requires-2
 read-section-requires-2 c κs = search needs
 
@@ -81,9 +105,9 @@ broken-requires-2 c κs = search needs
 returns-2 : tie.Need-returns-2
 returns-2 c =
     let read = c .before .before .before in
-    let s = read .before .before in
+    let s = read .before in
     breaks _ (read .read-section2 .ensures) (c .before .enum-told2 .given .1)
-    (broken-2 _ (whole-1 s) _) (c .broken2 .ensures)
+    (broken-2 _ (whole-1 (kind-read s)) (by-kind s) _) (c .broken2 .ensures)
 
 read-section-requires-3 : tie.Need-read-section-requires-3
 read-section-requires-3 c κs = search needs
@@ -102,7 +126,7 @@ returns-3 c =
     let read = c .before .before .before in
     let s = read .before .before in
     breaks _ (read .read-section3 .ensures) (c .before .enum-told3 .given .1)
-    (broken-3 _ (whole-1 (first s)) (whole-2 s) _) (c .broken3 .ensures)
+    (broken-3 _ (whole-1 (first s)) (by-kind (counted s)) (whole-2 s) _) (c .broken3 .ensures)
 
 read-section-requires-4 : tie.Need-read-section-requires-4
 read-section-requires-4 c κs = search needs
@@ -121,7 +145,7 @@ returns-4 c =
     let read = c .before .before .before in
     let s = read .before .before in
     breaks _ (read .read-section4 .ensures) (c .before .enum-told4 .given .1)
-    (broken-4 _ (whole-1 (first (second s))) (whole-2 (second s)) (whole-3 s) _) (c .broken4 .ensures)
+    (broken-4 _ (whole-1 (first (second s))) (by-kind (counted (second s))) (whole-2 (second s)) (whole-3 s) _) (c .broken4 .ensures)
 
 read-section-requires-5 : tie.Need-read-section-requires-5
 read-section-requires-5 c κs = search needs
@@ -140,28 +164,39 @@ returns-5 c =
     let read = c .before .before .before in
     let s = read .before .before in
     breaks _ (read .read-section5 .ensures) (c .before .enum-told5 .given .1)
-    (broken-5 _ (whole-1 (first (second (third s)))) (whole-2 (second (third s))) (whole-3 (third s)) (whole-4 s) _) (c .broken5 .ensures)
+    (broken-5 _ (whole-1 (first (second (third s)))) (by-kind (counted (second (third s)))) (whole-2 (second (third s))) (whole-3 (third s)) (whole-4 s) _) (c .broken5 .ensures)
 
 returns-6 : tie.Need-returns-6
 unfolding ReadAs
 returns-6 c =
     let s = c .before .before in
-    left-over _ (whole-1 (first (second (third (fourth s))))) (whole-2 (second (third (fourth s))))
-    (whole-3 (third (fourth s))) (whole-4 (fourth s)) (whole-5 s) (omega arith)
+    let b = second (third (fourth s)) in
+    left-over _ (whole-1 (first b)) (by-kind (counted b)) (whole-2 b) (whole-3 (third (fourth s))) (whole-4 (fourth s)) (whole-5 s) (omega arith)
 
-number-at-requires : tie.Need-number-at-requires
-number-at-requires c κs = one-inside _ _ _ _ _ (whole-1 (first (second (third (fourth (c .before .before))))))
+-- the budgets, from where the whole job was read
+abbrev budgets : tie.After-fifth → tie.After-second
+budgets s = second (third (fourth s))
+
+-- there is one at least
+some-here : (c : tie.After-second) → 0 < counted c .budget-count .result
+some-here c = rw (by-kind (counted c)) (some-budget _)
 
 number-at-requires-2 : tie.Need-number-at-requires-2
-number-at-requires-2 c κs = one-inside _ _ _ _ _ (whole-2 (second (third (fourth (c .before .before .before)))))
+number-at-requires-2 c κs = omega (arith, one-inside _ _ _ _ _ _ (whole-2 (budgets (c .before .before))) 0 (some-here (budgets (c .before .before))))
+
+sub-number-at : tie.Need-sub-number-at
+sub-number-at c = let b = budgets (c .before .before .before) in last-there _ _ _ _ _ _ (whole-2 b) (some-here b)
+
+number-at-requires-3 : tie.Need-number-at-requires-3
+number-at-requires-3 c κs = let b = budgets (c .before .before .before) in last-inside _ _ _ _ _ _ (whole-2 b) (some-here b)
 
 returns-7 : tie.Need-returns-7
 unfolding ReadAs
 returns-7 c =
     let s = c .before .before .before .before in
-    parts-read _ (whole-1 (first (second (third (fourth s))))) (whole-2 (second (third (fourth s))))
-    (whole-3 (third (fourth s))) (whole-4 (fourth s)) (whole-5 s)
-    (c .before .number-at .ensures) (c .number-at2 .ensures) (omega arith)
+    let b = budgets s in
+    parts-read _ (whole-1 (first b)) (by-kind (counted b)) (whole-2 b) (whole-3 (third (fourth s))) (whole-4 (fourth s)) (whole-5 s)
+    (numbered (counted b) .number-at .ensures) (c .before .number-at2 .ensures) (c .number-at3 .ensures) (omega arith)
 
 pub read-job-spec : {M : Type 1} → statement M
 read-job-spec =
@@ -172,6 +207,8 @@ read-job-spec =
     enum-told
     broken-requires
     returns
+    number-at-requires
+    budget-count-requires
     read-section-requires-2
     enum-known-second
     enum-told-2
@@ -193,6 +230,7 @@ read-job-spec =
     broken-requires-5
     returns-5
     returns-6
-    number-at-requires
     number-at-requires-2
+    sub-number-at
+    number-at-requires-3
     returns-7)
