@@ -28,21 +28,22 @@ refused-by (some k) j certB h = unless-0 (jobRefusal (rulesOf (packing k)) j 0) 
 
 module _ (jobB certB : List ℕ) (v : Verdict) where
   -- the verdict is the one on what the job bytes are read as
-  checked : (r : JobRead) → readJob jobB ≡ r → v ≡ verdictOnJob r certB → Checked jobB certB v
-  unfolding Checked verdictOf
-  checked r e f = ap verdictNumbers (f ∙ ap (λ (x : JobRead). verdictOnJob x certB) (sym e))
+  checked : (r : JobRead) → verdictOf jobB certB ≡ verdictOnJob r certB → v ≡ verdictOnJob r certB → Checked jobB certB v
+  unfolding Checked
+  checked r e f = ap verdictNumbers (f ∙ sym e)
 
   pub not-read : (place : ℕ) → readJob jobB ≡ unreadable place → v ≡ Refused 1 0 → Checked jobB certB v
-  unfolding verdictOnJob
-  not-read place e f = checked (unreadable place) e f
+  unfolding verdictOf verdictOnJob
+  not-read place e f = checked (unreadable place) (ap (λ (x : JobRead). verdictOnJob x certB) e) f
 
-  module _ (j : Job) (reads : readJob jobB ≡ readable j) where
+  -- that is the one on j
+  module _ (j : Job) (on-job : verdictOf jobB certB ≡ verdictOnJob (readable j) certB) where
     pub job-refused : (r : ℕ) → r ≡ certifiedRefusal j → ¬ (r ≡ 0) → v ≡ Refused r 0 → Checked jobB certB v
     unfolding certifiedRefusal verdictOnJob
     job-refused r e some-number f =
-        checked (readable j) reads
+        checked (readable j) on-job
         (f ∙ ap (λ (n : ℕ). Refused n 0) e
         ∙ refused-by (certifiedKnapsack (j .kind-number)) j certB (λ none-given. some-number (e ∙ none-given)))
 
     pub job-judged : (k : Knapsack) → HasCertificates k j → v ≡ verdictOnCertificate k j certB → Checked jobB certB v
-    job-judged k has f = checked (readable j) reads (f ∙ sym (readable-on k j certB has))
+    job-judged k has f = checked (readable j) on-job (f ∙ sym (readable-on k j certB has))

@@ -17,8 +17,8 @@ pub list-numbers : (xs : List ℕ) → listFrom xs [] ≡ xs
 unfolding listFrom numbersIn upTo
 list-numbers xs = append-nil xs
 
-pub job-of-lists : (kind budget : ℕ) (ws vs cs : List ℕ) → jobFrom kind (budget ∷ []) ws [] vs [] cs [] ≡ jobOf kind (budget ∷ []) ws vs cs
-job-of-lists kind budget ws vs cs = rw (list-numbers ws, list-numbers vs, list-numbers cs)
+pub job-of-lists : (kind : ℕ) (budgets ws vs cs : List ℕ) → jobFrom kind budgets ws [] vs [] cs [] ≡ jobOf kind budgets ws vs cs
+job-of-lists kind budgets ws vs cs = rw (list-numbers ws, list-numbers vs, list-numbers cs)
 
 pub list-long : (xs b : List ℕ) → length (listFrom xs b) ≡ length xs + length b / 4
 unfolding listFrom

@@ -12,10 +12,10 @@ use lib.ListN.{length, drop, drop-of-length-le, take}
 use lib.Seq.{drop-cons, take-all}
 use borrow.Author.Tests.{le-leb, lt-leb, lt-ltb, eq-eqb, ne-eqb}
 use Rattle.meaning.specs.Lists.{at, if, sum, every}
-use Rattle.meaning.specs.Job.{Job, labels}
+use Rattle.meaning.specs.Job.{Job, Knapsack, jobOf, labels}
 use Rattle.meaning.specs.Refusals as meaning
-use Rattle.meaning.specs.Bounds.{mostValue, mostCopies, leastCopies}
-use Rattle.meaning.specs.Refusals.{ascendingFrom, boundsFit, eachWithin, jobRefusal, listsFit, numbersFit, qFits}
+use Rattle.meaning.specs.Bounds.{mostValue, mostCopies, leastCopies, leastQ, mostQ}
+use Rattle.meaning.specs.Refusals.{ascendingFrom, boundsFit, eachWithin, jobRefusal, knapsackRules, leastValue, listsFit, positive, numbersFit, qFits}
 use Rattle.meaning.proofs.Loops.{and-assoc, and-true, every-joined, every-step}
 use Rattle.rules.specs.declared.Rules.{Rules}
 use Rattle.rules.specs.Ruling.{rulesFrom, ruleFrom}
@@ -134,6 +134,30 @@ module _ (r : meaning.Rules) (j : Job) (later : ℕ) where
       pub not-yet : numbersFit r j ≡ true → later ≡ jobRefusal r j later
       unfolding jobRefusal if
       not-yet c = simp (a, b, c)
+
+-- ---- q, the last that 5 asks
+
+-- what is asked by rules without a q doesn't look at it
+pub q-unasked : (r : Rules) (needs-sum : Bool) (kind c q : ℕ) (ws vs cs : List ℕ)
+    → jobRefusal (rulesFrom r needs-sum) (jobOf kind (c ∷ []) ws vs cs) 0 ≡ jobRefusal (rulesFrom r needs-sum) (jobOf kind (c ∷ q ∷ []) ws vs cs) 0
+unfolding jobRefusal listsFit boundsFit numbersFit qFits rulesFrom jobOf labels
+q-unasked r needs-sum kind c q ws vs cs = refl
+
+-- a knapsack with a q is asked as one without, and then about q
+either-5 : (numbers fits : Bool) (later : ℕ) → if (not (numbers && fits)) 5 later ≡ if (not (numbers && true)) 5 (if fits later 5)
+unfolding if
+either-5 true true later = refl
+either-5 true false later = refl
+either-5 false fits later = refl
+
+pub q-last : (k : Knapsack) (j : Job) (later : ℕ)
+    → jobRefusal (knapsackRules k true) j later ≡ jobRefusal (knapsackRules k false) j (if (leb leastQ (j .q) && leb (j .q) mostQ) later 5)
+unfolding jobRefusal listsFit boundsFit numbersFit qFits knapsackRules
+q-last k j later =
+    let lists : Bool =
+    positive (j .weights) && eachWithin (leastValue k) mostValue (j .values) && eachWithin leastCopies mostCopies (j .copies) in
+    ap (λ (x : ℕ). if (not (listsFit (knapsackRules k false) j)) 3 (if (not (boundsFit (knapsackRules k false) j)) 4 x))
+    (either-5 lists (leb leastQ (j .q) && leb (j .q) mostQ) later)
 
 -- ---- what comes later
 

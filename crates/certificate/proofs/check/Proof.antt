@@ -1,12 +1,13 @@
 -- `certificate::check` meets its contract: what the job bytes are read as is asked about refusals 2 to 5, and then its certificate is judged.
 -- Assumes nothing.
 use mathlib.Core.List.{List, [], _∷_}
-use mathlib.Core.Path.{_≡_, sym, _∙_}
+use mathlib.Core.Path.{_≡_, sym, ap, _∙_}
 use Prim.Native.Nat.{ℕ}
 use borrow.Author.Needs.{needs}
 use Rattle.meaning.specs.Job.{Job, jobOf}
-use Rattle.meaning.specs.Bytes.{readJob, readable}
-use Rattle.meaning.specs.Certificates.{HasCertificates}
+use Rattle.meaning.specs.Bytes.{JobRead, readable}
+use Rattle.meaning.specs.Certificates.{HasCertificates, verdictOf, verdictOnJob}
+use Rattle.meaning.proofs.Budgets.{verdict-ignores}
 use Rattle.numbers.specs.TwoSlices.{jobFrom}
 use Rattle.requests.specs.declared.Parts.{Parts}
 use Rattle.requests.specs.Reading.{PartsOf}
@@ -42,8 +43,13 @@ module _ (c : tie.After-bytes-at3) where
       jobFrom (parts told .kind) (parts told .budget ∷ [])
       [] (c .before .before .bytes-at .result .now) [] (c .before .bytes-at2 .result .now) [] (c .bytes-at3 .result .now)
 
-  cut : readJob (bytes (read told)) ≡ readable job
-  cut = lists-cut (bytes (read told)) (parts-in told) (c .before .before .bytes-at .ensures) (c .before .bytes-at2 .ensures) (c .bytes-at3 .ensures)
+  -- the verdict is the one on the job, whose q, where it has one, has no influence
+  judged : (certB : List ℕ) → verdictOf (bytes (read told)) certB ≡ verdictOnJob (readable job) certB
+  unfolding verdictOf
+  judged certB =
+      ap (λ (r : JobRead). verdictOnJob r certB)
+      (lists-cut (bytes (read told)) (parts-in told) (c .before .before .bytes-at .ensures) (c .before .bytes-at2 .ensures) (c .bytes-at3 .ensures))
+      ∙ sym (verdict-ignores (parts told .kind) _ _ _ (parts told .budget) (parts told .q) certB)
 
 -- where the job is asked about
 abbrev lists : tie.After-job-refusal → tie.After-bytes-at3
@@ -97,7 +103,7 @@ refused-with-requires-2 c κs = search needs
 returns-2 : tie.Need-returns-2
 returns-2 c =
     let refusal = c .before .before in
-    job-refused _ _ _ _ (cut (lists refusal)) _ (refusal .job-refusal .ensures) (c .before .if1 .taken) (c .refused-with2 .ensures)
+    job-refused _ _ _ _ (judged (lists refusal) _) _ (refusal .job-refusal .ensures) (c .before .if1 .taken) (c .refused-with2 .ensures)
 
 judge-requires : tie.Need-judge-requires
 unfolding jobOf
@@ -105,7 +111,7 @@ judge-requires c κs = has c
 
 returns-3 : tie.Need-returns-3
 unfolding jobOf
-returns-3 c = job-judged _ _ _ _ (cut (lists (c .before .before))) _ (has (c .before)) (c .judge .ensures)
+returns-3 c = job-judged _ _ _ _ (judged (lists (c .before .before)) _) _ (has (c .before)) (c .judge .ensures)
 
 pub check-spec : {M : Type 1} → statement M
 check-spec =

@@ -1,5 +1,6 @@
 -- `certificate::write` meets its contract: a job of lists is handed over with no bytes.
 -- Assumes nothing.
+use mathlib.Core.List.{[], _∷_}
 use mathlib.Core.Path.{subst}
 use Rattle.meaning.specs.Job.{Job}
 use Rattle.meaning.specs.Writer.{Writes}
@@ -36,7 +37,7 @@ returns c =
     let a = start (none-beside (c .before .before)) .args in
     let after = d .last .1 .1 .1 .1 .1 .1 .1 .1 .1 .1 .0 in
     subst (λ (j : Job). Writes j (a .picks .now) (a .cells .now) (a .out .now) (d .result) after)
-    (job-of-lists (a .kind) (a .budget) (a .weights .now) (a .values .now) (a .copies .now)) (d .ensures)
+    (job-of-lists (a .kind) (a .budget ∷ []) (a .weights .now) (a .values .now) (a .copies .now)) (d .ensures)
 
 pub write-spec : {M : Type 1} → statement M
 write-spec =

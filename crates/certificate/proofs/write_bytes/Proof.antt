@@ -3,6 +3,7 @@
 use mathlib.Core.List.{List}
 use Prim.Native.Nat.{ℕ}
 use borrow.Author.Needs.{needs}
+use Rattle.meaning.proofs.Budgets.{writer-ignores}
 use Rattle.requests.specs.Reading.{PartsOf}
 use Rattle.requests.proofs.Reading.{lists-cut, unread, read-in}
 use Rattle.certificate.proofs.Copying.{no-job, job-in-bytes}
@@ -70,7 +71,8 @@ returns-2 c =
     let values = copies .before in
     let weights = values .before in
     let cut = lists-cut _ (parts-in (weights .before)) (weights .bytes-at .ensures) (values .bytes-at2 .ensures) (copies .bytes-at3 .ensures) in
-    job-in-bytes _ _ _ _ _ _ _ cut (written .write-job .ensures)
+    let parts = weights .before .before .request .given .0 .0 in
+    job-in-bytes _ _ _ _ _ _ _ cut (writer-ignores (parts .kind) _ _ _ (parts .budget) (parts .q) _ _ _ _ _ (written .write-job .ensures))
 
 pub write-bytes-spec : {M : Type 1} → statement M
 write-bytes-spec =
