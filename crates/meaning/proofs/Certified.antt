@@ -5,7 +5,7 @@ use mathlib.Core.Option.{Option, Option·some-injective, none, some}
 use Prim.Native.Nat.{_%_, _/_, _<_, suc, ℕ, zero}
 use native.Mathlib.Nat.{mod-lt, le-trans}
 use native.Mathlib.Omega.{arith}
-use mathlib.Core.Bool.{false, not, true}
+use mathlib.Core.Bool.{not, true}
 use mathlib.Core.List.{List, [], _++_, _∷_}
 use lib.Dec.{T, lit<, ltb}
 use lib.ListN.{length}
@@ -57,8 +57,7 @@ one-knapsack {jobB} {j} {j′} v v′ =
 
 -- it is valid
 pub certified-valid : {k : Knapsack} {j : Job} → HasCertificates k j → Valid k j
-unfolding rulesOf
-certified-valid {k} {j} h = is-valid k false j 0 (has-passed (rulesOf (packing k)) j 0 (h .not-refused))
+certified-valid {k} {j} h = is-valid k j 0 (has-passed (rulesOf (packing k)) j 0 (h .not-refused))
 
 -- ---- accepted picks are best, and best picks with exact cells are accepted, once over the allowed counts
 

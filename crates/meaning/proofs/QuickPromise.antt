@@ -53,12 +53,12 @@ pub record Fillable (j : Job) (first-length second-length : ℕ) : Type 0 where
   pub in-second : labels j ≤ second-length
 
 pub is-fillable : (j : Job) (m n : ℕ) → quickRefusal j m n ≡ 0 → Fillable j m n
-unfolding quickRefusal rulesOf
+unfolding quickRefusal
 is-fillable j m n e =
     let p = has-passed (rulesOf (packing once)) j _ e in
     let (room, none) = past-if (leb (labels j) m && leb (labels j) n) 5 0 (p .later-none) in
     let (one, other) = and-yes (leb (labels j) m) (leb (labels j) n) room in
-    record { valid = is-valid once false j _ p; in-first = leb-yes one; in-second = leb-yes other }
+    record { valid = is-valid once j _ p; in-first = leb-yes one; in-second = leb-yes other }
 
 light : (j : Job) (m n : ℕ) → quickRefusal j m n ≡ 0 → (i : ℕ) → i < labels j → 1 ≤ at (j .weights) i
 light j m n e = weight-rule once j (is-fillable j m n e .valid)

@@ -90,9 +90,9 @@ pub record Valid (k : Knapsack) (j : Job) : Type 0 where
   pub copies : T (eachWithin leastCopies mostCopies (j .copies))
 
 -- a knapsack that passed is valid, with a q or without
-pub is-valid : (k : Knapsack) (uses-q : Bool) (j : Job) (later : ℕ) → Passed (knapsackRules k uses-q) j later → Valid k j
+pub valid-by : (k : Knapsack) (uses-q : Bool) (j : Job) (later : ℕ) → Passed (knapsackRules k uses-q) j later → Valid k j
 unfolding listsFit boundsFit knapsackRules if
-is-valid k uses-q j later p =
+valid-by k uses-q j later p =
     let (l, l′) = and-yes (eqb (length (j .values)) (labels j)) (eqb (length (j .copies)) (if (hasCopies k) (labels j) 0)) (p .lists) in
     let (n, c) = and-yes (leb (labels j) mostLabels) (leb (j .budget) mostBudget) (p .bounds) in
     let numbers = each-number (knapsackRules k uses-q) j (p .numbers) in
@@ -105,6 +105,10 @@ is-valid k uses-q j later p =
       values = numbers .values;
       copies = numbers .copies;
     }
+
+pub is-valid : (k : Knapsack) (j : Job) (later : ℕ) → Passed (rulesOf (packing k)) j later → Valid k j
+unfolding rulesOf
+is-valid k j later p = valid-by k false j later p
 
 -- what every member passes, the one at a place does
 every-at : (test : ℕ → Bool) (xs : List ℕ) (i : ℕ) → i < length xs → T (every test xs) → T (test (at xs i))

@@ -7,13 +7,15 @@ use rules::Room;
 use rules::Rules;
 ghost use mathlib.Core.List.{[], _∷_};
 ghost use mathlib.Core.Path.{_≡_};
-ghost use mathlib.Core.Bool.{Bool, true, false};
+ghost use mathlib.Core.Bool.{Bool, true, false, _&&_};
+ghost use lib.Dec.{leb};
 ghost use Prim.Native.Nat.{ℕ, _≤_};
 ghost use Rattle.meaning.specs.declared.Way.the-variants.{Light, Full};
 ghost use Rattle.meaning.specs.Lists.{if};
-ghost use Rattle.meaning.specs.Job.{jobOf};
+ghost use Rattle.meaning.specs.Job.{jobOf, labels, stated-share};
+ghost use Rattle.meaning.specs.Cuts.{statedCells};
 ghost use Rattle.meaning.specs.Lent.{lentOf};
-ghost use Rattle.meaning.specs.Refusals.{jobRefusal};
+ghost use Rattle.meaning.specs.Refusals.{jobRefusal, rulesOf};
 ghost use Rattle.meaning.specs.Solved.{SolvedBy, Solved, SolvedBytes, SolvedFull, SolvedFullBytes};
 ghost use Rattle.meaning.specs.Told.{ToldBy, ToldBytes};
 ghost use Rattle.meaning.specs.SolvedIn.{SolvedInCellsBy, SolvedInCells, SolvedInWords, SolvedInPicks};
@@ -375,11 +377,92 @@ fn show(
     behind::solve(budget, weights, wbytes, cells, picks)
 }
 
+// The lowest of 3 to 6 that applies to a job of kind 9, and 0 for none. It is asked as kind 1 is, then about q; its room goes by its numbers, so it
+// is counted once they have passed.
+fn stated_refusal(
+    budget: u32,
+    q: u32,
+    weights: &[u32],
+    wbytes: &[u8],
+    values: &[u32],
+    vbytes: &[u8],
+    copies: &[u32],
+    cbytes: &[u8],
+    cells: usize,
+    picks: usize,
+) -> u32
+    ensures { λ r. ⌜ let j = jobFrom 9 (budget ∷ q ∷ []) (now (weights .entry)) (now (wbytes .entry))
+        (now (values .entry)) (now (vbytes .entry)) (now (copies .entry)) (now (cbytes .entry)) in
+        r ≡ jobRefusal (rulesOf stated-share) j (if (leb (statedCells j) cells && leb (labels j) picks) 0 6) ⌝ }
+{
+    let rules = rules::knapsack_rules(1);
+    let refused = requests::job_refusal(
+        rules,
+        budget,
+        weights,
+        wbytes,
+        values,
+        vbytes,
+        copies,
+        cbytes,
+    );
+    if refused != 0 {
+        return refused;
+    }
+    if !requests::q_fits(q) {
+        return 5;
+    }
+    let needed = stated::cells_needed(budget, q, weights, wbytes, values, vbytes);
+    if cells < needed {
+        return 6;
+    }
+    if picks < numbers::list_length(weights, wbytes) {
+        return 6;
+    }
+    0
+}
+
+// Kind 9.
+fn state(
+    budget: u32,
+    q: u32,
+    weights: &[u32],
+    wbytes: &[u8],
+    values: &[u32],
+    vbytes: &[u8],
+    copies: &[u32],
+    cbytes: &[u8],
+    cells: &mut [u32],
+    picks: &mut [u32],
+) -> Answer
+    ensures { λ r. ⌜ SolvedInCells (jobFrom 9 (budget ∷ q ∷ []) (now (weights .entry)) (now (wbytes .entry))
+        (now (values .entry)) (now (vbytes .entry)) (now (copies .entry)) (now (cbytes .entry))) (now (cells .entry)) (now (picks .entry))
+        r (now (cells .exit)) (now (picks .exit)) ⌝ }
+{
+    let refused = stated_refusal(
+        budget,
+        q,
+        weights,
+        wbytes,
+        values,
+        vbytes,
+        copies,
+        cbytes,
+        cells.len(),
+        picks.len(),
+    );
+    if refused != 0 {
+        return Answer::Refused(refused);
+    }
+    stated::solve(budget, q, weights, wbytes, values, vbytes, cells, picks)
+}
+
 // The one place where the kind decides.
 fn decide(
     way: Way,
     kind: u32,
     budget: u32,
+    q: u32,
     weights: &[u32],
     wbytes: &[u8],
     values: &[u32],
@@ -390,7 +473,7 @@ fn decide(
     words: &mut [u64],
     picks: &mut [u32],
 ) -> Answer
-    ensures { λ r. ⌜ SolvedBy way (jobFrom kind (budget ∷ []) (now (weights .entry)) (now (wbytes .entry))
+    ensures { λ r. ⌜ SolvedBy way (jobFrom kind (budget ∷ q ∷ []) (now (weights .entry)) (now (wbytes .entry))
         (now (values .entry)) (now (vbytes .entry)) (now (copies .entry)) (now (cbytes .entry)))
         (lentOf (now (cells .entry)) (now (words .entry)) (now (picks .entry))) r
         (lentOf (now (cells .exit)) (now (words .exit)) (now (picks .exit))) ⌝ }
@@ -454,6 +537,18 @@ fn decide(
             cells,
             picks,
         ),
+        9 => state(
+            budget,
+            q,
+            weights,
+            wbytes,
+            values,
+            vbytes,
+            copies,
+            cbytes,
+            cells,
+            picks,
+        ),
         _ => Answer::Refused(2),
     }
 }
@@ -463,6 +558,7 @@ fn solve_by(
     way: Way,
     kind: u32,
     budget: u32,
+    q: u32,
     weights: &[u32],
     values: &[u32],
     copies: &[u32],
@@ -470,7 +566,7 @@ fn solve_by(
     words: &mut [u64],
     picks: &mut [u32],
 ) -> Answer
-    ensures { λ r. ⌜ SolvedBy way (jobOf kind (budget ∷ []) (now (weights .entry)) (now (values .entry)) (now (copies .entry)))
+    ensures { λ r. ⌜ SolvedBy way (jobOf kind (budget ∷ q ∷ []) (now (weights .entry)) (now (values .entry)) (now (copies .entry)))
         (lentOf (now (cells .entry)) (now (words .entry)) (now (picks .entry))) r
         (lentOf (now (cells .exit)) (now (words .exit)) (now (picks .exit))) ⌝ }
 {
@@ -479,6 +575,7 @@ fn solve_by(
         way,
         kind,
         budget,
+        q,
         weights,
         &none,
         values,
@@ -491,10 +588,11 @@ fn solve_by(
     )
 }
 
-// A job of lists. Any lists and any slices may be handed in.
+// A job of lists. Any lists and any slices may be handed in. q stands beside the budget; kinds but 9 ignore it.
 pub fn solve(
     kind: u32,
     budget: u32,
+    q: u32,
     weights: &[u32],
     values: &[u32],
     copies: &[u32],
@@ -502,7 +600,7 @@ pub fn solve(
     words: &mut [u64],
     picks: &mut [u32],
 ) -> Answer
-    ensures { λ r. ⌜ Solved (jobOf kind (budget ∷ []) (now (weights .entry)) (now (values .entry)) (now (copies .entry)))
+    ensures { λ r. ⌜ Solved (jobOf kind (budget ∷ q ∷ []) (now (weights .entry)) (now (values .entry)) (now (copies .entry)))
         (lentOf (now (cells .entry)) (now (words .entry)) (now (picks .entry))) r
         (lentOf (now (cells .exit)) (now (words .exit)) (now (picks .exit))) ⌝ }
 {
@@ -510,6 +608,7 @@ pub fn solve(
         Way::Light,
         kind,
         budget,
+        q,
         weights,
         values,
         copies,
@@ -523,6 +622,7 @@ pub fn solve(
 pub fn solve_full(
     kind: u32,
     budget: u32,
+    q: u32,
     weights: &[u32],
     values: &[u32],
     copies: &[u32],
@@ -530,7 +630,7 @@ pub fn solve_full(
     words: &mut [u64],
     picks: &mut [u32],
 ) -> Answer
-    ensures { λ r. ⌜ SolvedFull (jobOf kind (budget ∷ []) (now (weights .entry)) (now (values .entry)) (now (copies .entry)))
+    ensures { λ r. ⌜ SolvedFull (jobOf kind (budget ∷ q ∷ []) (now (weights .entry)) (now (values .entry)) (now (copies .entry)))
         (lentOf (now (cells .entry)) (now (words .entry)) (now (picks .entry))) r
         (lentOf (now (cells .exit)) (now (words .exit)) (now (picks .exit))) ⌝ }
 {
@@ -538,6 +638,7 @@ pub fn solve_full(
         Way::Full,
         kind,
         budget,
+        q,
         weights,
         values,
         copies,
@@ -576,6 +677,7 @@ fn tell(way: Way, job: &[u8], cells: &mut [u32], words: &mut [u64], picks: &mut 
         way,
         parts.kind,
         parts.budget,
+        parts.q,
         &none,
         weights,
         &none,
