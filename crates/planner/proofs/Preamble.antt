@@ -146,16 +146,20 @@ no-members : (xs : List ℕ) (used : Bool) (n : ℕ) → used ≡ false → T (e
 unfolding if
 no-members xs used n unused fits = empty-of xs (eqb-yes fits ∙ rw unused)
 
--- kinds 1 and 3 have no copies
-pub without-copies : {way : Way} {k : Kind} (kind budget : ℕ) (ws vs cs : List ℕ) {lent : Lent} {r : ℕ} → rulesOf k .uses-copies ≡ false
-    → LowestBy way k (jobOf kind (budget ∷ []) ws vs cs) lent r → r ≡ 0 → jobOf kind (budget ∷ []) ws vs cs ≡ jobOf kind (budget ∷ []) ws vs []
-unfolding listsFit jobOf
-without-copies {k = k} kind budget ws vs cs no-copies by none =
-    let j = jobOf kind (budget ∷ []) ws vs cs in
-    let kept = has-passed (rulesOf k) j _ (sym (by .lowest) ∙ none) .lists in
+-- kinds 1, 3 and 9 have no copies
+pub no-copies : (k : Kind) (j : Job) (later : ℕ) → rulesOf k .uses-copies ≡ false → jobRefusal (rulesOf k) j later ≡ 0 → j .copies ≡ []
+unfolding listsFit
+no-copies k j later unused none =
     let (v, c) =
-    and-yes (eqb (length vs) (if (rulesOf k .uses-values) (labels j) 0)) (eqb (length cs) (if (rulesOf k .uses-copies) (labels j) 0)) kept in
-    let no-cs : cs ≡ [] = no-members cs _ (labels j) no-copies c in
+    and-yes (eqb (length (j .values)) (if (rulesOf k .uses-values) (labels j) 0)) (eqb (length (j .copies)) (if (rulesOf k .uses-copies) (labels j) 0))
+    (has-passed (rulesOf k) j later none .lists) in
+    no-members (j .copies) _ (labels j) unused c
+
+pub without-copies : {way : Way} {k : Kind} (kind : ℕ) (budgets ws vs cs : List ℕ) {lent : Lent} {r : ℕ} → rulesOf k .uses-copies ≡ false
+    → LowestBy way k (jobOf kind budgets ws vs cs) lent r → r ≡ 0 → jobOf kind budgets ws vs cs ≡ jobOf kind budgets ws vs []
+unfolding jobOf
+without-copies {k = k} kind budgets ws vs cs unused by none =
+    let no-cs : cs ≡ [] = no-copies k (jobOf kind budgets ws vs cs) _ unused (sym (by .lowest) ∙ none) in
     rw no-cs
 
 -- a job that uses weights alone has no values and no copies
@@ -174,8 +178,8 @@ weights-alone {k = k} kind budget ws vs cs no-values no-copies by none =
 
 -- ---- the arm of a kind that isn't kind 1, whichever way kind 1 goes
 
--- `job` has its kind's number, which is m
-pub of-arm : (way : Way) (job : ℕ → Job) (m kind : ℕ) (before after : Lent) (a : Answer) → ((k : ℕ) → job k .kind-number ≡ k) → kind ≡ m → ¬ (m ≡ 1)
-    → SolvedBy Light (job m) before a after → SolvedBy way (job kind) before a after
-of-arm way job m kind before after a numbered is not-1 h =
-    rw is (either-way {way = Light} way (job m) before after a (λ one. not-1 (sym (numbered m) ∙ one)) h)
+-- `job` has its kind's number, which is m, and the arm takes it as `bare`
+pub of-arm : (way : Way) (job : ℕ → Job) (m kind : ℕ) {bare : Job} (before after : Lent) (a : Answer) → ((k : ℕ) → job k .kind-number ≡ k)
+    → kind ≡ m → ¬ (m ≡ 1) → bare ≡ job m → SolvedBy Light bare before a after → SolvedBy way (job kind) before a after
+of-arm way job m kind before after a numbered is not-1 same h =
+    rw is (either-way {way = Light} way (job m) before after a (λ one. not-1 (sym (numbered m) ∙ one)) (rw same at h))

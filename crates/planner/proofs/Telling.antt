@@ -2,7 +2,7 @@
 -- Assumes nothing.
 use mathlib.Core.Path.{_≡_}
 use Prim.Native.Nat.{ℕ}
-use mathlib.Core.List.{List, [], _∷_}
+use mathlib.Core.List.{List, []}
 use lib.ListN.{length}
 use Rattle.meaning.specs.declared.Answer.{Answer}
 use Rattle.meaning.specs.declared.Answer.the-variants as Says
@@ -21,12 +21,12 @@ unfolding kindRead labelsRead
 told-unread b before {place} e = record { solved = solved-unreadable b place before e; kind-told = rw e; labels-told = rw e }
 
 -- others tell of the job that they are read as
-pub told-read : {way : Way} (b : List ℕ) (kind budget : ℕ) (wbytes vbytes cbytes : List ℕ) (before after : Lent) (a : Answer) (n : ℕ)
-    → readJob b ≡ readable (jobFrom kind (budget ∷ []) [] wbytes [] vbytes [] cbytes) → n ≡ length (listFrom [] wbytes)
-    → SolvedBy way (jobFrom kind (budget ∷ []) [] wbytes [] vbytes [] cbytes) before a after → ToldBy way b before kind n a after
+pub told-read : {way : Way} (b : List ℕ) (kind : ℕ) (budgets wbytes vbytes cbytes : List ℕ) (before after : Lent) (a : Answer) (n : ℕ)
+    → readJob b ≡ readable (jobFrom kind budgets [] wbytes [] vbytes [] cbytes) → n ≡ length (listFrom [] wbytes)
+    → SolvedBy way (jobFrom kind budgets [] wbytes [] vbytes [] cbytes) before a after → ToldBy way b before kind n a after
 unfolding kindRead labelsRead jobOf labels
-told-read b kind budget wbytes vbytes cbytes before after a n reads counted solved = record {
-  solved = solved-bytes b (jobFrom kind (budget ∷ []) [] wbytes [] vbytes [] cbytes) before after a reads solved;
+told-read b kind budgets wbytes vbytes cbytes before after a n reads counted solved = record {
+  solved = solved-bytes b (jobFrom kind budgets [] wbytes [] vbytes [] cbytes) before after a reads solved;
   kind-told = rw reads;
   labels-told = rw (reads, counted);
 }

@@ -391,9 +391,9 @@ fn stated_refusal(
     cells: usize,
     picks: usize,
 ) -> u32
-    ensures { λ r. ⌜ let j = jobFrom 9 (budget ∷ q ∷ []) (now (weights .entry)) (now (wbytes .entry))
+    ensures { λ r. ⌜ (let j = jobFrom 9 (budget ∷ q ∷ []) (now (weights .entry)) (now (wbytes .entry))
         (now (values .entry)) (now (vbytes .entry)) (now (copies .entry)) (now (cbytes .entry)) in
-        r ≡ jobRefusal (rulesOf stated-share) j (if (leb (statedCells j) cells && leb (labels j) picks) 0 6) ⌝ }
+        r ≡ jobRefusal (rulesOf stated-share) j (if (leb (statedCells j) cells && leb (labels j) picks) 0 6)) ⌝ }
 {
     let rules = rules::knapsack_rules(1);
     let refused = requests::job_refusal(

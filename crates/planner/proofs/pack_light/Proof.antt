@@ -77,7 +77,7 @@ returns c = turned-away (lowest (c .before)) (c .if1 .taken)
 -- a job that is let in has no copies
 alone : (c : tie.Else1) → let s = entry (counted (c .before)) in job s ≡ bare s
 unfolding rulesOf knapsackRules hasCopies
-alone c = without-copies 1 (entry (counted (c .before)) .args .budget) _ _ _ refl (lowest (c .before)) (c .if1 .left)
+alone c = without-copies 1 (entry (counted (c .before)) .args .budget ∷ []) _ _ _ refl (lowest (c .before)) (c .if1 .left)
 
 solve-requires : tie.Need-solve-requires
 unfolding claimsFit rulesOf knapsackRules

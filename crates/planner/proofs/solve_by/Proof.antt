@@ -1,5 +1,6 @@
 -- `planner::solve_by` meets its contract: a job of lists is handed over with no bytes.
 -- Assumes nothing.
+use mathlib.Core.List.{[], _∷_}
 use mathlib.Core.Path.{subst}
 use Rattle.meaning.specs.Job.{Job}
 use Rattle.meaning.specs.Lent.{Lent, lentOf}
@@ -20,7 +21,7 @@ decided c = c .before .before .before .before .before .before
 -- what the slices hold then
 abbrev left : tie.After-decide → Lent
 left c =
-    let slices = c .decide .last .1 .1 .1 .1 .1 .1 .1 .1 .1 in
+    let slices = c .decide .last .1 .1 .1 .1 .1 .1 .1 .1 .1 .1 in
     lentOf (slices .0) (slices .1 .0) (slices .1 .1 .0)
 
 slice-aggregate-decide : tie.Need-slice-aggregate-decide
@@ -49,7 +50,7 @@ returns c =
     let d = decided c in
     let a = entry d .args in
     subst (λ (j : Job). SolvedBy (a .way) j (lentOf (a .cells .now) (a .words .now) (a .picks .now)) (d .decide .result) (left d))
-    (job-of-lists (a .kind) (a .budget) (a .weights .now) (a .values .now) (a .copies .now)) (d .decide .ensures)
+    (job-of-lists (a .kind) (a .budget ∷ a .q ∷ []) (a .weights .now) (a .values .now) (a .copies .now)) (d .decide .ensures)
 
 pub solve-by-spec : {M : Type 1} → statement M
 solve-by-spec =
