@@ -1,0 +1,1 @@
+-- Laws of the definitions in specs/, from cells alone up to the door.
