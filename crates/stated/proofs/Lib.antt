@@ -10,3 +10,5 @@ pub mod Showing
 -- the trace back through it, and the picks that it finds
 pub mod Lightest
 pub mod Tracing
+-- from a job that isn't refused to what the functions ask, and from what they leave to the promise
+pub mod StatedDoor

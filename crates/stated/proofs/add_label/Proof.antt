@@ -1,29 +1,33 @@
+-- `stated::add_label` meets its contract: it is asked for room only where it makes a row.
+-- Assumes nothing.
+use mathlib.Core.Path.{refl}
+use native.Mathlib.Omega.{arith}
 use borrow.Author.Needs.{needs}
+use Rattle.stated.specs.LeastWeights.{aside, row-made}
 use Rattle.stated.proofs.add_label.Statement.{statement}
 use Rattle.stated.proofs.add_label.Tie as tie
-use Rattle.stated.proofs.add_label.Reads as reads
-use Rattle.stated.proofs.add_label.Lts as lts
-use Rattle.stated.proofs.next_weights.Reads as next-weights-reads
 
--- src/lib.rt:206:9
+-- the function's entry, from where the label is light
+abbrev entry : tie.Else1 → tie.Start
+entry c = c .before .before
+
 returns : tie.Need-returns
-returns c = ?
+returns c = aside (c .if1 .taken) refl
 
--- src/lib.rt:208:5
 next-weights-requires : tie.Need-next-weights-requires
-next-weights-requires c κs = ?
+next-weights-requires c κs =
+    let s = entry (c .before) in
+    let room = s .pre .1 (omega arith) in
+    (room .0, (room .1, (omega arith, s .pre .0)))
 
--- src/lib.rt:209:5
 add-result : tie.Need-add-result
-add-result c = ?
+add-result c = let s = entry (c .before .before .before .before) in omega (arith, s .pre .1 (omega arith) .1, s .good)
 
--- src/lib.rt:201:1
 same-length : tie.Need-same-length
 same-length c = search needs
 
--- src/lib.rt:201:1
 returns-2 : tie.Need-returns-2
-returns-2 c = ?
+returns-2 c = row-made (omega arith) (c .before .before .next-weights .ensures)
 
 pub add-label-spec : {M : Type 1} → statement M
 add-label-spec =

@@ -1,29 +1,31 @@
+-- `stated::divisor_of` meets its contract: where there is nothing to divide by, what is divided by 0 is 0, and so below 1.
+-- Assumes nothing.
+use mathlib.Core.Path.{_≡_, ap, _∙_}
+use Prim.Native.Nat.{ℕ, _*_, _/_}
+use native.Mathlib.Nat.{div-zero}
+use native.Mathlib.Omega.{arith}
 use borrow.Author.Needs.{needs}
+use Rattle.stated.proofs.Fitting.{parts-fit}
 use Rattle.stated.proofs.divisor_of.Statement.{statement}
 use Rattle.stated.proofs.divisor_of.Tie as tie
-use Rattle.stated.proofs.divisor_of.Reads as reads
-use Rattle.stated.proofs.divisor_of.Lts as lts
-use Rattle.stated.proofs.greater.Reads as greater-reads
 
--- src/lib.rt:89:17
 mul-parts : tie.Need-mul-parts
-mul-parts c = ?
+mul-parts c = omega (arith, parts-fit (c .args .m) (c .args .q) (c .pre .0) (c .pre .1))
 
--- src/lib.rt:91:9
 returns : tie.Need-returns
-returns c = ?
+returns c =
+    let a = c .before .args in
+    let none : a .m * a .q ≡ 0 = c .if1 .taken in
+    omega (arith, ap (λ (parts : ℕ). a .p / parts) none ∙ div-zero (a .p))
 
--- src/lib.rt:93:16
 div-greater : tie.Need-div-greater
 div-greater c = search needs
 
--- src/lib.rt:93:5
 greater-requires : tie.Need-greater-requires
 greater-requires c κs = search needs
 
--- src/lib.rt:85:1
 returns-2 : tie.Need-returns-2
-returns-2 c = search needs
+returns-2 c = c .greater .ensures
 
 pub divisor-of-spec : {M : Type 1} → statement M
 divisor-of-spec = tie.close (tie.spec mul-parts returns div-greater greater-requires returns-2)

@@ -1,15 +1,21 @@
+-- `stated::if_light` meets its contract: its test is the definition's.
+-- Assumes nothing.
+use mathlib.Core.Path.{refl}
+use native.Mathlib.Nat.{le-refl}
+use Prim.Native.Nat.{zero-le}
+use native.Mathlib.Omega.{arith}
+use borrow.Author.Tests.{le-leb, lt-leb}
+use Rattle.meaning.specs.Lists.{if}
 use Rattle.stated.proofs.if_light.Statement.{statement}
 use Rattle.stated.proofs.if_light.Tie as tie
-use Rattle.stated.proofs.if_light.Reads as reads
-use Rattle.stated.proofs.if_light.Lts as lts
 
--- src/lib.rt:38:9
 returns : tie.Need-returns
-returns c = ?
+unfolding if
+returns c = let a = c .before .args in (rw (lt-leb (a .w) (a .budget) (c .if1 .taken)) refl, zero-le)
 
--- src/lib.rt:34:1
 returns-2 : tie.Need-returns-2
-returns-2 c = ?
+unfolding if
+returns-2 c = let a = c .before .args in (rw (le-leb (a .w) (a .budget) (omega arith)) refl, le-refl (a .x))
 
 pub if-light-spec : {M : Type 1} → statement M
 if-light-spec = tie.close (tie.spec returns returns-2)

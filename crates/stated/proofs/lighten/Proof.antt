@@ -1,82 +1,99 @@
+-- `stated::lighten` meets its contract: each cell so far is made of two of the row before, which lies before all stores and is as it was.
+-- Assumes nothing.
+use mathlib.Core.Path.{_≡_, refl, _∙_}
+use Prim.Native.Nat.{ℕ, _+_, _-_}
+use native.Mathlib.Omega.{arith}
+use mathlib.Core.List.{List}
+use borrow.Author.Needs.{needs}
+use Rattle.meaning.specs.Lists.{at}
+use Rattle.rows.proofs.Stores.{Storing, storing-none, storing-more, storing-all}
+use Rattle.stated.specs.LeastWeights.{lighter}
 use Rattle.stated.proofs.lighten.Statement.{statement}
 use Rattle.stated.proofs.lighten.Tie as tie
-use Rattle.stated.proofs.lighten.Reads as reads
-use Rattle.stated.proofs.lighten.Lts as lts
-use Rattle.stated.proofs.lesser_weight.Reads as lesser-weight-reads
+
+-- the lighter of none of the label and one
+abbrev made : List ℕ → ℕ → ℕ → ℕ → ℕ → ℕ → ℕ
+made cells from a w room t = lighter (w + room) w (at cells (from + t)) (at cells (from + (t - a)))
 
 abbrev Inv-loop : tie.InvT-loop
-Inv-loop cells₀ from to width a w room t₀ cells t = ?
+Inv-loop cells₀ from to width a w room t₀ cells t = Storing cells₀ to a width (made cells₀ from a w room) t cells
 
 abbrev μ-loop : tie.MeasureT-loop
-μ-loop cells₀ from to width a w room t₀ cells t = ?
+μ-loop cells₀ from to width a w room t₀ cells t = width - t
 
--- src/lib.rt:180:5
+-- the function's entry, from the loop's head
+abbrev entry : tie.At-loop Inv-loop μ-loop → tie.Start Inv-loop μ-loop
+entry c = c .before .before
+
+-- a turn, from where its cell is made
+abbrev turn : tie.After-lesser-weight Inv-loop μ-loop → tie.In-loop Inv-loop μ-loop
+turn c = c .before .before .before
+
 loop-holds : tie.Need-loop-holds Inv-loop μ-loop
-loop-holds c = ?
+loop-holds c =
+    let s = c .before in
+    let a = s .args in
+    storing-none (a .cells .now) (a .to) (a .a) (a .width) (made (a .cells .now) (a .from) (a .a) (a .w) (a .room)) (s .pre .0)
 
--- src/lib.rt:181:29
 add-without : tie.Need-add-without Inv-loop μ-loop
-add-without c = ?
+add-without c = search needs
 
--- src/lib.rt:181:23
 mul-without : tie.Need-mul-without Inv-loop μ-loop
-mul-without c = ?
+mul-without c = search needs
 
--- src/lib.rt:181:23
 slice-read-without : tie.Need-slice-read-without Inv-loop μ-loop
-slice-read-without c = ?
+slice-read-without c = search needs
 
--- src/lib.rt:182:26
 add-less : tie.Need-add-less Inv-loop μ-loop
-add-less c = ?
+add-less c = search needs
 
--- src/lib.rt:182:26
 sub-less : tie.Need-sub-less Inv-loop μ-loop
-sub-less c = ?
+sub-less c = search needs
 
--- src/lib.rt:182:20
 mul-less : tie.Need-mul-less Inv-loop μ-loop
-mul-less c = ?
+mul-less c = search needs
 
--- src/lib.rt:182:20
 slice-read-less : tie.Need-slice-read-less Inv-loop μ-loop
-slice-read-less c = ?
+slice-read-less c = search needs
 
--- src/lib.rt:183:25
 lesser-weight-requires : tie.Need-lesser-weight-requires Inv-loop μ-loop
-lesser-weight-requires c κs = ?
+lesser-weight-requires c κs = search needs
 
--- src/lib.rt:183:15
 add-cells : tie.Need-add-cells Inv-loop μ-loop
-add-cells c = ?
+add-cells c = search needs
 
--- src/lib.rt:183:9
 mul-cells : tie.Need-mul-cells Inv-loop μ-loop
-mul-cells c = ?
+mul-cells c = search needs
 
--- src/lib.rt:183:9
 slice-write-cells : tie.Need-slice-write-cells Inv-loop μ-loop
-slice-write-cells c = ?
+slice-write-cells c = search needs
 
--- src/lib.rt:184:9
 add-t : tie.Need-add-t Inv-loop μ-loop
-add-t c = ?
+add-t c = search needs
 
--- src/lib.rt:180:5
 loop-less : tie.Need-loop-less Inv-loop μ-loop
-loop-less c = ?
+loop-less c = search needs
 
--- src/lib.rt:180:5
 loop-again : tie.Need-loop-again Inv-loop μ-loop
-loop-again c = ?
+loop-again c =
+    let s = entry (turn c .before) in
+    let a = s .args in
+    let l = turn c .before .loop in
+    let kept = l .inv .stored .before in
+    let less : a .from + l .t - a .a ≡ a .from + (l .t - a .a) = omega arith in
+    storing-more (a .cells .now) (a .to) (a .a) (a .width) (made (a .cells .now) (a .from) (a .a) (a .w) (a .room))
+    (l .t) (a .to + l .t) (c .lesser-weight .result) (l .cells) (turn c .loop-test .taken) (s .pre .1 .1 .0) (l .inv) refl
+    (c .lesser-weight .ensures ∙ rw (less, kept (a .from + l .t) (omega arith), kept (a .from + (l .t - a .a)) (omega arith)))
 
--- src/lib.rt:174:1
 same-length : tie.Need-same-length Inv-loop μ-loop
-same-length c = ?
+same-length c = c .before .loop .inv .long
 
--- src/lib.rt:174:1
 returns : tie.Need-returns Inv-loop μ-loop
-returns c = ?
+returns c =
+    let a = entry (c .before) .args in
+    let l = c .before .loop in
+    storing-all (a .cells .now) (a .to) (a .a) (a .width) (made (a .cells .now) (a .from) (a .a) (a .w) (a .room)) (l .t) (l .cells) (omega arith)
+    (l .inv)
 
 pub lighten-spec : {M : Type 1} → statement M
 lighten-spec =

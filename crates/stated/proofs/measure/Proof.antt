@@ -1,52 +1,92 @@
+-- `stated::measure` meets its contract: the definitions' numbers one after another.
+-- Assumes nothing.
+use mathlib.Core.Path.{_≡_, ap, ap₂, _∙_}
+use Prim.Native.Nat.{ℕ, _+_, _*_, _<_}
+use native.Mathlib.Omega.{arith}
+use mathlib.Core.List.{List, [], _∷_}
 use borrow.Author.Needs.{needs}
+use Rattle.meaning.specs.Job.{Job, jobOf, labels, hasQ}
+use Rattle.meaning.specs.Lists.{if}
+use Rattle.meaning.specs.Cuts.{remainOf, remain, divisor, cutValues, cutSum, statedCells}
+use Rattle.numbers.specs.TwoSlices.{listFrom}
+use Rattle.stated.proofs.Fitting.{cells-fit}
+use Rattle.stated.proofs.StatedDoor.{measured-divisor, divisor-positive}
 use Rattle.stated.proofs.measure.Statement.{statement}
 use Rattle.stated.proofs.measure.Tie as tie
-use Rattle.stated.proofs.measure.Reads as reads
-use Rattle.stated.proofs.measure.Lts as lts
-use Rattle.stated.proofs.count_remaining.Reads as count-remaining-reads
-use Rattle.stated.proofs.cut_sum.Reads as cut-sum-reads
-use Rattle.stated.proofs.divisor_of.Reads as divisor-of-reads
-use Rattle.stated.proofs.greatest_value.Reads as greatest-value-reads
 
--- src/lib.rt:142:9
+-- the function's entry, from where the labels were counted
+abbrev entry : tie.After-count-remaining → tie.Start
+entry c = c .before .before .before .before .before
+
+-- the job that the function is handed
+module _ (s : tie.Start) where
+  abbrev weights : List ℕ
+  weights = listFrom (s .args .weights .now) (s .args .wbytes .now)
+
+  abbrev values : List ℕ
+  values = listFrom (s .args .values .now) (s .args .vbytes .now)
+
+  abbrev job : Job
+  job = jobOf 9 (s .args .budget ∷ s .args .q ∷ []) weights values []
+
+-- what is known with the divisor
+module _ (c : tie.After-divisor-of) where
+  abbrev counted : tie.After-count-remaining
+  counted = c .before .before
+
+  abbrev start : tie.Start
+  start = entry counted
+
+  count-is : counted .count-remaining .result ≡ remain (job start)
+  unfolding remain remainOf labels jobOf
+  count-is = counted .count-remaining .ensures .0
+
+  divisor-is : c .divisor-of .result ≡ divisor (job start)
+  unfolding jobOf if hasQ
+  divisor-is =
+      measured-divisor (job start) (c .before .greatest-value .result) (counted .count-remaining .result) (c .divisor-of .result)
+      (c .before .greatest-value .ensures) count-is (c .divisor-of .ensures)
+
+-- and with the sum
+sum-is : (c : tie.After-cut-sum) → c .cut-sum .result ≡ cutSum (job (start (c .before)))
+unfolding cutSum cutValues jobOf
+sum-is c = rw (divisor-is (c .before)) at (c .cut-sum .ensures)
+
 count-remaining-requires : tie.Need-count-remaining-requires
-count-remaining-requires c κs = search needs
+count-remaining-requires c κs = c .before .before .before .before .pre .1 .few
 
--- src/lib.rt:143:9
 greatest-value-requires : tie.Need-greatest-value-requires
-greatest-value-requires c κs = search needs
+greatest-value-requires c κs = entry c .pre .1 .one-each
 
--- src/lib.rt:144:9
 divisor-of-requires : tie.Need-divisor-of-requires
-divisor-of-requires c κs = search needs
+divisor-of-requires c κs = let m = c .before in (m .count-remaining .ensures .1, entry m .pre .0)
 
--- src/lib.rt:145:9
 cut-sum-requires : tie.Need-cut-sum-requires
-cut-sum-requires c κs = search needs
+cut-sum-requires c κs = (omega (arith, divisor-is c, divisor-positive (job (start c))), start c .pre .1)
 
--- src/lib.rt:146:17
 cast-width : tie.Need-cast-width
 cast-width c = search needs
 
--- src/lib.rt:146:17
 add-width : tie.Need-add-width
 add-width c = search needs
 
--- src/lib.rt:147:18
 cast-cells : tie.Need-cast-cells
 cast-cells c = search needs
 
--- src/lib.rt:147:18
 add-cells : tie.Need-add-cells
 add-cells c = search needs
 
--- src/lib.rt:147:17
 mul-cells : tie.Need-mul-cells
-mul-cells c = ?
+mul-cells c =
+    let m = counted (c .before) .count-remaining in
+    omega (arith, cells-fit (m .result) (c .cut-sum .result + 1) (m .ensures .1) (omega arith))
 
--- src/lib.rt:129:1
 returns : tie.Need-returns
-returns c = ?
+unfolding statedCells
+returns c = (
+  divisor-is (c .before),
+  (ap (λ (t : ℕ). t + 1) (sum-is c), ap₂ (λ (m t : ℕ). (m + 1) * (t + 1)) (count-is (c .before)) (sum-is c)),
+)
 
 pub measure-spec : {M : Type 1} → statement M
 measure-spec =
