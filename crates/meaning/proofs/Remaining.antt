@@ -125,7 +125,8 @@ module _ (j : Job) where
   unfolding remainOf tally
   remain-none = refl
 
-  remain-next : (i : ℕ) → i < labels j → remainOf j (suc i) ≡ remainOf j i + if (leb (at (j .weights) i) (j .budget)) 1 0
+  -- label i, in one equation
+  pub remain-next : (i : ℕ) → i < labels j → remainOf j (suc i) ≡ remainOf j i + if (leb (at (j .weights) i) (j .budget)) 1 0
   unfolding remainOf labels tally
   remain-next i h =
       let light : ℕ → Bool = λ w. leb w (j .budget) in

@@ -17,9 +17,13 @@ module _ (new old : List ℕ) (n : ℕ) (long : length new ≡ n) where
   pub front-room : n ≤ length (new ++ drop n old)
   front-room = omega (arith, length-append new (drop n old))
 
+  -- one of them
+  pub front-at : (k : ℕ) → k < n → at (new ++ drop n old) k ≡ at new k
+  front-at k h = List·getD-append new (drop n old) 0 k (omega arith)
+
   -- the last of them
   pub front-last : (b : ℕ) → n ≡ b + 1 → at (new ++ drop n old) (n - 1) ≡ at new b
-  front-last b e = ap (at (new ++ drop n old)) (omega arith) ∙ List·getD-append new (drop n old) 0 b (omega arith)
+  front-last b e = ap (at (new ++ drop n old)) (omega arith) ∙ front-at b (omega arith)
 
 -- ---- places from the middle on
 

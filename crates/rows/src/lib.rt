@@ -81,7 +81,7 @@ pub fn is_marked(cell: u32) -> bool
 // ---- a row made of the row before it, in a table
 
 // Copies the first cells of the row at `from` to the row at `to`.
-fn copy(cells: &mut [u32], from: usize, to: usize, count: usize)
+pub fn copy(cells: &mut [u32], from: usize, to: usize, count: usize)
     requires { ⌜ (from + count ≤ to) × (to + count ≤ length (now cells)) ⌝ }
     ensures { λ _. ⌜ Stored (now (cells .entry)) (now (cells .exit)) to 0 count (λ c. at (now (cells .entry)) (from + c)) ⌝ }
 {
