@@ -24,7 +24,7 @@ use Rattle.meaning.specs.Solved.{UnrefusedBy, Answered, Gives, Outcome, 
 use Rattle.meaning.specs.Solved.{SolvedBytesBy, SolvedRead, TableBy, TurnedDown, SolvedLists}
 use Rattle.meaning.specs.Certificates.{certifiedKnapsack}
 use Rattle.meaning.specs.Writer.{Writes, WritesAs, WritesFor, bytesNeeded, certificate, writerRefusal}
-use Rattle.meaning.proofs.EachKind.{gives-unique, table-unique}
+use Rattle.meaning.proofs.EachKind.{gives-unique, not-said, refusals, table-unique}
 use Rattle.meaning.proofs.Unique.{no-influence, answer-numbers-unique}
 -- a kind's number, passed on
 unfoldable pub use Rattle.meaning.proofs.EachKind.{numberOf}
@@ -112,6 +112,19 @@ pub answered-solved : {way : Way} (k : Kind) (j : Job) (before after : Lent) (a 
     → Answered (roomBy way k j) (TableBy way k j) k j before (answerNumbers a) after → SolvedBy way j before a after
 unfolding Outcome
 answered-solved k j before after a ok h = solved-kind j before k 0 a after (ok .of-kind) (ok .no-refusal) h
+
+-- a job that got an answer, and no refusal, was answered
+pub some-answer : {way : Way} (k : Kind) (j : Job) (before after : Lent) (a : Answer) → kindOf (j .kind-number) ≡ some k
+    → refusals (answerNumbers a .case) ≡ 0 → SolvedBy way j before a after
+    → Answered (roomBy way k j) (TableBy way k j) k j before (answerNumbers a) after
+unfolding Outcome
+some-answer {way} k j before after a of-kind no-refusal h =
+    go (kindRefusal (roomBy way k j) k j before) (kind-solved j before k (kindRefusal (roomBy way k j) k j before) a after of-kind refl h)
+  where
+    go : (r : ℕ) → Outcome r (roomBy way k j) (TableBy way k j) k j before (answerNumbers a) after
+        → Answered (roomBy way k j) (TableBy way k j) k j before (answerNumbers a) after
+    go zero x = x
+    go (suc r) x = absurd (not-said (suc r) a no-refusal (sym (x .numbers)))
 
 -- whoever solves a job that the meanings answer by b and p answers b and writes p
 pub solved-says : {way : Way} (k : Kind) (j : Job) (before after : Lent) (a b : Answer) (p : List ℕ)

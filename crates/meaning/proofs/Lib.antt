@@ -43,6 +43,8 @@ pub mod QuickPromise
 pub mod Budgets
 pub mod Numbers
 pub mod Sections
+-- kind 9 over the promise; and that other kinds ignore q
+pub mod StatedPromise
 -- certificates: the third demand
 pub mod Searches
 pub mod Valid
