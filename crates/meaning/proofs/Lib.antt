@@ -84,5 +84,6 @@ mod CornersAnswers
 mod CornersVerdicts
 mod CornersWriter
 mod CornersQuick
+mod CornersStated
 -- wrong quick answers, by these cases
 mod QuickWrong

@@ -39,7 +39,7 @@ use Rattle.meaning.proofs.Opens.{opens}
 use Rattle.meaning.proofs.Cases.{caseJ}
 
 -- a call that no refusal meets and that leaves `content` in the needed places
-leaves : {way : Way} (k : Kind) (j : Job) (content : Lent) {before after : Lent} {a : Answer} → Gives k j (answerNumbers a) (content .picks)
+pub leaves : {way : Way} (k : Kind) (j : Job) (content : Lent) {before after : Lent} {a : Answer} → Gives k j (answerNumbers a) (content .picks)
     → TableBy way k j content → kindOf (j .kind-number) ≡ some k → kindRefusal (roomBy way k j) k j before ≡ 0
     → length (content .cells) ≡ roomBy way k j .cells → length (content .words) ≡ roomBy way k j .words
     → Holds (content .cells) (before .cells) (after .cells) → Holds (content .words) (before .words) (after .words)
@@ -58,7 +58,7 @@ leaves k j content {before} {after} {a} given table of-kind no-refusal cells wor
     })
 
 -- `unfolding call` unfolds what a call promises
-unfoldable call : Unit {0}
+unfoldable pub call : Unit {0}
 unfolding opens SolvedLists SolvedAs Outcome Gives TableBy OnceTable ValueTable Holds
 call = tt
 

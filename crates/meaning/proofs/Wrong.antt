@@ -1,4 +1,4 @@
--- Wrong answers that the promises rule out: on all bytes that can't be read, by the writer, by the checker on one job, by kind 8, and from C. (Versions has
+-- Wrong answers that the promises rule out: on all bytes that can't be read, by the writer, by the checker on one job, by kinds 8 and 9, and from C. (Versions has
 -- those that document 01 names.)
 -- Assumes nothing.
 use mathlib.Core.Path.{_∙_, _≡_, ap, refl, subst, sym}
@@ -20,14 +20,15 @@ use Rattle.meaning.specs.declared.Verdict.the-variants.{Accepted, Refuse
 use Rattle.meaning.specs.Lists.{at}
 use Rattle.meaning.specs.Slices.{Holds}
 use Rattle.meaning.specs.Cells.{LeastShown}
-use Rattle.meaning.specs.Job.{Job, Knapsack}
+use Rattle.meaning.specs.Job.{Job, Knapsack, stated-share}
 use Rattle.meaning.specs.Lent.{Lent}
 use Rattle.meaning.specs.Bytes.{readJob, readable, unreadable}
 use Rattle.meaning.specs.Sums.{Weighs}
 use Rattle.meaning.specs.Light.{LightTable}
 use Rattle.meaning.specs.Behind.{Behind, FirstRow, ReachedBy}
-use Rattle.meaning.specs.Answers.{verdictNumbers, answerNumbers, writtenNumbers}
-use Rattle.meaning.specs.Solved.{SolvedBytesBy, SolvedRead, TurnedDown}
+use Rattle.meaning.specs.Stated.{CutWeight, StatedTable}
+use Rattle.meaning.specs.Answers.{AnswerNumbers, verdictNumbers, answerNumbers, writtenNumbers}
+use Rattle.meaning.specs.Solved.{SolvedBy, SolvedBytesBy, SolvedRead, TurnedDown, UnrefusedBy}
 use Rattle.meaning.specs.Certificates.{Checked, certifiedKnapsack, verdictOf}
 use Rattle.meaning.specs.Writer.{Writes, WritesAs, WritesBytes, WritesFor, WritesRead, bytesNeeded}
 use Rattle.meaning.specs.Writer.{certificate, newBytes, slicesFit, writerRefusal, writtenAs}
@@ -42,8 +43,10 @@ use Rattle.meaning.proofs.Entries.{zero-is-accepted}
 use Rattle.meaning.proofs.Versions.{accepts-all, refuses-all}
 use Rattle.meaning.proofs.Small.{behind-out, isBehind}
 use Rattle.meaning.proofs.SmallTables.{first-row-out, isFirstRow, isLightTable, light-table-out}
+use Rattle.meaning.proofs.SmallStated.{isStatedTable, stated-table-out}
 use Rattle.meaning.proofs.Opens.{opens}
-use Rattle.meaning.proofs.Cases.{noLabels, plain}
+use Rattle.meaning.proofs.Cases.{noLabels, plain, shareJob}
+use Rattle.meaning.proofs.Held.{trial-says, tried-goes}
 
 -- ---- on job bytes that can't be read: a planner or a writer that gives another number than 1, and one that writes then
 
@@ -179,6 +182,27 @@ traced-last b =
     let same : _≡_ {A = List ℕ} (0 ∷ 1 ∷ []) (1 ∷ 0 ∷ []) = behind-unique j 2 1 _ _ b (behind-out j (1 ∷ 0 ∷ []) tt) in
     let first : _≡_ {A = ℕ} 0 1 = ap (λ (l : List ℕ). at l 0) same in
     omega arith
+
+-- ---- kind 9: the best value where another is asked for, the value in cut values, the heavier label of equal cut values; a cell that isn't the least weight
+
+module _ {way : Way} (before after : Lent) (ok : UnrefusedBy way stated-share shareJob before) where
+  says-8 : (a : Answer) → SolvedBy way shareJob before a after → (a ≡ Says.Knapsack 8 2) × Holds (0 ∷ 1 ∷ []) (before .picks) (after .picks)
+  says-8 a h = trial-says shareJob (Says.Knapsack 8 2) (0 ∷ 1 ∷ []) (tried-goes stated-share) stated-share before after a ok h
+
+  no-other-value : (v w : ℕ) → SolvedBy way shareJob before (Says.Knapsack v w) after → (v ≡ 8) × (w ≡ 2)
+  unfolding answerNumbers
+  no-other-value v w h =
+      let same : answerNumbers (Says.Knapsack v w) ≡ answerNumbers (Says.Knapsack 8 2) = ap answerNumbers (says-8 (Says.Knapsack v w) h .0) in
+      (ap (λ (s : AnswerNumbers). s .value) same, ap (λ (s : AnswerNumbers). s .weight) same)
+
+-- two labels of cut value 4 that weigh 3 and 2: total 4 weighs 2
+shows-the-lightest : (cell : ℕ) → LeastShown (CutWeight shareJob (4 ∷ 4 ∷ []) 2 4) cell → cell ≡ 2
+unfolding opens isStatedTable StatedTable
+shows-the-lightest cell s =
+    let none : ℕ = 4_294_967_295 in
+    let cells : List ℕ = 0 ∷ none ∷ none ∷ none ∷ none ∷ none ∷ none ∷ none ∷ none ∷ 0 ∷ none ∷ none ∷ none ∷ 3 ∷ none ∷ none ∷ none ∷ none
+    ∷ 0 ∷ none ∷ none ∷ none ∷ 2 ∷ none ∷ none ∷ none ∷ none ∷ [] in
+    least-shown-unique s (stated-table-out shareJob cells tt 2 4 (lit≤ tt) (lit≤ tt))
 
 -- ---- from C: a checker's entry that gives 0 for every certificate of a valid job, or for none; and a writer's entry that counts no bytes
 

@@ -12,7 +12,7 @@ use Rattle.meaning.specs.declared.Answer.{Answer}
 use Rattle.meaning.specs.declared.Answer.the-variants as Says
 use Rattle.meaning.specs.declared.Way.the-variants.{Light}
 use Rattle.meaning.specs.Lists.{if}
-use Rattle.meaning.specs.Job.{Job, labels, Kind, once, limited, free, packing, subset-sums, fewest-blocks, block-ways, sharing, labels-behind, kindOf}
+use Rattle.meaning.specs.Job.{Job, labels, Kind, once, limited, free, packing, subset-sums, fewest-blocks, block-ways, sharing, labels-behind, stated-share, kindOf}
 use Rattle.meaning.specs.Lent.{Lent, onceRoom, roomBy, roomFor, roomOf}
 use Rattle.meaning.specs.Refusals.{kindRefusal}
 use Rattle.meaning.specs.Bytes.{JobRead, readJob, readable, unreadable}
@@ -64,6 +64,7 @@ module _ (j : Job) (before after : Lent) (a : Answer) where
       as-without a (waysAnswer (g .ways)) (labels j) (length (before .picks)) (g .numbers) (ways-without (ltb (g .ways) tooMany) (g .ways) (labels j))
   by-answer sharing p ok g = one-each sharing refl ok
   by-answer labels-behind p ok g = one-each labels-behind refl ok
+  by-answer stated-share p ok g = one-each stated-share refl ok
 
   by-refusal : (k : Kind) (r : ℕ) → kindOf (j .kind-number) ≡ some k → kindRefusal (roomFor k j) k j before ≡ r
       → Outcome r (roomFor k j) (TableHolds k j) k j before (answerNumbers a) after → picksWritten a (labels j) ≤ length (before .picks)

@@ -14,7 +14,7 @@ use Rattle.meaning.specs.declared.Answer.{Answer}
 use Rattle.meaning.specs.declared.Answer.the-variants as Says
 use Rattle.meaning.specs.declared.Way.the-variants.{Light}
 use Rattle.meaning.specs.Lists.{at, if}
-use Rattle.meaning.specs.Job.{Job, Kind, block-ways, fewest-blocks, free, jobOf, kindOf, labels, limited, once, packing, sharing, labels-behind, subset-sums}
+use Rattle.meaning.specs.Job.{Job, Kind, block-ways, fewest-blocks, free, jobOf, kindOf, labels, limited, once, packing, sharing, labels-behind, stated-share, subset-sums}
 use Rattle.meaning.specs.Lent.{Lent, roomFor}
 use Rattle.meaning.specs.Refusals.{kindRefusal}
 use Rattle.meaning.specs.Bytes.{jobBytes, readJob, readable}
@@ -54,6 +54,7 @@ firstName fewest-blocks = ascii "blocks"
 firstName block-ways = ascii "ways"
 firstName sharing = ascii "spare"
 firstName labels-behind = ascii "weight"
+firstName stated-share = ascii "value"
 
 -- lines that start with the kind, and 0 for its first number
 abbrev pub Says0 : Kind → List ℕ → Type 0
@@ -112,6 +113,7 @@ first-digit fewest-blocks picks rest e = let d : _≡_ {A = ℕ} 50 48 = ap (λ 
 first-digit block-ways picks rest e = let d : _≡_ {A = ℕ} 52 48 = ap (λ (l : List ℕ). at l 12) e in omega arith
 first-digit sharing picks rest e = let d : _≡_ {A = ℕ} 49 48 = ap (λ (l : List ℕ). at l 13) e in omega arith
 first-digit labels-behind picks rest e = let d : _≡_ {A = ℕ} 56 48 = ap (λ (l : List ℕ). at l 14) e in omega arith
+first-digit stated-share picks rest e = let d : _≡_ {A = ℕ} 56 48 = ap (λ (l : List ℕ). at l 13) e in omega arith
 
 not-0-shown : (k : Kind) (g : List ℕ × ℕ) (left : Lent) → Shown (tried k .job) g (tried k .answer) left
     → ¬ (RefusalLine (written g) ⊎ Says0 k (written g))
@@ -138,6 +140,7 @@ ready fewest-blocks = ready-by fewest-blocks (lit≤ tt) refl refl
 ready block-ways = ready-by block-ways (lit≤ tt) refl refl
 ready sharing = ready-by sharing (lit≤ tt) refl refl
 ready labels-behind = ready-by labels-behind (lit≤ tt) refl refl
+ready stated-share = ready-by stated-share (lit≤ tt) refl refl
 
 -- a slice with just the room
 blank : List ℕ
