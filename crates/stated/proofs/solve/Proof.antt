@@ -1,7 +1,7 @@
 -- `stated::solve` meets its contract: `pack` is handed the needed cells and picks (`roomy`), and what it leaves is the promise (`solved`).
 -- Assumes nothing.
 use mathlib.Core.Path.{_≡_, sym, _∙_}
-use Prim.Native.Nat.{ℕ, _+_, _≤_}
+use Prim.Native.Nat.{ℕ, _≤_}
 use native.Mathlib.Omega.{arith}
 use mathlib.Core.List.{List, [], _∷_}
 use lib.ListN.{length, take}
@@ -9,7 +9,7 @@ use lib.Seq.{length-take-le}
 use borrow.Author.Needs.{needs}
 use Rattle.meaning.specs.Lists.{if}
 use Rattle.meaning.specs.Job.{Job, jobOf, labels, hasQ}
-use Rattle.meaning.specs.Cuts.{cutBy, statedCells}
+use Rattle.meaning.specs.Cuts.{cutBy}
 use Rattle.numbers.specs.TwoSlices.{listFrom}
 use Rattle.stated.specs.LeastWeights.{Roomy}
 use Rattle.stated.proofs.StatedDoor.{KeptIn, keeps, divisor-positive, roomy, solved}

@@ -2,7 +2,7 @@
 -- Assumes nothing.
 use mathlib.Core.Path.{_≡_, refl, sym, ap, ap₂, _∙_}
 use Prim.Native.Nat.{ℕ, suc, _+_, _-_, _*_, _/_, _≤_, _<_}
-use native.Mathlib.Nat.{div-le-self, le-refl}
+use native.Mathlib.Nat.{div-le-self}
 use native.Mathlib.Omega.{arith}
 use mathlib.Core.List.{List}
 use lib.ListN.{length, length-set, drop}
@@ -93,7 +93,8 @@ module _ (r : tie.After-row-before Inv-loop μ-loop) where
 
   cut-is : r .before .item2 .result / start turn .args .divisor ≡ at (cuts (start turn)) (i turn)
   cut-is =
-      ap (λ (v : ℕ). v / start turn .args .divisor) (r .before .item2 .ensures) ∙ sym (cut-at (start turn .args .divisor) (values (start turn)) (i turn))
+      let d = start turn .args .divisor in
+      ap (λ (v : ℕ). v / d) (r .before .item2 .ensures) ∙ sym (cut-at d (values (start turn)) (i turn))
 
 -- from where its pick is known
 module _ (d : tie.After-differ Inv-loop μ-loop) where
@@ -127,7 +128,11 @@ module _ (d : tie.After-differ Inv-loop μ-loop) where
   -- and no more than its value
   taken-few : cut * d .differ .result ≤ placed .before .item2 .result
   taken-few =
-      omega (arith, product-one cut (d .differ .result) (rw pick-is (apart-few _ _)), div-le-self (placed .before .item2 .result) (start here .args .divisor))
+      omega (
+        arith,
+        product-one cut (d .differ .result) (rw pick-is (apart-few _ _)),
+        div-le-self (placed .before .item2 .result) (start here .args .divisor),
+      )
 
 sub-row : tie.Need-sub-row Inv-loop μ-loop
 sub-row c = omega (arith, last (begun c))
