@@ -17,6 +17,9 @@ module _ (new old : List ℕ) (n : ℕ) (long : length new ≡ n) where
   pub front-room : n ≤ length (new ++ drop n old)
   front-room = omega (arith, length-append new (drop n old))
 
+  pub front-long : n ≤ length old → length (new ++ drop n old) ≡ length old
+  front-long room = simp (length-append, length-drop) (omega arith)
+
   -- one of them
   pub front-at : (k : ℕ) → k < n → at (new ++ drop n old) k ≡ at new k
   front-at k h = List·getD-append new (drop n old) 0 k (omega arith)
@@ -66,3 +69,16 @@ module _ (whole : List ℕ) (from len : ℕ) (fits : from + len ≤ length whole
         ∙ getD-drop (from + len - from) (drop from whole) (k - from - len) 0
         ∙ getD-drop from whole (from + len - from + (k - from - len)) 0
         ∙ ap (at whole) back
+
+-- ---- places from the middle to the end
+
+-- those from a place on
+abbrev pub endOf : List ℕ → ℕ → List ℕ
+endOf whole from = take (length whole - from) (drop from whole)
+
+module _ (whole : List ℕ) (from len : ℕ) (all : from + len ≡ length whole) where
+  pub end-long : length (endOf whole from) ≡ len
+  end-long = simp (length-take, length-drop) (omega arith)
+
+  pub end-at : (c : ℕ) → c < len → at (endOf whole from) c ≡ at whole (from + c)
+  end-at c h = getD-take (length whole - from) (drop from whole) c 0 (omega arith) ∙ getD-drop from whole c 0

@@ -1,6 +1,6 @@
 -- The table as it is filled: where its rows stand, its first row, and what a label makes of it.
 -- Assumes nothing.
-use mathlib.Core.Path.{_≡_, refl, sym, ap, ap₂, _∙_}
+use mathlib.Core.Path.{_≡_, sym, ap, ap₂, _∙_}
 use Prim.Native.Nat.{ℕ, zero, suc, _+_, _-_, _*_, _≤_, _<_, zero-le}
 use native.Mathlib.Nat.{zero-mul, mul-zero, mul-le-mul-right, le-refl}
 use native.Mathlib.Decide.{decLe}
@@ -18,7 +18,7 @@ use Rattle.meaning.proofs.EachLabel.{product-one}
 use Rattle.rows.specs.Rows.{Joined, FirstAlone}
 use Rattle.rows.proofs.Stores.{by}
 use Rattle.rows.proofs.AnyRows.{one-row-more}
-use Rattle.stated.specs.LeastWeights.{lighter, NextWeights, LabelAdded, aside, row-made, rowOf, cellOf, Roomy, Filled}
+use Rattle.stated.specs.LeastWeights.{NextWeights, LabelAdded, aside, row-made, rowOf, cellOf, Roomy, Filled}
 use Rattle.stated.specs.ReadOff.{apart}
 use Rattle.stated.proofs.Lightening.{lighter-least}
 
@@ -137,7 +137,9 @@ module _ (c : ℕ) (weights cuts : List ℕ) (width : ℕ) where
           next = up-to
               (λ m h light′. joined-same _ _ _ _ _ _ _ (λ u l. kept m u (omega arith) l) (λ u l. kept (suc m) u h l) (d .next m h light′))
               (λ light′. joined-same _ _ _ _ _ _ _ (λ u l. kept i u (le-refl i) l)
-              (λ u l. ap (at t) (let q : rowOf c weights (suc i) * width + u ≡ from + width + u = omega (arith, start-more c weights width i inside light) in q))
+              (λ u l.
+              let new : rowOf c weights (suc i) * width + u ≡ from + width + u = omega (arith, start-more c weights width i inside light) in
+              ap (at t) new)
               (next .made));
         }
 
@@ -180,7 +182,9 @@ module _ (c : ℕ) (weights cuts : List ℕ) (width : ℕ) (cells : List ℕ) (f
 
   -- the first row starts the table
   pub cell-first : (t : ℕ) → cell 0 t ≡ at cells t
-  cell-first t = ap (at cells) (let q : rowOf c weights 0 * width + t ≡ t = omega (arith, ap (λ (r : ℕ). r * width) (row-none c weights), zero-mul width) in q)
+  cell-first t =
+      let here : rowOf c weights 0 * width + t ≡ t = omega (arith, ap (λ (r : ℕ). r * width) (row-none c weights), zero-mul width) in
+      ap (at cells) here
 
   -- total 0 weighs nothing in every row
   pub total-0-reached : 0 < width → (i : ℕ) → i ≤ length weights → cell i 0 ≡ 0

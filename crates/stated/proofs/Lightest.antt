@@ -2,7 +2,7 @@
 -- the row before.
 -- Assumes nothing.
 use mathlib.Core.Path.{_≡_, refl, sym, ap, _∙_, subst}
-use Prim.Native.Nat.{ℕ, suc, _+_, _-_, _*_, _≤_, _<_, zero-le}
+use Prim.Native.Nat.{ℕ, suc, _+_, _-_, _*_, _≤_, zero-le}
 use native.Mathlib.Nat.{le-refl, le-antisymm, mul-one, mul-zero, le-trans, le-of-eq}
 use native.Mathlib.Decide.{decLe}
 use native.Mathlib.Omega.{arith}
@@ -135,7 +135,9 @@ module _ (j : Job) (cuts : List ℕ) where
                 light = light;
                 rest-shown = shown way (λ z g. elim (decLe y z) [
                   | yes le ↦ le
-                  | no gt ↦ omega (arith, least (z + w) (subst (λ (u : ℕ). CutWeight j cuts (suc i) u (z + w)) back (weight-with j cuts i g (omega arith))))
+                  | no gt ↦
+                      let whole : CutWeight j cuts (suc i) (t - a + a) (z + w) = weight-with j cuts i g (omega arith) in
+                      omega (arith, least (z + w) (rw back at whole))
                 ]);
                 rest-way = way;
               }

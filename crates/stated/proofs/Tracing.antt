@@ -1,4 +1,4 @@
--- The trace back through a filled table, as its loop goes, and the picks that it finds.
+-- The trace back through a filled table: where it begins, how its loop goes, and the picks that it finds.
 -- Assumes nothing.
 use mathlib.Core.Path.{_≡_, sym, ap, _∙_, subst}
 use Prim.Native.Nat.{ℕ, zero, suc, _+_, _-_, _*_, _≤_, _<_, zero-le}
@@ -16,9 +16,21 @@ use Rattle.meaning.specs.Stated.{CutWeight}
 use Rattle.meaning.proofs.Shown.{shown-by, shown-some}
 use Rattle.meaning.proofs.CutCells.{none-of-none}
 use Rattle.rows.proofs.Stores.{stored-first}
-use Rattle.stated.specs.ReadOff.{apart, TraceBack, begin, back, TracedBack}
+use Rattle.stated.specs.ReadOff.{Highest, apart, TraceBack, begin, back, TracedBack}
 use Rattle.stated.proofs.Filling.{apart-same, apart-other, apart-few}
 use Rattle.stated.proofs.Lightest.{ChosenFor, chosen-none, chosen-without, chosen-with, PickedAt, picked-at}
+
+-- ---- from the highest total
+
+-- of cells that are the same
+pub highest-same : (f g : ℕ → ℕ) (width long top : ℕ) → long ≡ width → ((t : ℕ) → t < width → f t ≡ g t) → Highest f long top → Highest g width top
+highest-same f g width long top e same h =
+    let inside : top < width = omega (arith, h .inside) in
+    record {
+      inside = inside;
+      reached = λ marked. h .reached (same top inside ∙ marked);
+      above = λ t more l. sym (same t l) ∙ h .above t more (omega arith);
+    }
 
 -- ---- as the loop goes
 

@@ -40,7 +40,8 @@ pub record TracedBack (cell : ℕ → ℕ → ℕ) (cuts : List ℕ) (n top : �
   pub left : ℕ
   pub trace : TraceBack cell cuts n top 0 left found
 
--- the table of all labels, the picks of the highest total that it reaches, and the answer: what the picks are worth, and the weight that the total shows
+-- the table of all labels, the picks for the highest total that it reaches, and the answer: what the picks are worth, and the weight that the total
+-- shows
 pub record ReadOff (c : ℕ) (weights values cuts : List ℕ) (width : ℕ) (cells found : List ℕ) (a : Answer) : Type 0 where
   pub top : ℕ
   pub filled : Filled c weights cuts width (length weights) cells

@@ -1,9 +1,9 @@
-// Kind 9: a stated share of the best. Values are cut by a common divisor; cell t of a row is the least weight for total t of cut values, and the picks
-// are read off by going back through the rows.
+// Kind 9: a stated share of the best. Values are cut by a common divisor; cell t of a row is the least weight for total t of cut values, and the
+// picks are read off by going back through the rows.
 // A list comes as numbers or as a part of the job bytes (`listFrom`), so each has two slices.
 use meaning::Answer;
 ghost use mathlib.Core.Path.{_≡_};
-ghost use mathlib.Core.List.{[], _∷_};
+ghost use mathlib.Core.List.{[]};
 ghost use Prim.Native.Nat.{ℕ, _+_, _-_, _*_, _/_, _≤_, _<_, max};
 ghost use lib.Dec.{leb};
 ghost use lib.ListN.{length};
@@ -11,7 +11,7 @@ ghost use Rattle.meaning.specs.Lists.{at, if, sum, total};
 ghost use Rattle.meaning.specs.Cells.{noWay};
 ghost use Rattle.meaning.specs.Job.{stated-share};
 ghost use Rattle.meaning.specs.Lent.{lentOf};
-ghost use Rattle.meaning.specs.Bounds.{mostBudget, mostLabels, mostValue, mostQ};
+ghost use Rattle.meaning.specs.Bounds.{mostBudget, mostLabels, mostQ};
 ghost use Rattle.meaning.specs.Refusals.{rulesOf, jobRefusal};
 ghost use Rattle.meaning.specs.Cuts.{thatFit, greatestOf, divisor, cutBy, cutSum, statedCells};
 ghost use Rattle.meaning.specs.Solved.{Unrefused};
@@ -43,8 +43,8 @@ fn if_light(x: u32, w: u32, budget: u32) -> u32
 // How many labels remain.
 fn count_remaining(budget: u32, weights: &[u32], wbytes: &[u8]) -> u32
     requires { ⌜ length (listFrom (now weights) (now wbytes)) ≤ mostLabels ⌝ }
-    ensures { λ r. ⌜ (r ≡ rowOf budget (listFrom (now (weights .entry)) (now (wbytes .entry))) (length (listFrom (now (weights .entry)) (now (wbytes .entry)))))
-        × (r ≤ mostLabels) ⌝ }
+    ensures { λ r. ⌜ (r ≡ rowOf budget (listFrom (now (weights .entry)) (now (wbytes .entry)))
+        (length (listFrom (now (weights .entry)) (now (wbytes .entry))))) × (r ≤ mostLabels) ⌝ }
 {
     let n = numbers::list_length(weights, wbytes);
     let mut m = 0;
@@ -129,7 +129,8 @@ fn measure(
     vbytes: &[u8],
 ) -> Measures
     requires { ⌜ (q ≤ mostQ) × Valued (listFrom (now weights) (now wbytes)) (listFrom (now values) (now vbytes)) ⌝ }
-    ensures { λ r. ⌜ (r .divisor ≡ divisor (statedFrom budget q (now (weights .entry)) (now (wbytes .entry)) (now (values .entry)) (now (vbytes .entry))))
+    ensures { λ r. ⌜ (r .divisor
+        ≡ divisor (statedFrom budget q (now (weights .entry)) (now (wbytes .entry)) (now (values .entry)) (now (vbytes .entry))))
         × ((r .width ≡ cutSum (statedFrom budget q (now (weights .entry)) (now (wbytes .entry)) (now (values .entry)) (now (vbytes .entry))) + 1)
         × (r .cells ≡ statedCells (statedFrom budget q (now (weights .entry)) (now (wbytes .entry)) (now (values .entry)) (now (vbytes .entry))))) ⌝ }
 {
@@ -216,7 +217,8 @@ fn fill(
 )
     requires { ⌜ (budget ≤ mostBudget) × ((0 < divisor)
         × (length (listFrom (now values) (now vbytes)) ≡ length (listFrom (now weights) (now wbytes)))) ⌝ }
-    requires { ⌜ Roomy budget (listFrom (now weights) (now wbytes)) (cutBy divisor (listFrom (now values) (now vbytes))) width (length (now cells)) ⌝ }
+    requires { ⌜ Roomy budget (listFrom (now weights) (now wbytes)) (cutBy divisor (listFrom (now values) (now vbytes)))
+        width (length (now cells)) ⌝ }
     ensures { λ _. ⌜ Filled budget (listFrom (now (weights .entry)) (now (wbytes .entry)))
         (cutBy divisor (listFrom (now (values .entry)) (now (vbytes .entry)))) width
         (length (listFrom (now (weights .entry)) (now (wbytes .entry)))) (now (cells .exit)) ⌝ }
@@ -377,7 +379,8 @@ pub fn cells_needed(
     vbytes: &[u8],
 ) -> usize
     requires { ⌜ jobRefusal (rulesOf stated-share) (statedFrom budget q (now weights) (now wbytes) (now values) (now vbytes)) 0 ≡ 0 ⌝ }
-    ensures { λ r. ⌜ r ≡ statedCells (statedFrom budget q (now (weights .entry)) (now (wbytes .entry)) (now (values .entry)) (now (vbytes .entry))) ⌝ }
+    ensures { λ r. ⌜ r
+        ≡ statedCells (statedFrom budget q (now (weights .entry)) (now (wbytes .entry)) (now (values .entry)) (now (vbytes .entry))) ⌝ }
 {
     measure(budget, q, weights, wbytes, values, vbytes).cells
 }
@@ -393,7 +396,8 @@ pub fn solve(
     cells: &mut [u32],
     picks: &mut [u32],
 ) -> Answer
-    requires { ⌜ Unrefused stated-share (statedFrom budget q (now weights) (now wbytes) (now values) (now vbytes)) (lentOf (now cells) [] (now picks)) ⌝ }
+    requires { ⌜ Unrefused stated-share (statedFrom budget q (now weights) (now wbytes) (now values) (now vbytes))
+        (lentOf (now cells) [] (now picks)) ⌝ }
     ensures { λ r. ⌜ SolvedInCells (statedFrom budget q (now (weights .entry)) (now (wbytes .entry)) (now (values .entry)) (now (vbytes .entry)))
         (now (cells .entry)) (now (picks .entry)) r (now (cells .exit)) (now (picks .exit)) ⌝ }
 {

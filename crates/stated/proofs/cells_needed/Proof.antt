@@ -1,7 +1,6 @@
 -- `stated::cells_needed` meets its contract: it is one of the measures.
 -- Assumes nothing.
-use mathlib.Core.List.{List, [], _∷_}
-use Prim.Native.Nat.{ℕ}
+use mathlib.Core.List.{[], _∷_}
 use Rattle.meaning.specs.Job.{Job, jobOf, hasQ}
 use Rattle.meaning.specs.Lists.{if}
 use Rattle.numbers.specs.TwoSlices.{listFrom}

@@ -1,8 +1,9 @@
 -- `stated::count_remaining` meets its contract: m of the first i labels remain.
 -- Assumes nothing.
 use mathlib.Core.Path.{_≡_, sym, ap₂, _∙_}
-use Prim.Native.Nat.{_+_, _-_, _≤_, _<_}
+use Prim.Native.Nat.{ℕ, _+_, _-_, _≤_, _<_}
 use native.Mathlib.Omega.{arith}
+use mathlib.Core.List.{List}
 use lib.ListN.{length}
 use borrow.Author.Needs.{needs}
 use Rattle.numbers.specs.TwoSlices.{listFrom}
@@ -25,12 +26,16 @@ begun c = c .before .before .before
 abbrev entry : tie.At-loop Inv-loop μ-loop → tie.Start Inv-loop μ-loop
 entry c = begun (c .before)
 
+-- the weights that the function is handed
+abbrev weights : tie.Start Inv-loop μ-loop → List ℕ
+weights s = listFrom (s .args .weights .now) (s .args .wbytes .now)
+
 -- a turn, from where it is known whether its label remains
 abbrev turn : tie.After-if-light Inv-loop μ-loop → tie.In-loop Inv-loop μ-loop
 turn c = c .before .before
 
 -- label i is one of the labels
-inside : (c : tie.In-loop Inv-loop μ-loop) → let a = entry (c .before) .args in c .before .loop .i < length (listFrom (a .weights .now) (a .wbytes .now))
+inside : (c : tie.In-loop Inv-loop μ-loop) → c .before .loop .i < length (weights (entry (c .before)))
 inside c = omega (arith, c .before .before .list-length .ensures)
 
 list-length-requires : tie.Need-list-length-requires Inv-loop μ-loop
@@ -38,8 +43,8 @@ list-length-requires c κs = search needs
 
 loop-holds : tie.Need-loop-holds Inv-loop μ-loop
 loop-holds c =
-    let a = begun c .args in
-    (omega arith, omega arith, sym (row-none (a .budget) (listFrom (a .weights .now) (a .wbytes .now))))
+    let s = begun c in
+    (omega arith, omega arith, sym (row-none (s .args .budget) (weights s)))
 
 item-requires : tie.Need-item-requires Inv-loop μ-loop
 item-requires c κs = inside c
@@ -62,11 +67,11 @@ loop-less c = search needs
 loop-again : tie.Need-loop-again Inv-loop μ-loop
 loop-again c =
     let l = turn c .before .loop in
-    let a = entry (turn c .before) .args in (
+    let s = entry (turn c .before) in (
       omega arith,
       omega (arith, c .if-light .ensures .1, l .inv .1),
       ap₂ _+_ (l .inv .2) (rw (c .before .item .ensures) at (c .if-light .ensures .0))
-          ∙ sym (row-next (a .budget) (listFrom (a .weights .now) (a .wbytes .now)) (l .i) (inside (turn c))),
+          ∙ sym (row-next (s .args .budget) (weights s) (l .i) (inside (turn c))),
     )
 
 returns : tie.Need-returns Inv-loop μ-loop
@@ -74,7 +79,7 @@ returns c =
     let head = c .before in
     let s = entry head in
     let l = head .loop in
-    let all : l .i ≡ length (listFrom (s .args .weights .now) (s .args .wbytes .now)) = omega (arith, head .before .list-length .ensures) in
+    let all : l .i ≡ length (weights s) = omega (arith, head .before .list-length .ensures) in
     (rw all at (l .inv .2), omega (arith, l .inv .1, s .pre))
 
 pub count-remaining-spec : {M : Type 1} → statement M
