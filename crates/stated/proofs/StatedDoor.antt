@@ -25,7 +25,7 @@ use Rattle.meaning.specs.Solved.{Gives, TableBy, Unrefused}
 use Rattle.meaning.specs.SolvedIn.{SolvedInCells}
 use Rattle.meaning.proofs.Shown.{marked-none}
 use Rattle.meaning.proofs.Remaining.{total-fitting}
-use Rattle.meaning.proofs.Valid.{Passed, has-passed, is-cleared, is-valid, each-number, value-rule}
+use Rattle.meaning.proofs.Valid.{Passed, has-passed, is-cleared, valid-by, each-number, value-rule}
 use Rattle.meaning.proofs.SolvedIn.{kept, holds-front, solved-in-cells}
 use Rattle.rows.proofs.Stores.{by}
 use Rattle.stated.specs.LeastWeights.{cellOf, Roomy}
@@ -45,7 +45,7 @@ pub record Kept (j : Job) : Type 0 where
 passed-keeps : (j : Job) (later : ℕ) → Passed (rulesOf stated-share) j later → Kept j
 unfolding rulesOf knapsackRules qFits labels
 passed-keeps j later p =
-    let ok = is-valid once true j later p in
+    let ok = valid-by once true j later p in
     let q = each-number (knapsackRules once true) j (p .numbers) .q in
     record {
       valued = record { few = ok .few; one-each = ok .valued; cheap = value-rule once j ok };

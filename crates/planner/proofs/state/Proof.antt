@@ -8,7 +8,7 @@ use Rattle.meaning.specs.Lent.{Lent, lentOf}
 use Rattle.meaning.specs.Refusals.{claimsFit, hasCopies, knapsackRules, rulesOf}
 use Rattle.meaning.specs.Solved.{Unrefused}
 use Rattle.meaning.specs.SolvedIn.{SolvedInCellsBy}
-use Rattle.numbers.specs.TwoSlices.{jobFrom, listFrom}
+use Rattle.numbers.specs.TwoSlices.{jobFrom, statedFrom}
 use Rattle.planner.proofs.Preamble.{Lowest, let-in, turned-away, without-copies}
 use Rattle.planner.proofs.Stating.{stated-lowest}
 use borrow.Author.Needs.{needs}
@@ -25,8 +25,7 @@ module _ (s : tie.Start) where
   -- without the copies that it doesn't use
   abbrev bare : Job
   bare =
-      jobOf 9 (s .args .budget ∷ s .args .q ∷ []) (listFrom (s .args .weights .now) (s .args .wbytes .now))
-      (listFrom (s .args .values .now) (s .args .vbytes .now)) []
+      statedFrom (s .args .budget) (s .args .q) (s .args .weights .now) (s .args .wbytes .now) (s .args .values .now) (s .args .vbytes .now)
 
   abbrev lent : List ℕ → Lent
   lent words = lentOf (s .args .cells .now) words (s .args .picks .now)
