@@ -64,6 +64,13 @@ int asks_for_a_total(const struct bytes *job);
 /* Asked as both it is answered alike: of each total up to C, of how many are reached, and of C. Answers whether C is reached. */
 int agree_on_totals(const struct bytes *job);
 
+/* ---- kind 9, beside the best of kind 1 */
+
+/* Whether what kind 9 answered is below the best value of the same job of kind 1, which is found by trying every selection, or by a table;
+ * and q times the answer has to be q-1 times that value or more. The answer has to be one of kind 9. Where neither can be asked for the
+ * best, it is 0, and `*asked` is 0. */
+int is_below_best(const struct bytes *job, const struct plain_answer *answer, int *asked);
+
 /* ---- the quick answer (calls_quick.c) */
 
 struct quick {
