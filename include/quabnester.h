@@ -84,7 +84,7 @@ extern "C" {
 #define QUABNESTER_MOST_BUDGET 65535       /* C in kinds 1 to 6, 8 and 9 */
 #define QUABNESTER_MOST_SHARED 4294967295u /* C in kind 7: any 32-bit number */
 #define QUABNESTER_LEAST_Q 2               /* in kind 9 */
-#define QUABNESTER_MOST_Q 100
+#define QUABNESTER_MOST_Q 100              /* in kind 9 */
 #define QUABNESTER_LEAST_WEIGHT 1          /* in kinds 1 to 4, 8 and 9 */
 #define QUABNESTER_LEAST_SIZE 1            /* in kinds 5 and 6; each size is greater than the one before it */
 #define QUABNESTER_LEAST_VALUE 0           /* in kinds 1, 2 and 9 */

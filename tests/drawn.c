@@ -12,9 +12,9 @@ enum { JOBS = 243000, DAMAGED_IN = 3, BOTH_IN = 8, WIDE_IN = 3 }; /* one in so m
 /* How large a small job is, by kind, so that all its selections can be tried for each place of its table. */
 static const struct {
     uint32_t labels, budget;
-} most[LAST_KIND + 1] = {[KIND_ONCE] = {6, 20},   [KIND_COPIES] = {4, 16}, [KIND_ANY] = {5, 18},    [KIND_SUMS] = {5, 140},
-                         [KIND_FEWEST] = {5, 50}, [KIND_WAYS] = {5, 36},   [KIND_SHARES] = {9, 99}, [KIND_LABELS_BEHIND] = {5, 40},
-                         [KIND_STATED_SHARE] = {5, 20}};
+} most[LAST_KIND + 1] = {
+    [KIND_ONCE] = {6, 20}, [KIND_COPIES] = {4, 16}, [KIND_ANY] = {5, 18},           [KIND_SUMS] = {5, 140},       [KIND_FEWEST] = {5, 50},
+    [KIND_WAYS] = {5, 36}, [KIND_SHARES] = {9, 99}, [KIND_LABELS_BEHIND] = {5, 40}, [KIND_STATED_SHARE] = {5, 20}};
 
 /* Some of kind 1 have fewer labels and a row of more than two words of bits. */
 enum { WIDE_LABELS = 3, WIDE_BUDGET = 2 * WORD_BITS + 20 };

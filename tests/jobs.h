@@ -43,8 +43,8 @@ void put_job(struct bytes *bytes, const struct job *job);
 void put_certificate(struct bytes *bytes, const struct job *job, const uint32_t *picks, const uint32_t *cells);
 size_t lay_certificate(uint8_t *at, const struct job *job, const uint32_t *picks, const uint32_t *cells);
 
-/* A list is given as its count and its numbers. Of a job's lists of n those are taken that its kind uses; others may be null. q is the least
- * one. */
+/* A list is given as its count and its numbers. Of a job's lists of n those are taken that its kind uses; others may be null. q is the
+ * least one. */
 void set_list(struct list *list, uint32_t count, const uint32_t *numbers);
 void set_job(struct job *job, uint32_t kind, uint32_t budget, uint32_t n, const uint32_t *weights, const uint32_t *values,
              const uint32_t *copies);

@@ -10,24 +10,23 @@
 enum { EACH = 200, START = 3000000, BOTH_IN = 8 }; /* jobs of each kind, the number of the first one, and who is asked in both ways */
 
 /* At least so often, as in drawn.c. */
-static const struct tally least = {
-    .came = {[KIND_ONCE] = {[0] = EACH},
-             [KIND_COPIES] = {[0] = EACH},
-             [KIND_ANY] = {[0] = EACH},
-             [KIND_SUMS] = {[0] = EACH},
-             [KIND_FEWEST] = {[0] = 110, [7] = 40},
-             [KIND_WAYS] = {[0] = 100, [8] = 60},
-             [KIND_SHARES] = {[0] = EACH},
-             [KIND_LABELS_BEHIND] = {[0] = 130, [7] = 22},
-             [KIND_STATED_SHARE] = {[0] = EACH}},
-    .ties = {[KIND_ONCE] = {9},
-             [KIND_COPIES] = {5},
-             [KIND_ANY] = {1},
-             [KIND_FEWEST] = {1},
-             [KIND_SHARES] = {70},
-             [KIND_LABELS_BEHIND] = {8},
-             [KIND_STATED_SHARE] = {1}},
-    .tried = 340};
+static const struct tally least = {.came = {[KIND_ONCE] = {[0] = EACH},
+                                            [KIND_COPIES] = {[0] = EACH},
+                                            [KIND_ANY] = {[0] = EACH},
+                                            [KIND_SUMS] = {[0] = EACH},
+                                            [KIND_FEWEST] = {[0] = 110, [7] = 40},
+                                            [KIND_WAYS] = {[0] = 100, [8] = 60},
+                                            [KIND_SHARES] = {[0] = EACH},
+                                            [KIND_LABELS_BEHIND] = {[0] = 130, [7] = 22},
+                                            [KIND_STATED_SHARE] = {[0] = EACH}},
+                                   .ties = {[KIND_ONCE] = {9},
+                                            [KIND_COPIES] = {5},
+                                            [KIND_ANY] = {1},
+                                            [KIND_FEWEST] = {1},
+                                            [KIND_SHARES] = {70},
+                                            [KIND_LABELS_BEHIND] = {8},
+                                            [KIND_STATED_SHARE] = {1}},
+                                   .tried = 430};
 
 static struct tally tally;
 static struct job job;

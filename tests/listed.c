@@ -13,8 +13,8 @@
 enum { KIND, BUDGET, WEIGHTS, VALUES, COPIES, LENT, FIELDS };
 enum { CELLS_LENT, WORDS_LENT, PICKS_LENT, LENGTHS };
 enum { FIRST_LENT, SECOND_LENT, QUICK_LENGTHS };
-enum { MOST_TEXT = 65536 };                  /* of the file: no bound of document 01 */
-enum { MORE = 20 };                          /* places that are lent beyond the needed ones, where the list says nothing of them */
+enum { MOST_TEXT = 65536 };                   /* of the file: no bound of document 01 */
+enum { MORE = 20 };                           /* places that are lent beyond the needed ones, where the list says nothing of them */
 enum { JOBS = 210, TRIED = 110, QUICK = 20 }; /* at least so many have to be listed, answered by trying too, and answered quickly */
 
 static char text[MOST_TEXT + 1];

@@ -1,5 +1,6 @@
 /* Document 01's second program: all kinds but 7 by trying every selection of a small job, one by one. Each place of the table is a small
- * job of its own, of the first i labels with budget c, for which all is tried again. See the head of plain.c. */
+ * job of its own, of the first i labels with budget c, or in kind 9 of some of them with a total, for which all is tried again. See the
+ * head of plain.c. */
 #include "plain.h"
 
 enum { LABELS = 12, SELECTIONS = 300000 }; /* no more than these are tried for a job; document 01 has no number for it */

@@ -1,6 +1,6 @@
 /* Kind 9 by hand: jobs with the whole table, picks and best value that they have to have, on just the room and on a place less; other
  * divisors, which these jobs tell from the right one; q at its bounds and past them; the number of budgets; faults that come together;
- * tables that more than 32 bits count; rows of any length; the most labels. */
+ * tables that more than 32 bits count; rows of any length; many labels. */
 #include "calls.h"
 #include "draw.h"
 #include "parts.h"
@@ -32,7 +32,7 @@ static void set_stated(uint32_t budget, uint32_t q, uint32_t n, const uint32_t *
 
 /* ---- tables and picks */
 
-enum { MOST_N = 5, MOST_STEPS = 6, MOST_CELLS = 400 };
+enum { MOST_N = 5, MOST_STEPS = 6, MOST_CELLS = 400, TOP = MOST_BUDGET };
 
 /* A step of a table: from row j on, total t has this weight, till another step says otherwise. Total 0 weighs 0 in each row, and what no
  * step names is the mark. Row 0 has no steps, so that one of it ends them. */
@@ -86,9 +86,8 @@ static const struct stated_case cases[] = {
     {2, 2, 2, {2, 2}, {5, 5}, 1, 2, 10, {{1, 5, 2}}, 5, 2, {1, 0}, 5},
     {2, 2, 2, {2, 2}, {8, 9}, 2, 2, 8, {{1, 4, 2}}, 8, 2, {1, 0}, 9},
     /* the greatest budget, and what two labels weigh is one more, or just that */
-    {MOST_BUDGET, 2, 2, {MOST_BUDGET, 1}, {3, 2}, 1, 2, 5, {{1, 3, MOST_BUDGET}, {2, 2, 1}}, 3, MOST_BUDGET, {1, 0}, 3},
-    {MOST_BUDGET, 2, 2, {MOST_BUDGET - 1, 1}, {3, 2}, 1, 2, 5,
-     {{1, 3, MOST_BUDGET - 1}, {2, 2, 1}, {2, 5, MOST_BUDGET}}, 5, MOST_BUDGET, {1, 1}, 5},
+    {TOP, 2, 2, {TOP, 1}, {3, 2}, 1, 2, 5, {{1, 3, TOP}, {2, 2, 1}}, 3, TOP, {1, 0}, 3},
+    {TOP, 2, 2, {TOP - 1, 1}, {3, 2}, 1, 2, 5, {{1, 3, TOP - 1}, {2, 2, 1}, {2, 5, TOP}}, 5, TOP, {1, 1}, 5},
     /* no label is left, of none or of some; and none is worth anything */
     {7, 2, 0, {0}, {0}, 1, 0, 0, {{0}}, 0, 0, {0}, 0},
     {0, 100, 0, {0}, {0}, 1, 0, 0, {{0}}, 0, 0, {0}, 0},
@@ -261,6 +260,8 @@ static void try_faults(unsigned mask) {
 
 /* ---- tables that more than 32 bits count */
 
+enum { MANY = 1024 }; /* labels, whatever the most are: by this number cells and divisors are worked out */
+
 /* m labels that weigh 1 and are worth this, the first one so much more. */
 static void many_alike(uint32_t m, uint32_t value, uint32_t more, uint32_t q) {
     uint32_t i;
@@ -285,7 +286,7 @@ static void is_too_large(uint64_t cells) {
 }
 
 static void too_large(void) {
-    const uint64_t two_to_32 = (uint64_t)UINT32_MAX + 1;
+    const uint64_t two_to_32 = (uint64_t)UINT32_MAX + 1, most = MOST_LABELS;
     many_alike(1023, 4100, 3, MOST_Q); /* 1,024 rows of 2^22 totals: in 32 bits that is none */
     is_too_large(two_to_32);
     many_alike(1023, 4100, 4, MOST_Q); /* and with a total more it is a cell for each row */
@@ -294,10 +295,10 @@ static void too_large(void) {
     is_too_large(two_to_32);
     many_alike(511, 16416, 32, MOST_Q);
     is_too_large(two_to_32 + 512);
-    many_alike(MOST_LABELS, MOST_VALUE, 0, MOST_Q); /* the greatest: 1,025 rows of 67,107,841 totals */
-    is_too_large(68785537025u);
-    many_alike(MOST_LABELS, MOST_VALUE, 0, LEAST_Q); /* with a divisor of 31, and 2,114 of each cut value */
-    is_too_large(1025u * (1024u * 2114u + 1));
+    many_alike(MANY, MOST_VALUE, 0, LEAST_Q); /* with a divisor of 31, and 2,114 of each cut value */
+    is_too_large((MANY + 1) * (MANY * 2114u + 1));
+    many_alike(MOST_LABELS, MOST_VALUE, 0, MOST_Q); /* the greatest: with 1,024 labels 1,025 rows of 67,107,841 totals */
+    is_too_large((most + 1) * (most * MOST_VALUE + 1));
 }
 
 /* ---- rows of any length */
@@ -337,45 +338,48 @@ static void any_row(void) {
     }
 }
 
-/* ---- the most labels */
+/* ---- many labels */
 
-/* Each weighs 1 and is worth 1: total t weighs t in each row that has so many labels, as far as that is within C, and the first C labels are
- * picked. With this q, m times q is 65,536. */
+/* Each weighs 1 and is worth 1: total t weighs t in each row that has so many labels, as far as that is within C, and the first C labels
+ * are picked. With this q, m times q is 65,536. */
 static void all_alike(uint32_t budget) {
     const struct plain_answer *answer;
-    struct plain_room room = {(MOST_LABELS + 1) * (MOST_LABELS + 1), 0, MOST_LABELS};
-    uint32_t m, width = MOST_LABELS + 1;
-    many_alike(MOST_LABELS, 1, 0, 64);
+    struct plain_room room = {(MANY + 1) * (MANY + 1), 0, MANY};
+    uint32_t m, width = MANY + 1;
+    many_alike(MANY, 1, 0, 64);
     job.budget = budget;
     answer = gives(&room, 0);
     same("the second program's value", budget, answer->first);
     same("its weight", budget, answer->second);
-    for (m = 0; m < MOST_LABELS; m++) same_at("its pick", m, m < budget, answer->picks[m]);
+    for (m = 0; m < MANY; m++) same_at("its pick", m, m < budget, answer->picks[m]);
     for (m = 0; m < width * width; m++) {
         uint32_t t = m % width;
         same_at("its cell", m, t <= m / width && t <= budget ? t : NO_WEIGHT, answer->cells[m]);
     }
 }
 
-/* One is worth this and each of the others that: its value is cut to so much, and theirs to nothing, so that it is picked alone. */
-static void one_of_many(uint32_t greatest, uint32_t each, uint32_t q, uint32_t cut) {
+/* Of n labels the last is worth this and each of the others that. Its value is cut to so much, and theirs to nothing, so that it is picked
+ * alone. */
+static void one_of_many(uint32_t n, uint32_t greatest, uint32_t each, uint32_t q, uint32_t cut) {
     const struct plain_answer *answer;
-    struct plain_room room = {(MOST_LABELS + 1) * (cut + 1), 0, MOST_LABELS};
-    many_alike(MOST_LABELS, each, 0, q);
-    job.values.at[MOST_LABELS - 1] = greatest;
+    struct plain_room room = {(n + 1) * (cut + 1), 0, n};
+    uint32_t i;
+    many_alike(n, each, 0, q);
+    job.values.at[n - 1] = greatest;
     answer = gives(&room, 0);
     same("the second program's value", greatest, answer->first);
     same("its weight", 1, answer->second);
-    same("its last pick", 1, answer->picks[MOST_LABELS - 1]);
-    holds("its share of the best", q * greatest >= (q - 1) * (greatest + (MOST_LABELS - 1) * each));
+    for (i = 0; i < n; i++) same_at("its pick", i, i == n - 1, answer->picks[i]);
+    holds("its share of the best", q * greatest >= (q - 1) * (greatest + (n - 1) * each));
 }
 
 /* With 65 for q, m times q is 1,024 in 16 bits, by which the divisor would be 2. */
-static void most_labels(void) {
+static void many_labels(void) {
     all_alike(1000);
     all_alike(1);
-    one_of_many(2048, 0, 65, 2048);
-    one_of_many(MOST_VALUE, 30, LEAST_Q, 2114);
+    one_of_many(MANY, 2048, 0, 65, 2048);
+    one_of_many(MANY, MOST_VALUE, 30, LEAST_Q, 2114);
+    one_of_many(MOST_LABELS, 3, 0, MOST_Q, 3);
 }
 
 void part_stated(void) {
@@ -388,6 +392,6 @@ void part_stated(void) {
     for (mask = 0; mask < 1u << BITS; mask++) try_faults(mask);
     too_large();
     any_row();
-    most_labels();
+    many_labels();
     printf("stated share: %lu jobs, %lu of them refused\n", tried, refused);
 }
