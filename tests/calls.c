@@ -254,17 +254,14 @@ int agree_on_totals(const struct bytes *job) {
 
 /* ---- kind 9, beside the best of kind 1 */
 
-int is_below_best(const struct bytes *job, const struct plain_answer *answer, int *asked) {
+int is_below_best(const struct bytes *job, const struct plain_answer *answer, enum best_by *by) {
     uint64_t best, value = answer->first;
     struct plain_job once;
     read_back(job, &once);
     once.kind = KIND_ONCE;
-    *asked = 1;
-    if (!plain_try_best(&once, &best)) {
-        *asked = plain_has_room(&once);
-        if (!*asked) return 0;
-        best = answered_in_full(&once)->first;
-    }
+    *by = plain_try_best(&once, &best) ? BY_TRYING : plain_has_room(&once) ? BY_TABLE : NO_BEST;
+    if (*by == NO_BEST) return 0;
+    if (*by == BY_TABLE) best = answered_in_full(&once)->first;
     holds("that it isn't more than the best", value <= best);
     holds("that q times the value is q-1 times the best or more", once.q * value >= (once.q - 1) * best);
     return value < best;

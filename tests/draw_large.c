@@ -108,13 +108,14 @@ static void cheap_values(struct draw *draw, struct job *job) {
     for (i = 0; i < job->values.count; i++) job->values.at[i] = drawn(draw, LEAST_VALUE, 1);
 }
 
-/* Few labels and any q, or more of them and a lesser one; or many, of which few weigh no more than C, or are worth anything. There are half
- * as many labels until the table isn't too large. */
+/* Few labels and any q, or more of them and a lesser one, most often with a budget for which kind 1's table is soon made; or many, worth 0
+ * or 1. There are half as many labels until the table isn't too large. */
 static void stated_share(struct draw *draw, struct job *job) {
     uint32_t most_total = 1u << drawn(draw, 4, 14);
     job->weights.count = drawn(draw, 1, chance(draw, 2) ? FEW : 80);
     job->budget = draw_budget(draw);
     if (chance(draw, 6)) job->weights.count = drawn(draw, MOST_LABELS / 5, MOST_LABELS);
+    if (job->weights.count > FEW && !chance(draw, 8)) job->budget = 20 + drawn(draw, 0, CELLS / 4 / (job->weights.count + 1));
     draw_weights(draw, job);
     dear_values(draw, job);
     draw_stated(draw, job, most_total);

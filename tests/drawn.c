@@ -207,9 +207,9 @@ static void count_budgets(const struct plain_answer *answer, uint64_t number) {
 /* Whether the job is one of kind 9 that is answered below the best; and it has its share of that. */
 static int falls_short(const struct plain_answer *answer) {
     struct plain_job read;
-    int asked;
+    enum best_by by;
     if (answer->refused != 0 || !plain_read(bytes.at, bytes.length, &read) || read.kind != KIND_STATED_SHARE) return 0;
-    return is_below_best(&bytes, answer, &asked);
+    return is_below_best(&bytes, answer, &by);
 }
 
 /* Of a job that was asked in both ways. */

@@ -72,7 +72,8 @@ enum {
     MANY_LEFT,
     MANY_ASIDE,
     SEVERAL,
-    BY_TABLE,
+    BEST_TRIED,
+    BEST_IN_TABLE,
     SHORT_OF_BEST,
     MANY,
     BOUND,
@@ -112,11 +113,12 @@ static struct thing loops[LOOPS] = {
     [BY_TWO] = {"kind 9, a divisor of 2", 25, 0},
     [BY_MORE] = {"kind 9, a divisor of 3 or more", 80, 0},
     [WIDE_ROW] = {"kind 9, a row of 4,096 totals or more", 22, 0},
-    [MANY_LEFT] = {"kind 9, a fifth of the most labels or more, none of them left aside", 5, 0},
+    [MANY_LEFT] = {"kind 9, a fifth of the most labels or more, none of them left aside", 3, 0},
     [MANY_ASIDE] = {"kind 9, ten labels or more left aside, and as many not", 22, 0},
     [SEVERAL] = {"kind 9, six labels or more picked", 50, 0},
-    [BY_TABLE] = {"kind 9, beside the best value by a table", 70, 0},
-    [SHORT_OF_BEST] = {"kind 9, a value below the best", 32, 0},
+    [BEST_TRIED] = {"kind 9, beside the best value by trying", 75, 0},
+    [BEST_IN_TABLE] = {"kind 9, beside the best value by a table", 85, 0},
+    [SHORT_OF_BEST] = {"kind 9, a value below the best", 40, 0},
     [MANY] = {"labels, a fifth of the most or more", 110, 0},
     [BOUND] = {"the greatest budget, in all kinds but 7", 35, 0},
 };
@@ -217,11 +219,11 @@ static void count_stated(const struct plain_answer *answer) {
 
 /* Kind 9 beside the best; what is expected is gone after it. */
 static void count_share(const struct plain_answer *answer) {
-    int asked, below, tried = answer->tried;
+    enum best_by by;
     if (job.kind != KIND_STATED_SHARE || answer->refused != 0) return;
-    below = is_below_best(&bytes, answer, &asked);
-    loops[SHORT_OF_BEST].came += below;
-    loops[BY_TABLE].came += asked && !tried;
+    loops[SHORT_OF_BEST].came += (unsigned long)is_below_best(&bytes, answer, &by);
+    loops[BEST_TRIED].came += by == BY_TRYING;
+    loops[BEST_IN_TABLE].came += by == BY_TABLE;
 }
 
 static void count_loops(const struct plain_answer *answer) {

@@ -130,7 +130,7 @@ static void try_case(const struct stated_case *given) {
     static uint32_t table[MOST_CELLS];
     struct plain_room room = {(given->m + 1) * (given->total + 1), 0, given->n};
     const struct plain_answer *answer;
-    int asked;
+    enum best_by by;
     uint32_t i;
     set_case(given);
     lay_table(given, table);
@@ -142,7 +142,7 @@ static void try_case(const struct stated_case *given) {
     same("its picks", given->n, answer->filled.picks);
     for (i = 0; i < room.cells; i++) same_at("its cell", i, table[i], answer->cells[i]);
     for (i = 0; i < given->n; i++) same_at("its pick", i, given->picks[i], answer->picks[i]);
-    same("whether it is below the best", given->value < given->best, (uint64_t)is_below_best(&bytes, answer, &asked));
+    same("whether it is below the best", given->value < given->best, (uint64_t)is_below_best(&bytes, answer, &by));
     holds("that q times the value is q-1 times the best or more", given->q * given->value >= (given->q - 1) * given->best);
 }
 
