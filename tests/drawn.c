@@ -116,8 +116,8 @@ static struct thing things[THINGS] = {
     [GREATER_Q] = {"kind 9, refused with 5 for a q of one more than the greatest", 110, 0},
     [AT_LEAST_Q] = {"kind 9, the least q, answered", 6300, 0},
     [AT_MOST_Q] = {"kind 9, the greatest q, answered", 40, 0},
-    [ONE_BUDGET] = {"kind 9, refused with 1 for its one budget", 190, 0},
-    [TWO_BUDGETS] = {"other kinds, refused with 1 for two budgets", 1500, 0},
+    [ONE_BUDGET] = {"kind 9, refused with 1 for its one budget", 130, 0},
+    [TWO_BUDGETS] = {"other kinds, refused with 1 for two budgets", 1150, 0},
 };
 
 static int has_cut_weight(const struct plain_job *read) {
@@ -194,10 +194,12 @@ static void count_stated(const struct plain_job *read, const struct plain_answer
     things[LIGHTER].came += answer->tried && weight_tells(read, &stated, answer->picks);
 }
 
-/* What K6 asks of bytes and of q. A job with other budgets than it has to have is counted where nothing else was damaged. */
+/* What K6 asks of bytes and of q. Bytes that weren't damaged are refused with 1 for the number of their budgets alone. */
 static void count_budgets(const struct plain_answer *answer, uint64_t number) {
     struct plain_job read;
-    if (job.budgets != 0 && number % DAMAGED_IN != 0) things[job.kind == KIND_STATED_SHARE ? ONE_BUDGET : TWO_BUDGETS].came++;
+    int alone = answer->refused == 1 && number % DAMAGED_IN != 0;
+    things[ONE_BUDGET].came += alone && job.kind == KIND_STATED_SHARE && job.budgets == 1;
+    things[TWO_BUDGETS].came += alone && job.kind != KIND_STATED_SHARE && job.budgets == 2;
     if (!plain_read(bytes.at, bytes.length, &read) || read.kind != KIND_STATED_SHARE) return;
     things[LESSER_Q].came += answer->refused == 5 && read.q == LEAST_Q - 1;
     things[GREATER_Q].came += answer->refused == 5 && read.q == MOST_Q + 1;

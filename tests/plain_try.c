@@ -5,12 +5,36 @@
 
 enum { LABELS = 12, SELECTIONS = 300000 }; /* no more than these are tried for a job; document 01 has no number for it */
 
-static uint32_t left;              /* how many selections may still be tried */
-static struct plain_stated stated; /* kind 9: the job's labels and cut values */
+static uint32_t left; /* how many selections may still be tried */
 
+/* Kind 9: the labels that aren't left aside, m of them, the divisor, and what the cut values sum to. */
+static struct {
+    uint32_t m, label[LABELS], divisor;
+    uint64_t total;
+} stated;
+
+/* The divisor is the greatest whole number that, times m and q, isn't above the greatest value, but at least 1: it is counted up, and not
+ * divided, so that the table's is held to it. */
+static void state(const struct plain_job *job) {
+    uint64_t greatest = 0, product;
+    uint32_t i;
+    stated.m = 0;
+    for (i = 0; i < job->weights.count; i++) {
+        if (plain_item(job->weights, i) > job->budget) continue;
+        stated.label[stated.m++] = i;
+        greatest = GREATER(greatest, plain_item(job->values, i));
+    }
+    stated.divisor = 1;
+    product = (uint64_t)stated.m * job->q;
+    while (stated.m > 0 && (stated.divisor + 1) * product <= greatest) stated.divisor++;
+    stated.total = 0;
+    for (i = 0; i < stated.m; i++) stated.total += plain_item(job->values, stated.label[i]) / stated.divisor;
+}
+
+/* Before selections are tried of a job that has no more labels than may be. */
 static void start(const struct plain_job *job) {
     left = SELECTIONS;
-    if (job->kind == KIND_STATED_SHARE) plain_state(job, &stated);
+    if (job->kind == KIND_STATED_SHARE) state(job);
 }
 
 /* Kinds 1 to 3 and 9 ask for value within the budget; 4 to 6 and 8 ask for what weighs exactly so much. */
@@ -177,8 +201,10 @@ static uint32_t least_weight(const struct plain_job *job, uint32_t j, uint64_t t
     return (uint32_t)least;
 }
 
+/* As many as the labels and values say that were looked at here; the table's have to be as many. */
 static void try_stated_places(const struct plain_job *job, struct plain_answer *answer) {
     uint64_t m, width = stated.total + 1;
+    answer->filled.cells = (stated.m + 1) * width;
     for (m = 0; m < answer->filled.cells; m++) answer->cells[m] = least_weight(job, (uint32_t)(m / width), m % width);
 }
 
