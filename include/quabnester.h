@@ -18,9 +18,9 @@
  * Calls allocate nothing and keep nothing between them, so they may run in several threads at once.
  *
  * JOB BYTES. Five sections in this order, each after its count: kinds, budgets, weights, values, copies. A count and
- * every number is 32 bits, lowest byte first, on any machine and at any address. The first two counts are 1. A list that
- * the kind doesn't use has count 0. Labels are numbered from 0; n is the count of weights, C is the budget.
- * quabnester_job_bytes says how many bytes that are.
+ * every number is 32 bits, lowest byte first, on any machine and at any address. The first count is 1. The second is 1,
+ * for C, the budget; where the number of the kind is 9 it is 2, for C and then q. A list that the kind doesn't use has
+ * count 0. Labels are numbered from 0; n is the count of weights. quabnester_job_bytes_of says how many bytes that are.
  *
  * CERTIFICATE BYTES, for kinds 1 to 3. Two sections in the same form: the picks, then the cells.
  *     a count                              n
@@ -45,10 +45,10 @@ extern "C" {
  * the third where no promise has changed. */
 
 #define QUABNESTER_VERSION_MAJOR 2
-#define QUABNESTER_VERSION_MINOR 1
+#define QUABNESTER_VERSION_MINOR 2
 #define QUABNESTER_VERSION_PATCH 0
 
-/* As one number, which grows with each version, and as text: "2.1.0" and the like. */
+/* As one number, which grows with each version, and as text: "2.2.0" and the like. */
 #define QUABNESTER_VERSION_NUMBER                                                                                          \
     (QUABNESTER_VERSION_MAJOR * 1000000 + QUABNESTER_VERSION_MINOR * 1000 + QUABNESTER_VERSION_PATCH)
 #define QUABNESTER_VERSION_STRING                                                                                          \
@@ -57,9 +57,10 @@ extern "C" {
 #define QUABNESTER_TEXT_(number) QUABNESTER_AS_IT_STANDS_(number)
 #define QUABNESTER_AS_IT_STANDS_(words) #words
 
-/* ---- KINDS of job. What each answers is said at quabnester_solve. Kind 1 has two ways: quabnester_solve leaves a light
- * table, quabnester_solve_full the full one, which a certificate is written from. Other kinds have one way. Where half of
- * the best value is enough, quabnester_quick answers kind 1 without a table. */
+/* ---- KINDS of job. What each answers is said at quabnester_solve. Kind 1 has two ways: quabnester_solve leaves a
+ * light table, quabnester_solve_full the full one, which a certificate is written from. Other kinds have one way. Where
+ * half of the best value is enough, quabnester_quick answers kind 1 without a table. Where q-1 parts of q are, with a q
+ * from 2 to 100, kind 9 answers it with a table that has a row of totals of values in place of budgets. */
 
 #define QUABNESTER_KIND_ONCE 1          /* each label at most once */
 #define QUABNESTER_KIND_COPIES 2        /* label i at most copies[i] times */
@@ -69,21 +70,24 @@ extern "C" {
 #define QUABNESTER_KIND_WAYS 6          /* ways to sum to C */
 #define QUABNESTER_KIND_SHARES 7        /* C shared by claims */
 #define QUABNESTER_KIND_LABELS_BEHIND 8 /* which labels weigh exactly C? */
+#define QUABNESTER_KIND_STATED_SHARE 9  /* each label at most once, for a stated share of the best value */
 
-#define QUABNESTER_LAST_KIND QUABNESTER_KIND_LABELS_BEHIND   /* the kinds to solve are 1 to this one */
+#define QUABNESTER_LAST_KIND QUABNESTER_KIND_STATED_SHARE    /* the kinds to solve are 1 to this one */
 #define QUABNESTER_LAST_CERTIFICATE_KIND QUABNESTER_KIND_ANY /* those with certificates are 1 to this one */
 
 /* ---- BOUNDS. n and C may be 0, save that the claims of kind 7 have to sum to more. A weight, a size or a claim may be as
  * great as 32 bits allow, and a claim may be 0. Two bounds that are equal today are still two rules. */
 
-#define QUABNESTER_MOST_LABELS 1024        /* n in kinds 1 to 4 and 8 */
+#define QUABNESTER_MOST_LABELS 1024        /* n in kinds 1 to 4, 8 and 9 */
 #define QUABNESTER_MOST_SIZES 64           /* n in kinds 5 and 6 */
 #define QUABNESTER_MOST_CLAIMS 1024        /* n in kind 7 */
-#define QUABNESTER_MOST_BUDGET 65535       /* C in kinds 1 to 6 and 8 */
+#define QUABNESTER_MOST_BUDGET 65535       /* C in kinds 1 to 6, 8 and 9 */
 #define QUABNESTER_MOST_SHARED 4294967295u /* C in kind 7: any 32-bit number */
-#define QUABNESTER_LEAST_WEIGHT 1          /* in kinds 1 to 4 and 8 */
+#define QUABNESTER_LEAST_Q 2               /* in kind 9 */
+#define QUABNESTER_MOST_Q 100              /* in kind 9 */
+#define QUABNESTER_LEAST_WEIGHT 1          /* in kinds 1 to 4, 8 and 9 */
 #define QUABNESTER_LEAST_SIZE 1            /* in kinds 5 and 6; each size is greater than the one before it */
-#define QUABNESTER_LEAST_VALUE 0           /* in kinds 1 and 2 */
+#define QUABNESTER_LEAST_VALUE 0           /* in kinds 1, 2 and 9 */
 #define QUABNESTER_LEAST_VALUE_ANY 1       /* in kind 3 */
 #define QUABNESTER_MOST_VALUE 65535
 #define QUABNESTER_LEAST_COPIES 0
@@ -92,15 +96,15 @@ extern "C" {
 
 /* ---- MARKS in a table that was left. */
 
-#define QUABNESTER_NO_WAY 4294967295u           /* a cell of kinds 5 and 8: there is no way */
+#define QUABNESTER_NO_WAY 4294967295u           /* a cell of kinds 5, 8 and 9: there is no way */
 #define QUABNESTER_TOO_MANY_WAYS (~(uint64_t)0) /* a word of kind 6: so many ways, 2^64 - 1, or more */
 
 /* ---- REFUSAL NUMBERS. An entry returns 0, or the lowest number that applies. 0 is returned exactly where none does. */
 
 #define QUABNESTER_NOT_REFUSED 0
 
-/* the job bytes can't be read: a count or section runs past the end, the first or second count isn't 1, or bytes are left
- * over */
+/* the job bytes can't be read: a count or section runs past the end, the first count isn't 1, the second isn't 1, or
+ * where the number of the kind is 9 it isn't 2, or bytes are left over */
 #define QUABNESTER_REFUSED_BYTES 1
 /* the kind isn't one of 1 to the last (to solve), or to the last that has certificates (to write and to check) */
 #define QUABNESTER_REFUSED_KIND 2
@@ -109,8 +113,8 @@ extern "C" {
 #define QUABNESTER_REFUSED_LENGTHS 3
 /* n or C is above its bound */
 #define QUABNESTER_REFUSED_BOUND 4
-/* a number is outside its rule: a weight, value or copies number is below its least or above its most; or block sizes
- * aren't strictly ascending from the least one or more */
+/* a number is outside its rule: a weight, value or copies number, or in kind 9 q, is below its least or above its most;
+ * or block sizes aren't strictly ascending from the least one or more */
 #define QUABNESTER_REFUSED_RULE 5
 /* a slice that is needed is too short */
 #define QUABNESTER_REFUSED_ROOM 6
@@ -138,9 +142,10 @@ extern "C" {
 /* the last cell, which is K(n,C) or in kind 3 cell C, isn't the picks' value */
 #define QUABNESTER_REFUSED_VALUE 15
 
-/* ---- ROOM: how much a job needs, by its kind, n and C, so that no host writes a formula. Each gives 0 where there is no
- * such kind, or n or C is above its bound: such a job is refused with 2 or 4, whatever it is lent. No number that is made
- * on the way leaves 64 bits. */
+/* ---- ROOM: how much a job needs, by its kind, n and C, so that no host writes a formula. Each gives 0 where there is
+ * no such kind, or n or C is above its bound: such a job is refused with 2 or 4, whatever it is lent. The cells of kind
+ * 9 go by its lists and q, too: quabnester_stated_cells_needed has them. No number that is made on the way leaves 64
+ * bits. */
 
 /* The most labels, sizes or claims of a kind, and its greatest budget. */
 static inline uint32_t quabnester_most_labels(uint32_t kind) {
@@ -149,7 +154,8 @@ static inline uint32_t quabnester_most_labels(uint32_t kind) {
     case QUABNESTER_KIND_COPIES:
     case QUABNESTER_KIND_ANY:
     case QUABNESTER_KIND_SUMS:
-    case QUABNESTER_KIND_LABELS_BEHIND: return QUABNESTER_MOST_LABELS;
+    case QUABNESTER_KIND_LABELS_BEHIND:
+    case QUABNESTER_KIND_STATED_SHARE: return QUABNESTER_MOST_LABELS;
     case QUABNESTER_KIND_FEWEST:
     case QUABNESTER_KIND_WAYS: return QUABNESTER_MOST_SIZES;
     case QUABNESTER_KIND_SHARES: return QUABNESTER_MOST_CLAIMS;
@@ -169,8 +175,8 @@ static inline int quabnester_within_bounds(uint32_t kind, uint64_t n, uint64_t b
     return n <= quabnester_most_labels(kind) && budget <= quabnester_most_budget(kind);
 }
 
-/* The places that quabnester_solve needs of cells, of words and of picks. quabnester_quick needs the picks of kind 1, which
- * are n, in each of its two lists. */
+/* The places that quabnester_solve needs of cells, of words and of picks. For the cells of kind 9, which go by more
+ * than n and C, it gives 0. quabnester_quick needs the picks of kind 1, which are n, in each of its two lists. */
 static inline uint64_t quabnester_cells_needed(uint32_t kind, uint64_t n, uint64_t budget) {
     if (!quabnester_within_bounds(kind, n, budget)) return 0;
     switch (kind) {
@@ -198,6 +204,24 @@ static inline uint64_t quabnester_picks_needed(uint32_t kind, uint64_t n, uint64
     return kind == QUABNESTER_KIND_SUMS || kind == QUABNESTER_KIND_WAYS ? 0 : n;
 }
 
+/* The cells that quabnester_solve needs in kind 9, and quabnester_solve_full as well, for n weights and n values:
+ * (m+1)(T+1), with m and T as they are said there. 0 where n or C is above its bound, or q outside its own. Where a
+ * weight or value breaks its rule it gives some number, and the job is refused with 5, whatever it is lent. */
+static inline uint64_t quabnester_stated_cells_needed(uint32_t budget, uint32_t q, const uint32_t *weights,
+                                                      const uint32_t *values, uint64_t n) {
+    uint64_t i, m = 0, greatest = 0, divisor, sum = 0;
+    if (!quabnester_within_bounds(QUABNESTER_KIND_STATED_SHARE, n, budget)) return 0;
+    if (q < QUABNESTER_LEAST_Q || q > QUABNESTER_MOST_Q) return 0;
+    for (i = 0; i < n; i++) {
+        if (weights[i] > budget) continue;
+        if (values[i] > greatest) greatest = values[i];
+        m++;
+    }
+    divisor = m == 0 || greatest < m * q ? 1 : greatest / (m * q);
+    for (i = 0; i < n; i++) sum += weights[i] > budget ? 0 : values[i] / divisor;
+    return (m + 1) * (sum + 1);
+}
+
 /* The places that quabnester_solve_full needs of cells and of words; of picks it needs as many. quabnester_write needs so
  * many cells and picks, and a certificate has so many. */
 static inline uint64_t quabnester_full_cells_needed(uint32_t kind, uint64_t n, uint64_t budget) {
@@ -216,10 +240,21 @@ static inline uint64_t quabnester_certificate_bytes(uint32_t kind, uint64_t n, u
 }
 
 /* The bytes of a job with so many weights, values and copies numbers: five counts, a kind, a budget and the lists. 0 where
- * a list is longer than its count could say. */
+ * a list is longer than its count could say. A job of kind 9 has four bytes more, of q. */
 static inline uint64_t quabnester_job_bytes(uint64_t weights, uint64_t values, uint64_t copies) {
     if (weights >> 32 || values >> 32 || copies >> 32) return 0;
     return 4 * (5 + 1 + 1 + weights + values + copies);
+}
+
+/* How many budgets a job has, by the number of its kind: 2 for kind 9, C and q, and 1 for any other number. */
+static inline uint32_t quabnester_budgets_of(uint32_t kind) {
+    return kind == QUABNESTER_KIND_STATED_SHARE ? 2 : 1;
+}
+
+/* The bytes of a job of any kind, with as many budgets as it has. 0 where a list is longer than its count could say. */
+static inline uint64_t quabnester_job_bytes_of(uint32_t kind, uint64_t weights, uint64_t values, uint64_t copies) {
+    uint64_t bytes = quabnester_job_bytes(weights, values, copies);
+    return bytes == 0 ? 0 : bytes + 4 * (quabnester_budgets_of(kind) - 1);
 }
 
 /* ---- ENTRIES */
@@ -235,14 +270,23 @@ static inline uint64_t quabnester_job_bytes(uint64_t weights, uint64_t values, u
  *   6  ways to sum to C                         weights as sizes   ways     0        none
  *   7  C shared by claims                       weights as claims  spare    0        n, the shares
  *   8  which labels weigh exactly C?            weights            weight   0        n
+ *   9  kind 1's job, for a share of its best    weights, values    value    weight   n
  *
- * value is the greatest of all selections that weigh at most C, and weight is what the picks weigh, which in kind 8 is C.
- * totals is how many totals from 0 to C some labels weigh; in kinds 4 and 8 each label is used at most once. spare is what
- * is left of C after each share is rounded down; the shares, with the spare units given out, sum to C.
- * The picks are the one list that the tie rule names among the best, and in kind 8 among those that weigh exactly C. Kinds
- * 1, 2, 8: label n-1's count is as small as it can be, then n-2's given that, and so on. Kind 3: label 0's count is as
- * great as it can be, then label 1's. Kind 5: the last size's count is as great as it can be, then the one before it.
- * Kind 7: spare units go one each to the largest remainders, of equal ones to the lower label first.
+ * value is the greatest of all selections that weigh at most C, save in kind 9, and weight is what the picks weigh,
+ * which in kind 8 is C. totals is how many totals from 0 to C some labels weigh; in kinds 4, 8 and 9 each label is used
+ * at most once. spare is what is left of C after each share is rounded down; the shares, with the spare units given
+ * out, sum to C. The picks are the one list that the tie rule names among the best, and in kind 8 among those that
+ * weigh exactly C. Kinds 1, 2, 8, 9: label n-1's count is as small as it can be, then n-2's given that, and so on. Kind
+ * 3: label 0's count is as great as it can be, then label 1's. Kind 5: the last size's count is as great as it can be,
+ * then the one before it. Kind 7: spare units go one each to the largest remainders, of equal ones to the lower label
+ * first.
+ *
+ * Kind 9 leaves labels aside that weigh more than C. m others remain, p is the greatest of their values, and the
+ * divisor is the whole part of p divided by mq, but at least 1. The remaining values are divided by it and cut to whole
+ * numbers; T is the sum of these. Best are the picks that weigh at most C and have the greatest sum of cut values, and
+ * among those the ones that weigh least. value is what the picks are worth in values that aren't cut, and q times it is
+ * at least q-1 times the value that kind 1 gives for the same lists and C. Where m is 0, every pick is 0, and so are
+ * value and weight.
  *
  *   kind  what the table holds after the call, in as many places as are needed (ROOM)
  *   1     cell c: the best value with budget c. Label i has C/64+1 words of its own, from word i(C/64+1) on: bit c % 64 of
@@ -256,6 +300,9 @@ static inline uint64_t quabnester_job_bytes(uint64_t weights, uint64_t values, u
  *   7     there is none
  *   8     cell t: the least i such that the first i labels reach total t, or QUABNESTER_NO_WAY. So it isn't that mark
  *         exactly where kind 4 sets the bit of t, for the same weights and C
+ *   9     cell j(T+1)+t, for j from 0 to m and t from 0 to T: the least weight, within C, of a selection of the first j
+ *         remaining labels whose cut values sum to t, or QUABNESTER_NO_WAY if there is none. With m = 0 there is one
+ *         cell, which is 0
  *
  * What stood in the slices before has no influence. Slices may be longer; places past the needed ones, and slices that
  * the kind doesn't use, keep what they held. On a refusal *first and *second are 0, and no slice is written; save that 7

@@ -1,34 +1,40 @@
-/* What document 01 and the requests K1, K3 and K4 say in numbers, each in one place: a request that moves a bound changes it here alone.
- * Written from these and not from include/quabnester.h; header.c holds that to these. Buffers and loops of the tests take their sizes from
- * here. */
+/* What document 01 and the requests K1, K3, K4 and K6 say in numbers, each in one place: a request that moves a bound changes it here
+ * alone. Written from these and not from include/quabnester.h; header.c holds that to these. Buffers and loops of the tests take their
+ * sizes from here. */
 #ifndef BOUNDS_H
 #define BOUNDS_H
 
 #include <stdint.h>
 
 enum {
-    KIND_ONCE = 1,                  /* each label at most once */
-    KIND_COPIES,                    /* label i at most copies[i] times */
-    KIND_ANY,                       /* any number of each */
-    KIND_SUMS,                      /* can some labels weigh exactly C? */
-    KIND_FEWEST,                    /* fewest blocks that sum to exactly C */
-    KIND_WAYS,                      /* ways to make exactly C */
-    KIND_SHARES,                    /* share C by claims */
-    KIND_LABELS_BEHIND,             /* which labels weigh exactly C? (K3) */
-    LAST_KIND = KIND_LABELS_BEHIND, /* the solver's kinds are 1 to this one */
-    LAST_CHECKED_KIND = KIND_ANY    /* those of the checker and the writer (K1) */
+    KIND_ONCE = 1,                 /* each label at most once */
+    KIND_COPIES,                   /* label i at most copies[i] times */
+    KIND_ANY,                      /* any number of each */
+    KIND_SUMS,                     /* can some labels weigh exactly C? */
+    KIND_FEWEST,                   /* fewest blocks that sum to exactly C */
+    KIND_WAYS,                     /* ways to make exactly C */
+    KIND_SHARES,                   /* share C by claims */
+    KIND_LABELS_BEHIND,            /* which labels weigh exactly C? (K3) */
+    KIND_STATED_SHARE,             /* a stated share of the best of kind 1 (K6) */
+    LAST_KIND = KIND_STATED_SHARE, /* the solver's kinds are 1 to this one */
+    LAST_CHECKED_KIND = KIND_ANY   /* those of the checker and the writer (K1) */
 };
+
+/* How many numbers the budgets section has: C and then q in kind 9 (K6), and C alone in every other, numbers of no kind among them. */
+#define BUDGETS_OF(kind) ((kind) == KIND_STATED_SHARE ? 2u : 1u)
 
 /* ---- bounds on the numbers; weights, sizes and claims have no greatest one */
 
 enum {
-    MOST_LABELS = 1024,  /* n in kinds 1 to 4 and 8 */
+    MOST_LABELS = 1024,  /* n in kinds 1 to 4, 8 and 9 */
     MOST_SIZES = 64,     /* n in kinds 5 and 6 */
     MOST_CLAIMS = 1024,  /* n in kind 7: another rule, though the number is that of the labels */
-    MOST_BUDGET = 65535, /* C in kinds 1 to 6 and 8 */
-    LEAST_WEIGHT = 1,    /* in kinds 1 to 4 and 8 */
+    MOST_BUDGET = 65535, /* C in kinds 1 to 6, 8 and 9 */
+    LEAST_Q = 2,         /* in kind 9 (K6) */
+    MOST_Q = 100,
+    LEAST_WEIGHT = 1,    /* in kinds 1 to 4, 8 and 9 */
     LEAST_SIZE = 1,      /* in kinds 5 and 6 */
-    LEAST_VALUE = 0,     /* in kinds 1 and 2 */
+    LEAST_VALUE = 0,     /* in kinds 1, 2 and 9 */
     LEAST_VALUE_ANY = 1, /* in kind 3 */
     MOST_VALUE = 65535,
     LEAST_COPIES = 0,
@@ -42,6 +48,7 @@ enum {
 enum { WORD_BITS = 64 };       /* in a word of kind 4, and of a label in kind 1 (K4) */
 #define NO_WAY UINT32_MAX      /* a cell of kind 5: there is no way */
 #define NOT_REACHED UINT32_MAX /* a cell of kind 8 (K3): no labels reach it. Another rule, though the number is that of no way */
+#define NO_WEIGHT UINT32_MAX   /* a cell of kind 9 (K6): no selection within C has that total. A rule of its own, too */
 #define FULL UINT64_MAX        /* a cell of kind 6: so many ways or more */
 #define MOST_WAYS (FULL - 1)   /* that are still exact */
 

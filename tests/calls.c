@@ -99,7 +99,7 @@ static const struct plain_answer *answered_in_full(const struct plain_job *read)
 /* What is expected in both ways, or in those that have lengths, with one look at all selections for both. */
 static struct both_ways expected_in(const struct bytes *job, const struct plain_room *const lengths[PLAIN_WAYS]) {
     static struct plain_answer refusals[PLAIN_WAYS], light;
-    struct plain_job read = {0, 0, {NULL, 0}, {NULL, 0}, {NULL, 0}};
+    struct plain_job read = {0, 0, 0, {NULL, 0}, {NULL, 0}, {NULL, 0}};
     const struct plain_answer *full = NULL;
     struct both_ways expected;
     int way;
@@ -135,7 +135,9 @@ static void say_list(struct plain_list list) {
 static void say_job(const struct bytes *job, const struct solved *solved) {
     struct plain_job read;
     if (!plain_read(job->at, job->length, &read)) return;
-    printf("-the job: %lu; %lu;", (unsigned long)read.kind, (unsigned long)read.budget);
+    printf("-the job: %lu; %lu", (unsigned long)read.kind, (unsigned long)read.budget);
+    if (BUDGETS_OF(read.kind) > 1) printf(" %lu", (unsigned long)read.q);
+    printf(";");
     say_list(read.weights);
     say_list(read.values);
     say_list(read.copies);
@@ -248,6 +250,21 @@ int agree_on_totals(const struct bytes *job) {
     same("the totals of which kinds 4 and 8 say the same", ROW(read.budget), alike_up_to(read.budget, &reached));
     same("those that are reached", totals, reached);
     return yes != 0;
+}
+
+/* ---- kind 9, beside the best of kind 1 */
+
+int is_below_best(const struct bytes *job, const struct plain_answer *answer, enum best_by *by) {
+    uint64_t best, value = answer->first;
+    struct plain_job once;
+    read_back(job, &once);
+    once.kind = KIND_ONCE;
+    *by = plain_try_best(&once, &best) ? BY_TRYING : plain_has_room(&once) ? BY_TABLE : NO_BEST;
+    if (*by == NO_BEST) return 0;
+    if (*by == BY_TABLE) best = answered_in_full(&once)->first;
+    holds("that it isn't more than the best", value <= best);
+    holds("that q times the value is q-1 times the best or more", once.q * value >= (once.q - 1) * best);
+    return value < best;
 }
 
 /* ---- the writer */

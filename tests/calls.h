@@ -64,6 +64,15 @@ int asks_for_a_total(const struct bytes *job);
 /* Asked as both it is answered alike: of each total up to C, of how many are reached, and of C. Answers whether C is reached. */
 int agree_on_totals(const struct bytes *job);
 
+/* ---- kind 9, beside the best of kind 1 */
+
+/* How the best value was found: by trying every selection, by a table, or not, where there are too many selections and no room. */
+enum best_by { NO_BEST, BY_TRYING, BY_TABLE };
+
+/* Whether what kind 9 answered is below the best value of the same job of kind 1; and q times the answer has to be q-1 times that value or
+ * more. The answer is one of kind 9, and what it points at may be gone after the call. */
+int is_below_best(const struct bytes *job, const struct plain_answer *answer, enum best_by *by);
+
 /* ---- the quick answer (calls_quick.c) */
 
 struct quick {

@@ -326,6 +326,19 @@ static void certificates_of_others(void) {
     }
 }
 
+/* One budget where the kind has two, or two where it has one, with case A's certificate: the bytes can't be read. */
+static void other_budgets(void) {
+    uint32_t kind;
+    for (kind = 0; kind <= LAST_KIND + 1; kind++) {
+        about("budgets", tried++);
+        fresh(KIND_ONCE);
+        case_a(&job, kind);
+        job.budgets = 3 - BUDGETS_OF(kind);
+        put_job(&bytes, &job);
+        verdict_is(&bytes, &certificate, 1, 0);
+    }
+}
+
 /* Two copies that are kept, claimed for one; and claims for one, where there are two. */
 static void copies_of_others(void) {
     static const uint32_t cells[] = {0, 0, 0, 0, 3, 6}, fewer[] = {0, 0, 0, 0, 3, 3}, twice = 2, once = 1;
@@ -406,6 +419,7 @@ void part_check(void) {
     too_heavy();
     most_counts();
     certificates_of_others();
+    other_budgets();
     copies_of_others();
     for (kind = 1; kind <= LAST_CHECKED_KIND; kind++) {
         no_labels(kind);

@@ -37,6 +37,10 @@ void draw_claims(struct draw *draw, struct list *claims);
 /* Lets one of the labels weigh what some of the others leave of C, so that C is reached. */
 void reach_budget(struct draw *draw, struct job *job);
 
+/* q for a job of kind 9, most often so that the cut values sum to about so much; and, in place of its values, most often others that are
+ * divided by 1, by 2 or by more, in half of these jobs with many ties. */
+void draw_stated(struct draw *draw, struct job *job, uint32_t most_total);
+
 /* ---- what is wrong with them (faults.c) */
 
 /* Something that breaks a rule, or just doesn't: another kind, a list too long or too short, a number at its bound or past it. */

@@ -100,6 +100,29 @@ static void labels_behind(struct draw *draw, struct job *job) {
     if (!chance(draw, 4)) reach_budget(draw, job);
 }
 
+/* ---- kind 9 */
+
+/* Labels of value 0 or 1, so that many of them still need few cells. */
+static void cheap_values(struct draw *draw, struct job *job) {
+    uint32_t i;
+    for (i = 0; i < job->values.count; i++) job->values.at[i] = drawn(draw, LEAST_VALUE, 1);
+}
+
+/* Few labels and any q, or more of them and a lesser one, most often with a budget for which kind 1's table is soon made; or many, worth 0
+ * or 1. There are half as many labels until the table isn't too large. */
+static void stated_share(struct draw *draw, struct job *job) {
+    uint32_t most_total = 1u << drawn(draw, 4, 14);
+    job->weights.count = drawn(draw, 1, chance(draw, 2) ? FEW : 80);
+    job->budget = draw_budget(draw);
+    if (chance(draw, 6)) job->weights.count = drawn(draw, MOST_LABELS / 5, MOST_LABELS);
+    if (job->weights.count > FEW && !chance(draw, 8)) job->budget = 20 + drawn(draw, 0, CELLS / 4 / (job->weights.count + 1));
+    draw_weights(draw, job);
+    dear_values(draw, job);
+    draw_stated(draw, job, most_total);
+    if (job->weights.count >= MOST_LABELS / 5) cheap_values(draw, job);
+    while (room_of(job, LIGHT_WAY).cells > CELLS) job->weights.count = job->values.count = job->weights.count / 2;
+}
+
 /* ---- kinds 5 and 6 */
 
 /* Sizes from a factor up, with a common divisor where it isn't 1. */
@@ -149,13 +172,15 @@ static void shares(struct draw *draw, struct job *job) {
 
 void draw_large(struct draw *draw, uint32_t kind, struct job *job) {
     job->kind = kind;
-    job->values.count = job->copies.count = 0;
+    job->q = LEAST_Q;
+    job->values.count = job->copies.count = job->budgets = 0;
     switch (kind) {
     case KIND_SUMS: sums(draw, job); break;
     case KIND_FEWEST: fewest(draw, job); break;
     case KIND_WAYS: ways(draw, job); break;
     case KIND_SHARES: shares(draw, job); break;
     case KIND_LABELS_BEHIND: labels_behind(draw, job); break;
+    case KIND_STATED_SHARE: stated_share(draw, job); break;
     default: knapsack(draw, job); break;
     }
 }

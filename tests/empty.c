@@ -4,7 +4,7 @@
 #include "tell.h"
 #include <stdio.h>
 
-enum { CELLS = CASE_A_CELLS, WORDS = ROW(CASE_A_BUDGET), PICKS = CASE_A_LABELS, BYTES = CASE_A_CERTIFICATE };
+enum { CELLS = GREATER(CASE_A_CELLS, CASE_A_STATED_CELLS), WORDS = ROW(CASE_A_BUDGET), PICKS = CASE_A_LABELS, BYTES = CASE_A_CERTIFICATE };
 
 static unsigned long tried, quick;
 static struct job job;

@@ -36,7 +36,7 @@ static const struct {
 } words[LAST_KIND + 1] = {
     [KIND_ONCE] = {"value", "weight"}, [KIND_COPIES] = {"value", "weight"},     [KIND_ANY] = {"value", "weight"},
     [KIND_SUMS] = {"yes", "totals"},   [KIND_FEWEST] = {"blocks", NULL},        [KIND_WAYS] = {"ways", NULL},
-    [KIND_SHARES] = {"spare", NULL},   [KIND_LABELS_BEHIND] = {"weight", NULL},
+    [KIND_SHARES] = {"spare", NULL},   [KIND_LABELS_BEHIND] = {"weight", NULL}, [KIND_STATED_SHARE] = {"value", "weight"},
 };
 
 /* An answer as document 01 has the program print it. */

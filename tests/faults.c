@@ -22,6 +22,16 @@ static uint32_t below(uint32_t least) {
     return least - (least > 0);
 }
 
+/* Kind 9: q at a bound, just past it, or any. */
+static uint32_t other_q(struct draw *draw) {
+    return chance(draw, 2) ? LEAST_Q - drawn(draw, 0, 1) : about_bound(draw, MOST_Q);
+}
+
+/* One budget where there have to be two, and two where there has to be one; or three. */
+static uint32_t other_budgets(struct draw *draw, uint32_t kind) {
+    return chance(draw, 4) ? 3 : 3 - BUDGETS_OF(kind);
+}
+
 static void other_kind(struct draw *draw, struct job *job) {
     job->kind = chance(draw, 3) ? drawn(draw, 0, UINT32_MAX) : drawn(draw, 0, LAST_KIND + 2);
 }
@@ -64,7 +74,8 @@ static void no_claims(struct draw *draw, struct list *claims) {
 }
 
 void draw_fault(struct draw *draw, struct job *job) {
-    switch (drawn(draw, 0, 11)) {
+    if (job->kind == KIND_STATED_SHARE && chance(draw, 8)) job->q = other_q(draw);
+    switch (drawn(draw, 0, 12)) {
     case 0: other_kind(draw, job); break;
     case 1:
     case 2: other_length(draw, chance(draw, 3) ? &job->weights : chance(draw, 2) ? &job->values : &job->copies); break;
@@ -78,6 +89,9 @@ void draw_fault(struct draw *draw, struct job *job) {
     case 8: set_any(draw, &job->values, about_bound(draw, MOST_VALUE)); break;
     case 9: set_any(draw, &job->values, below(plain_kind(job->kind)->least_value)); break;
     case 10: set_any(draw, &job->copies, chance(draw, 3) ? below(LEAST_COPIES) : about_bound(draw, MOST_COPIES)); break;
+    case 11:
+        if (chance(draw, 3)) job->budgets = other_budgets(draw, job->kind);
+        break;
     default: no_claims(draw, &job->weights); break;
     }
 }
@@ -86,9 +100,11 @@ void draw_fault(struct draw *draw, struct job *job) {
 
 /* Where the count of a section stands: kinds, budgets, weights, values, copies. */
 static size_t count_place(const struct job *job, uint32_t section) {
-    size_t values = 20 + 4 * (size_t)job->weights.count;
-    if (section < 3) return 8 * section;
-    return section == 3 ? values : values + 4 + 4 * (size_t)job->values.count;
+    const uint32_t counts[] = {1, job->budgets != 0 ? job->budgets : BUDGETS_OF(job->kind), job->weights.count, job->values.count};
+    size_t place = 0;
+    uint32_t k;
+    for (k = 0; k < section; k++) place += 4 + 4 * (size_t)counts[k];
+    return place;
 }
 
 static void swap_counts(struct bytes *bytes, size_t a, size_t b) {

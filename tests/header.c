@@ -1,6 +1,6 @@
 /* What include/quabnester.h says by itself, its constants and its functions, held to the library and to bounds.h: needed lengths are enough
- * and one place less isn't, each bound and one past it, those of the quick answer too, the bytes of jobs and certificates, the marks, and
- * each refusal by its name. */
+ * and one place less isn't, each bound and one past it, those of the quick answer too, the cells of kind 9, the bytes of jobs and
+ * certificates, the marks, and each refusal by its name. */
 #include "calls.h"
 #include "draw.h"
 #include "parts.h"
@@ -28,6 +28,7 @@ static const struct constant constants[] = {
     {"ways", KIND_WAYS, QUABNESTER_KIND_WAYS},
     {"shares", KIND_SHARES, QUABNESTER_KIND_SHARES},
     {"labels behind a total", KIND_LABELS_BEHIND, QUABNESTER_KIND_LABELS_BEHIND},
+    {"a stated share", KIND_STATED_SHARE, QUABNESTER_KIND_STATED_SHARE},
     {"the last kind", LAST_KIND, QUABNESTER_LAST_KIND},
     {"the last kind with certificates", LAST_CHECKED_KIND, QUABNESTER_LAST_CERTIFICATE_KIND},
     {"the most labels", MOST_LABELS, QUABNESTER_MOST_LABELS},
@@ -35,6 +36,8 @@ static const struct constant constants[] = {
     {"the most claims", MOST_CLAIMS, QUABNESTER_MOST_CLAIMS},
     {"the greatest budget", MOST_BUDGET, QUABNESTER_MOST_BUDGET},
     {"the greatest budget to share", MOST_SHARED, QUABNESTER_MOST_SHARED},
+    {"the least q", LEAST_Q, QUABNESTER_LEAST_Q},
+    {"the greatest q", MOST_Q, QUABNESTER_MOST_Q},
     {"the least weight", LEAST_WEIGHT, QUABNESTER_LEAST_WEIGHT},
     {"the least size", LEAST_SIZE, QUABNESTER_LEAST_SIZE},
     {"the least value", LEAST_VALUE, QUABNESTER_LEAST_VALUE},
@@ -45,6 +48,7 @@ static const struct constant constants[] = {
     {"the greatest pick of kind 3", MOST_PICK_ANY, QUABNESTER_MOST_PICK_ANY},
     {"no way", NO_WAY, QUABNESTER_NO_WAY},
     {"not reached", NOT_REACHED, QUABNESTER_NO_WAY},
+    {"no weight", NO_WEIGHT, QUABNESTER_NO_WAY},
     {"too many ways", FULL, QUABNESTER_TOO_MANY_WAYS},
 };
 
@@ -67,6 +71,7 @@ static void the_version(void) {
     same("its first number", QUABNESTER_VERSION_MAJOR, QUABNESTER_VERSION_NUMBER / 1000000);
     holds("that it is one of K4, which has kind 1 refused on slices that were enough before", QUABNESTER_VERSION_MAJOR >= 2);
     holds("that it is one of K5, which adds an entry", QUABNESTER_VERSION_NUMBER >= 2001000);
+    holds("that it is one of K6, which has kind 9 answered", QUABNESTER_VERSION_NUMBER >= 2002000);
 }
 
 /* ---- room */
@@ -77,6 +82,9 @@ static struct plain_room room_by_header(enum plain_way way) {
     room.cells = (way == FULL_WAY ? quabnester_full_cells_needed : quabnester_cells_needed)(job.kind, n, job.budget);
     room.words = (way == FULL_WAY ? quabnester_full_words_needed : quabnester_words_needed)(job.kind, n, job.budget);
     room.picks = quabnester_picks_needed(job.kind, n, job.budget);
+    if (job.kind != KIND_STATED_SHARE) return room;
+    same("the cells of kind 9 by n and C alone", 0, room.cells);
+    room.cells = quabnester_stated_cells_needed(job.budget, job.q, job.weights.at, job.values.at, n);
     return room;
 }
 
@@ -85,7 +93,8 @@ static void refused_in(enum plain_way way, const struct plain_room *lengths, uin
     struct solved solved;
     about("header", tried++);
     put_job(&bytes, &job);
-    same("the job's bytes", quabnester_job_bytes(job.weights.count, job.values.count, job.copies.count), bytes.length);
+    same("the job's bytes", quabnester_job_bytes_of(job.kind, job.weights.count, job.values.count, job.copies.count), bytes.length);
+    same("its budgets", plain_number(bytes.at + 8), quabnester_budgets_of(job.kind));
     solve(&solved, &bytes, way, lengths, tried);
     if (same("the refusal", number, solved.refused)) met[number]++;
     give_back_solved(&solved);
@@ -199,6 +208,54 @@ static void numbers_of_sizes(void) {
     least_and_most(&job.weights.at[0], QUABNESTER_LEAST_SIZE, UINT32_MAX);
     valid_job(QUABNESTER_KIND_SHARES, 2, 9);
     least_and_most(&job.weights.at[0], 0, UINT32_MAX);
+}
+
+/* ---- kind 9 */
+
+/* q at its bounds and one past each. As three labels, of which the values stay uncut, the job needs as many cells with any q. */
+static void numbers_of_shares(void) {
+    valid_job(QUABNESTER_KIND_STATED_SHARE, 3, 9);
+    least_and_most(&job.q, QUABNESTER_LEAST_Q, QUABNESTER_MOST_Q);
+    valid_job(QUABNESTER_KIND_STATED_SHARE, 3, 9);
+    job.values.at[0] = job.values.at[2] = 3; /* with the value that is at its bound, the cut values sum to six or less */
+    least_and_most(&job.values.at[1], QUABNESTER_LEAST_VALUE, QUABNESTER_MOST_VALUE);
+}
+
+/* The cells, by the header's function; the job isn't asked. */
+static void cells_are(uint64_t cells) {
+    about("header, cells of kind 9", tried++);
+    same("the cells", cells, quabnester_stated_cells_needed(job.budget, job.q, job.weights.at, job.values.at, job.weights.count));
+}
+
+/* None where n, C or q is outside its bounds; one where no label is left; those of a divisor of 1, of more, and of labels that are left
+ * aside; and more than 32 bits count. */
+static void cells_of_shares(void) {
+    uint32_t i;
+    valid_job(QUABNESTER_KIND_STATED_SHARE, QUABNESTER_MOST_LABELS + 1, 9);
+    cells_are(0);
+    valid_job(QUABNESTER_KIND_STATED_SHARE, 3, QUABNESTER_MOST_BUDGET + 1);
+    cells_are(0);
+    valid_job(QUABNESTER_KIND_STATED_SHARE, 3, 9);
+    job.q = QUABNESTER_LEAST_Q - 1;
+    cells_are(0);
+    job.q = QUABNESTER_MOST_Q + 1;
+    cells_are(0);
+    job.q = QUABNESTER_MOST_Q;
+    cells_are(4 * (1 + 2 + 3 + 1));
+    job.q = 2;
+    job.values.at[0] = 17;
+    job.values.at[1] = 12;
+    cells_are(4 * (8 + 6 + 1 + 1)); /* the divisor is 17 / 6, which is 2 */
+    job.weights.at[0] = 10;
+    cells_are(3 * (4 + 1 + 1)); /* and 12 / 4, which is 3 */
+    job.budget = 1;
+    cells_are(1);
+    valid_job(QUABNESTER_KIND_STATED_SHARE, QUABNESTER_MOST_LABELS, QUABNESTER_MOST_BUDGET);
+    for (i = 0; i < QUABNESTER_MOST_LABELS; i++) job.values.at[i] = QUABNESTER_MOST_VALUE;
+    job.q = QUABNESTER_MOST_Q;
+    cells_are((QUABNESTER_MOST_LABELS + 1) * ((uint64_t)QUABNESTER_MOST_LABELS * QUABNESTER_MOST_VALUE + 1));
+    job.weights.count = 0;
+    cells_are(1);
 }
 
 /* ---- the quick answer */
@@ -322,8 +379,10 @@ static void leaves(uint32_t number, uint64_t mark) {
     give_back_solved(&solved);
 }
 
-/* No budget but 0 can be made of a size, or reached by a label, that is greater. */
+/* No budget but 0 can be made of a size, or reached by a label, that is greater; and two labels are too heavy together. */
 static void marks(void) {
+    valid_job(QUABNESTER_KIND_STATED_SHARE, 2, 2);
+    leaves(QUABNESTER_NOT_REFUSED, QUABNESTER_NO_WAY);
     valid_job(QUABNESTER_KIND_FEWEST, 1, 3);
     job.weights.at[0] = job.budget + 1;
     leaves(QUABNESTER_REFUSED_NO_SUM, QUABNESTER_NO_WAY);
@@ -348,6 +407,9 @@ static void others(void) {
     if (same("no bytes", QUABNESTER_REFUSED_BYTES, quabnester_check(NULL, 0, NULL, 0))) met[QUABNESTER_REFUSED_BYTES]++;
     same("a list that is too long for its count", 0, quabnester_job_bytes((uint64_t)UINT32_MAX + 1, 0, 0));
     same("the bytes of the longest lists", 28 + 12 * (uint64_t)UINT32_MAX, quabnester_job_bytes(UINT32_MAX, UINT32_MAX, UINT32_MAX));
+    same("case A's bytes", 52, quabnester_job_bytes(CASE_A_LABELS, CASE_A_LABELS, 0));
+    same("and as kind 9", 56, quabnester_job_bytes_of(QUABNESTER_KIND_STATED_SHARE, CASE_A_LABELS, CASE_A_LABELS, 0));
+    same("a longer list of kind 9", 0, quabnester_job_bytes_of(QUABNESTER_KIND_STATED_SHARE, 0, (uint64_t)UINT32_MAX + 1, 0));
 }
 
 /* Every number that has a name came up. */
@@ -377,6 +439,8 @@ void part_header(void) {
     }
     numbers_of_labels();
     numbers_of_sizes();
+    numbers_of_shares();
+    cells_of_shares();
     quick_answers();
     verdicts(QUABNESTER_KIND_ONCE, 1);
     verdicts(QUABNESTER_KIND_COPIES, 1);

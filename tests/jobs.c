@@ -24,13 +24,23 @@ void put_section(struct bytes *bytes, const uint32_t *numbers, uint32_t count) {
     for (i = 0; i < count; i++) put_number(bytes, numbers[i]);
 }
 
-void put_job(struct bytes *bytes, const struct job *job) {
+static void put_budgets(struct bytes *bytes, const struct job *job, uint32_t count) {
+    uint32_t i;
+    put_number(bytes, count);
+    for (i = 0; i < count; i++) put_number(bytes, i == 0 ? job->budget : job->q);
+}
+
+static void put_with(struct bytes *bytes, const struct job *job, uint32_t budgets) {
     bytes->length = 0;
     put_section(bytes, &job->kind, 1);
-    put_section(bytes, &job->budget, 1);
+    put_budgets(bytes, job, budgets);
     put_section(bytes, job->weights.at, job->weights.count);
     put_section(bytes, job->values.at, job->values.count);
     put_section(bytes, job->copies.at, job->copies.count);
+}
+
+void put_job(struct bytes *bytes, const struct job *job) {
+    put_with(bytes, job, job->budgets != 0 ? job->budgets : BUDGETS_OF(job->kind));
 }
 
 void put_certificate(struct bytes *bytes, const struct job *job, const uint32_t *picks, const uint32_t *cells) {
@@ -61,6 +71,8 @@ void set_job(struct job *job, uint32_t kind, uint32_t budget, uint32_t n, const 
              const uint32_t *copies) {
     job->kind = kind;
     job->budget = budget;
+    job->q = LEAST_Q;
+    job->budgets = 0;
     set_list(&job->weights, n, weights);
     set_list(&job->values, plain_kind(kind)->values ? n : 0, values);
     set_list(&job->copies, plain_kind(kind)->copies ? n : 0, copies);
@@ -71,20 +83,24 @@ void case_a(struct job *job, uint32_t kind) {
     set_job(job, kind, CASE_A_BUDGET, CASE_A_LABELS, weights, values, copies);
 }
 
-/* As the second program knows the job, as far as its room goes. */
-static struct plain_job outline(const struct job *job) {
-    struct plain_job outline = {job->kind, job->budget, {NULL, job->weights.count}, {NULL, 0}, {NULL, 0}};
-    return outline;
+/* As the second program reads the job where it has as many budgets as it has to have. It is there until the next call. */
+static const struct plain_job *known(const struct job *job) {
+    static struct bytes bytes;
+    static struct plain_job read;
+    put_with(&bytes, job, BUDGETS_OF(job->kind));
+    if (!plain_read(bytes.at, bytes.length, &read)) {
+        printf("the second program can't read a job of the tests\n");
+        exit(1);
+    }
+    return &read;
 }
 
 struct plain_room room_of(const struct job *job, enum plain_way way) {
-    struct plain_job known = outline(job);
-    return plain_room(&known, way);
+    return plain_room(known(job), way);
 }
 
 uint32_t claims_of(const struct job *job) {
-    struct plain_job known = outline(job);
-    return (uint32_t)plain_certificate_room(&known).cells;
+    return (uint32_t)plain_certificate_room(known(job)).cells;
 }
 
 uint32_t most_picked(const struct job *job, uint32_t i) {

@@ -18,7 +18,8 @@ struct list {
 };
 
 struct job {
-    uint32_t kind, budget;
+    uint32_t kind, budget, q;
+    uint32_t budgets; /* so many numbers has the budgets section; 0 stands for as many as the kind has to have */
     struct list weights, values, copies;
 };
 
@@ -34,6 +35,7 @@ void put_at(uint8_t *bytes, uint32_t number);
 void put_number(struct bytes *bytes, uint32_t number);
 void put_section(struct bytes *bytes, const uint32_t *numbers, uint32_t count);
 
+/* A job; of its budgets, the first is C and any other is q. */
 void put_job(struct bytes *bytes, const struct job *job);
 
 /* A certificate of so many of the picks and cells as the job's has; and one that is too long for these, into memory that has room for it.
@@ -41,7 +43,8 @@ void put_job(struct bytes *bytes, const struct job *job);
 void put_certificate(struct bytes *bytes, const struct job *job, const uint32_t *picks, const uint32_t *cells);
 size_t lay_certificate(uint8_t *at, const struct job *job, const uint32_t *picks, const uint32_t *cells);
 
-/* A list is given as its count and its numbers. Of a job's lists of n those are taken that its kind uses; others may be null. */
+/* A list is given as its count and its numbers. Of a job's lists of n those are taken that its kind uses; others may be null. q is the
+ * least one. */
 void set_list(struct list *list, uint32_t count, const uint32_t *numbers);
 void set_job(struct job *job, uint32_t kind, uint32_t budget, uint32_t n, const uint32_t *weights, const uint32_t *values,
              const uint32_t *copies);
@@ -52,6 +55,7 @@ enum {
     CASE_A_BUDGET = 7,
     CASE_A_VALUE = 9,
     CASE_A_CELLS = FULL_TABLE(CASE_A_LABELS, CASE_A_BUDGET),
+    CASE_A_STATED_CELLS = (CASE_A_LABELS + 1) * (4 + 5 + 6 + 1), /* as kind 9, where its values stay uncut */
     CASE_A_CERTIFICATE = CERTIFICATE(CASE_A_LABELS, CASE_A_CELLS)
 };
 void case_a(struct job *job, uint32_t kind);

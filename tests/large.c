@@ -10,23 +10,29 @@
 enum { EACH = 200, START = 3000000, BOTH_IN = 8 }; /* jobs of each kind, the number of the first one, and who is asked in both ways */
 
 /* At least so often, as in drawn.c. */
-static const struct tally least = {
-    .came = {[KIND_ONCE] = {[0] = EACH},
-             [KIND_COPIES] = {[0] = EACH},
-             [KIND_ANY] = {[0] = EACH},
-             [KIND_SUMS] = {[0] = EACH},
-             [KIND_FEWEST] = {[0] = 110, [7] = 40},
-             [KIND_WAYS] = {[0] = 100, [8] = 60},
-             [KIND_SHARES] = {[0] = EACH},
-             [KIND_LABELS_BEHIND] = {[0] = 130, [7] = 28}},
-    .ties =
-        {[KIND_ONCE] = {9}, [KIND_COPIES] = {5}, [KIND_ANY] = {1}, [KIND_FEWEST] = {1}, [KIND_SHARES] = {70}, [KIND_LABELS_BEHIND] = {8}},
-    .tried = 340};
+static const struct tally least = {.came = {[KIND_ONCE] = {[0] = EACH},
+                                            [KIND_COPIES] = {[0] = EACH},
+                                            [KIND_ANY] = {[0] = EACH},
+                                            [KIND_SUMS] = {[0] = EACH},
+                                            [KIND_FEWEST] = {[0] = 110, [7] = 40},
+                                            [KIND_WAYS] = {[0] = 100, [8] = 60},
+                                            [KIND_SHARES] = {[0] = EACH},
+                                            [KIND_LABELS_BEHIND] = {[0] = 130, [7] = 22},
+                                            [KIND_STATED_SHARE] = {[0] = EACH}},
+                                   .ties = {[KIND_ONCE] = {9},
+                                            [KIND_COPIES] = {5},
+                                            [KIND_ANY] = {1},
+                                            [KIND_FEWEST] = {1},
+                                            [KIND_SHARES] = {70},
+                                            [KIND_LABELS_BEHIND] = {8},
+                                            [KIND_STATED_SHARE] = {1}},
+                                   .tried = 430};
 
 static struct tally tally;
 static struct job job;
 static struct bytes bytes;
 static struct plain_job read;
+static struct plain_stated stated; /* of a job of kind 9 */
 
 /* ---- which loops they ran */
 
@@ -55,6 +61,20 @@ enum {
     LATE,
     REACHED,
     MISSED,
+    TOTALS_NEAR,
+    TOTALS_FAR,
+    TOTALS_EVEN,
+    ANY_Q,
+    BY_ONE,
+    BY_TWO,
+    BY_MORE,
+    WIDE_ROW,
+    MANY_LEFT,
+    MANY_ASIDE,
+    SEVERAL,
+    BEST_TRIED,
+    BEST_IN_TABLE,
+    SHORT_OF_BEST,
     MANY,
     BOUND,
     LOOPS
@@ -85,6 +105,20 @@ static struct thing loops[LOOPS] = {
     [LATE] = {"kind 8, C reached with the last of three labels or more", 20, 0},
     [REACHED] = {"kinds 4 and 8, asked the same: C is reached", 170, 0},
     [MISSED] = {"kinds 4 and 8, asked the same: C isn't reached", 130, 0},
+    [TOTALS_NEAR] = {"kind 9, totals of 4 stretches or more above a cut value below a stretch", 80, 0},
+    [TOTALS_FAR] = {"kind 9, totals of 4 stretches or more above a cut value of a stretch or more", 100, 0},
+    [TOTALS_EVEN] = {"kind 9, totals of whole stretches above a cut value", 55, 0},
+    [ANY_Q] = {"kind 9, a q of 50 or more", 20, 0},
+    [BY_ONE] = {"kind 9, a divisor of 1", 55, 0},
+    [BY_TWO] = {"kind 9, a divisor of 2", 25, 0},
+    [BY_MORE] = {"kind 9, a divisor of 3 or more", 80, 0},
+    [WIDE_ROW] = {"kind 9, a row of 4,096 totals or more", 22, 0},
+    [MANY_LEFT] = {"kind 9, a fifth of the most labels or more, none of them left aside", 3, 0},
+    [MANY_ASIDE] = {"kind 9, ten labels or more left aside, and as many not", 22, 0},
+    [SEVERAL] = {"kind 9, six labels or more picked", 50, 0},
+    [BEST_TRIED] = {"kind 9, beside the best value by trying", 75, 0},
+    [BEST_IN_TABLE] = {"kind 9, beside the best value by a table", 85, 0},
+    [SHORT_OF_BEST] = {"kind 9, a value below the best", 40, 0},
     [MANY] = {"labels, a fifth of the most or more", 110, 0},
     [BOUND] = {"the greatest budget, in all kinds but 7", 35, 0},
 };
@@ -157,6 +191,41 @@ static uint32_t picked(const struct plain_answer *answer) {
     return count;
 }
 
+/* Kind 9: the same of a cut value and the totals that its pass goes over. */
+static int has_totals(int which) {
+    uint32_t k;
+    for (k = 0; k < stated.m; k++) {
+        uint64_t cut = stated.cut[k], above = stated.total + 1 - cut;
+        if (which == TOTALS_EVEN && above % STRETCH == 0) return 1;
+        if (above >= 4 * STRETCH && which == (cut < STRETCH ? TOTALS_NEAR : TOTALS_FAR)) return 1;
+    }
+    return 0;
+}
+
+static void count_stated(const struct plain_answer *answer) {
+    uint32_t aside;
+    int which;
+    if (job.kind != KIND_STATED_SHARE || answer->refused != 0) return;
+    plain_state(&read, &stated);
+    aside = job.weights.count - stated.m;
+    for (which = TOTALS_NEAR; which <= TOTALS_EVEN; which++) loops[which].came += has_totals(which);
+    loops[ANY_Q].came += job.q >= 50;
+    loops[stated.divisor == 1 ? BY_ONE : stated.divisor == 2 ? BY_TWO : BY_MORE].came += stated.m > 0;
+    loops[WIDE_ROW].came += stated.total >= 4096;
+    loops[MANY_LEFT].came += stated.m >= MOST_LABELS / 5 && aside == 0;
+    loops[MANY_ASIDE].came += stated.m >= 10 && aside >= 10;
+    loops[SEVERAL].came += picked(answer) >= 6;
+}
+
+/* Kind 9 beside the best; what is expected is gone after it. */
+static void count_share(const struct plain_answer *answer) {
+    enum best_by by;
+    if (job.kind != KIND_STATED_SHARE || answer->refused != 0) return;
+    loops[SHORT_OF_BEST].came += (unsigned long)is_below_best(&bytes, answer, &by);
+    loops[BEST_TRIED].came += by == BY_TRYING;
+    loops[BEST_IN_TABLE].came += by == BY_TABLE;
+}
+
 static void count_loops(const struct plain_answer *answer) {
     uint32_t kind = answer->refused == 0 ? job.kind : 0;
     int which;
@@ -216,6 +285,8 @@ static void try_number(uint64_t number) {
     else answer = try_job(&bytes, LIGHT_WAY, &lengths[LIGHT_WAY], number);
     count_in(&tally, &bytes, answer);
     count_loops(answer);
+    count_stated(answer);
+    count_share(answer);
     if (asks_for_a_total(&bytes)) loops[agree_on_totals(&bytes) ? REACHED : MISSED].came++;
 }
 

@@ -2,8 +2,8 @@
  * document 01's second program has it.
  * A line that starts with - or = is a case, a name and a job; one that starts with > is a bound, a name and two jobs with a slash between
  * them; one that starts with ~ is a name and a job for a quick answer; others are text. A job is `kind; budget; weights; values; copies;
- * places lent`, and what is left out at the end is empty. For a quick answer the kind is 1, there are no copies, and the places are those
- * of its two lists. */
+ * places lent`, and what is left out at the end is empty. The budget is C, or C and q; as bytes the job has as many budgets. For a quick
+ * answer the kind is 1, there are no copies and no q, and the places are those of its two lists. */
 #include "calls.h"
 #include "parts.h"
 #include "tell.h"
@@ -13,9 +13,9 @@
 enum { KIND, BUDGET, WEIGHTS, VALUES, COPIES, LENT, FIELDS };
 enum { CELLS_LENT, WORDS_LENT, PICKS_LENT, LENGTHS };
 enum { FIRST_LENT, SECOND_LENT, QUICK_LENGTHS };
-enum { MOST_TEXT = 65536 };                  /* of the file: no bound of document 01 */
-enum { MORE = 20 };                          /* places that are lent beyond the needed ones, where the list says nothing of them */
-enum { JOBS = 160, TRIED = 75, QUICK = 20 }; /* at least so many have to be listed, answered by trying too, and answered quickly */
+enum { MOST_TEXT = 65536 };                   /* of the file: no bound of document 01 */
+enum { MORE = 20 };                           /* places that are lent beyond the needed ones, where the list says nothing of them */
+enum { JOBS = 210, TRIED = 110, QUICK = 20 }; /* at least so many have to be listed, answered by trying too, and answered quickly */
 
 static char text[MOST_TEXT + 1];
 static unsigned long jobs, tried, quick;
@@ -95,6 +95,8 @@ static struct plain_room lengths_of(const struct list *fields, const struct job 
 static void set_fields(struct job *job, const struct list *fields) {
     job->kind = fields[KIND].at[0];
     job->budget = fields[BUDGET].at[0];
+    job->budgets = fields[BUDGET].count;
+    job->q = job->budgets > 1 ? fields[BUDGET].at[1] : 0;
     job->weights = fields[WEIGHTS];
     job->values = fields[VALUES];
     job->copies = fields[COPIES];
@@ -115,7 +117,7 @@ static void try_fields(const struct list *fields) {
 /* One job of a line. */
 static int read_and_try(const char **at) {
     static struct list fields[FIELDS];
-    if (!read_fields(at, fields) || fields[KIND].count != 1 || fields[BUDGET].count != 1) return 0;
+    if (!read_fields(at, fields) || fields[KIND].count != 1 || fields[BUDGET].count < 1 || fields[BUDGET].count > 2) return 0;
     if (fields[LENT].count != 0 && fields[LENT].count != LENGTHS) return 0;
     try_fields(fields);
     return 1;

@@ -9,6 +9,7 @@ void part_ties(void);                        /* tie_cases.c: jobs for which ever
 void part_totals(void);                      /* total_cases.c: the number of totals, over many words */
 void part_light(void);                       /* light_cases.c: kind 1 in the light way, its row and its bits */
 void part_behind(void);                      /* behind_cases.c: kind 8, cells and picks, rows of any length */
+void part_stated(void);                      /* stated_cases.c: kind 9, tables and picks, divisors, q, budgets, rows of any length */
 void part_quick(void);                       /* quick_cases.c: the quick answer, its lists by hand, its refusals and bounds */
 void part_quick_orders(void);                /* quick_orders.c: quick answers of labels in many orders */
 void part_quick_drawn(void);                 /* quick_drawn.c: quick answers of drawn jobs, beside the best value */

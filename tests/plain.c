@@ -1,6 +1,6 @@
 /* Document 01's second program: job bytes, refusals and the room that is needed. All files plain*.c were written from document 01, the
- * requests K1, K3, K4 and K5 and include/quabnester.h, without sight of the planner's sources: that is what makes them a second opinion,
- * and whoever changes them should keep it so. They allocate nothing and keep nothing between calls. */
+ * requests K1, K3, K4, K5 and K6 and include/quabnester.h, without sight of the planner's sources: that is what makes them a second
+ * opinion, and whoever changes them should keep it so. They allocate nothing and keep nothing between calls. */
 #include "plain.h"
 
 /* ---- job bytes */
@@ -34,12 +34,13 @@ int plain_read(const uint8_t *bytes, size_t length, struct plain_job *job) {
     struct plain_list kinds, budgets;
     size_t at = 0;
     if (!plain_section(bytes, length, &at, &kinds) || kinds.count != 1) return 0;
-    if (!plain_section(bytes, length, &at, &budgets) || budgets.count != 1) return 0;
+    job->kind = plain_item(kinds, 0);
+    if (!plain_section(bytes, length, &at, &budgets) || budgets.count != BUDGETS_OF(job->kind)) return 0;
+    job->budget = plain_item(budgets, 0);
+    job->q = budgets.count > 1 ? plain_item(budgets, 1) : 0;
     if (!plain_section(bytes, length, &at, &job->weights)) return 0;
     if (!plain_section(bytes, length, &at, &job->values)) return 0;
     if (!plain_section(bytes, length, &at, &job->copies)) return 0;
-    job->kind = plain_item(kinds, 0);
-    job->budget = plain_item(budgets, 0);
     return at == length;
 }
 
@@ -60,10 +61,19 @@ static const struct plain_kind kinds[LAST_KIND + 1] = {
     [KIND_WAYS] = {OF_SIZES},
     [KIND_SHARES] = {OF_CLAIMS, .picks = 1},
     [KIND_LABELS_BEHIND] = {OF_LABELS, .picks = 1},
+    [KIND_STATED_SHARE] = {OF_LABELS, .values = 1, .least_value = LEAST_VALUE, .picks = 1},
 };
 
 const struct plain_kind *plain_kind(uint32_t kind) {
     return &kinds[kind <= LAST_KIND ? kind : 0];
+}
+
+/* Kind 9: a row for each number of the labels that aren't left aside, with a cell for each total. A job that is refused needs none. */
+static uint64_t stated_cells(const struct plain_job *job) {
+    struct plain_stated stated;
+    if (plain_job_refusal(job, LAST_KIND) != 0) return 0;
+    plain_state(job, &stated);
+    return ((uint64_t)stated.m + 1) * (stated.total + 1);
 }
 
 struct plain_room plain_room(const struct plain_job *job, enum plain_way way) {
@@ -81,6 +91,7 @@ struct plain_room plain_room(const struct plain_job *job, enum plain_way way) {
     case KIND_LABELS_BEHIND: room.cells = ROW(C); break;
     case KIND_SUMS: room.words = WORDS_OF_BITS(C); break;
     case KIND_WAYS: room.words = ROW(C); break;
+    case KIND_STATED_SHARE: room.cells = stated_cells(job); break;
     default: break;
     }
     return room;
@@ -129,11 +140,12 @@ static int strictly_ascending(struct plain_list list) {
     return 1;
 }
 
-/* Refusal 5: a weight, value, copies number or block size outside its rule. Unused lists are empty here. */
+/* Refusal 5: a weight, value, copies number or block size outside its rule, or q in kind 9. Unused lists are empty here. */
 static int numbers_wrong(const struct plain_job *job) {
     const struct plain_kind *kind = plain_kind(job->kind);
     if (list_outside(job->weights, kind->least_weight, UINT32_MAX)) return 1;
     if (kind->ascending && !strictly_ascending(job->weights)) return 1;
+    if (job->kind == KIND_STATED_SHARE && (job->q < LEAST_Q || job->q > MOST_Q)) return 1;
     return list_outside(job->values, kind->least_value, MOST_VALUE) || list_outside(job->copies, LEAST_COPIES, MOST_COPIES);
 }
 
@@ -206,7 +218,8 @@ uint64_t plain_most(const struct plain_job *job, uint32_t k) {
     switch (job->kind) {
     case KIND_ONCE:
     case KIND_SUMS:
-    case KIND_LABELS_BEHIND: return 1;
+    case KIND_LABELS_BEHIND:
+    case KIND_STATED_SHARE: return 1;
     case KIND_COPIES: return plain_item(job->copies, k);
     default: return UINT64_MAX;
     }

@@ -15,7 +15,7 @@ struct plain_list {
 };
 
 struct plain_job {
-    uint32_t kind, budget;
+    uint32_t kind, budget, q; /* q is 0 in a kind that has none */
     struct plain_list weights, values, copies;
 };
 
@@ -29,7 +29,7 @@ uint64_t plain_sum(struct plain_list list);
 /* Reads a count and its section at `*at` and moves on behind them; 0 if either runs past the end. */
 int plain_section(const uint8_t *bytes, size_t length, size_t *at, struct plain_list *list);
 
-/* Whether job bytes can be read. */
+/* Whether job bytes can be read. How many budgets there have to be goes by the kind number, whatever that is. */
 int plain_read(const uint8_t *bytes, size_t length, struct plain_job *job);
 
 /* ---- what a kind is (plain.c) */
@@ -53,7 +53,7 @@ struct plain_room {
  * the same, and in all other kinds everything is. */
 enum plain_way { LIGHT_WAY, FULL_WAY, PLAIN_WAYS };
 
-/* What a job needs in a way if it isn't refused with 2 to 5: by its kind, n and C. */
+/* What a job needs in a way if it isn't refused with 2 to 5: by its kind, n and C, and in kind 9 by q and its lists, too. */
 struct plain_room plain_room(const struct plain_job *job, enum plain_way way);
 
 /* The picks and cells of its certificate, and the bytes; of a kind that has none, as if it were kind 1. */
@@ -70,6 +70,17 @@ uint32_t plain_solve_refusal(const uint8_t *job, size_t job_len, const struct pl
 
 /* The lowest of 1 to 6 that applies to the writer, or 0. */
 uint32_t plain_write_refusal(const uint8_t *job, size_t job_len, size_t picks, size_t cells, size_t out);
+
+/* ---- kind 9, of K6: labels that weigh more than C are left aside, and values are cut (plain_stated.c) */
+
+/* The job's other labels, m of them, in their order, with their cut values, and what these sum to. */
+struct plain_stated {
+    uint32_t m, divisor, label[MOST_LABELS], weight[MOST_LABELS], cut[MOST_LABELS];
+    uint64_t total;
+};
+
+/* Of a job of kind 9 that isn't refused with 3 to 5. */
+void plain_state(const struct plain_job *job, struct plain_stated *stated);
 
 /* ---- answers, of jobs that aren't refused with 1 to 6 or 9 */
 

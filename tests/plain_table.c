@@ -9,7 +9,8 @@ static uint32_t *row_of(uint32_t *table, const struct plain_job *job, uint32_t i
     return table + (size_t)i * ROW(job->budget);
 }
 
-/* Kinds 1, 2, 3 and 5 have a row for each number of labels, handed over or not; the others have one or none. */
+/* Kinds 1, 2, 3 and 5 have a row for each number of labels, handed over or not, and kind 9 has rows of its own; the others have one or
+ * none. */
 int plain_has_room(const struct plain_job *job) {
     uint64_t n = job->weights.count, C = job->budget;
     switch (job->kind) {
@@ -17,6 +18,7 @@ int plain_has_room(const struct plain_job *job) {
     case KIND_WAYS:
     case KIND_SHARES:
     case KIND_LABELS_BEHIND: return 1;
+    case KIND_STATED_SHARE: return plain_room(job, FULL_WAY).cells <= PLAIN_CELLS;
     default: return FULL_TABLE(n, C) <= PLAIN_CELLS;
     }
 }
@@ -220,6 +222,47 @@ static void labels_behind(const struct plain_job *job, struct plain_answer *answ
     answer->first = job->budget - left;
 }
 
+/* ---- kind 9: row j is of the first j labels that aren't left aside */
+
+/* One label more: a total has the weight that it had, or with the label a lesser one within C. */
+static void add_stated(const struct plain_job *job, const struct plain_stated *stated, uint32_t j, const uint32_t *before, uint32_t *row) {
+    uint64_t t, with, cut = stated->cut[j];
+    for (t = 0; t <= stated->total; t++) {
+        row[t] = before[t];
+        if (t < cut || before[t - cut] == NO_WEIGHT) continue;
+        with = (uint64_t)before[t - cut] + stated->weight[j];
+        if (with <= job->budget && with < row[t]) row[t] = (uint32_t)with;
+    }
+}
+
+/* Label j, from the last to the first, is taken where the j before it don't have the total at that weight. */
+static void stated_picks(const struct plain_job *job, const struct plain_stated *stated, uint64_t t, struct plain_answer *answer) {
+    uint64_t width = stated->total + 1;
+    uint32_t j;
+    for (j = 0; j < job->weights.count; j++) answer->picks[j] = 0;
+    for (j = stated->m; j-- > 0;) {
+        if (answer->cells[j * width + t] == answer->cells[(j + 1) * width + t]) continue;
+        answer->picks[stated->label[j]] = 1;
+        answer->first += plain_item(job->values, stated->label[j]);
+        t -= stated->cut[j];
+    }
+}
+
+/* The greatest total that some selection within C has is asked for. Total 0 is always one. */
+static void stated_share(const struct plain_job *job, struct plain_answer *answer) {
+    static struct plain_stated stated;
+    uint64_t t, width;
+    uint32_t j;
+    plain_state(job, &stated);
+    width = stated.total + 1;
+    for (t = 0; t < width; t++) answer->cells[t] = t == 0 ? 0 : NO_WEIGHT;
+    for (j = 0; j < stated.m; j++) add_stated(job, &stated, j, answer->cells + j * width, answer->cells + (j + 1) * width);
+    t = stated.total;
+    while (answer->cells[stated.m * width + t] == NO_WEIGHT) t--;
+    answer->second = answer->cells[stated.m * width + t];
+    stated_picks(job, &stated, t, answer);
+}
+
 void plain_table(const struct plain_job *job, struct plain_answer *answer) {
     plain_start(answer, job, 0, FULL_WAY);
     switch (job->kind) {
@@ -228,6 +271,7 @@ void plain_table(const struct plain_job *job, struct plain_answer *answer) {
     case KIND_FEWEST: blocks(job, answer); break;
     case KIND_WAYS: ways(job, answer); break;
     case KIND_LABELS_BEHIND: labels_behind(job, answer); break;
+    case KIND_STATED_SHARE: stated_share(job, answer); break;
     default: limited(job, answer); break;
     }
 }

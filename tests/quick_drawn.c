@@ -234,8 +234,8 @@ static void try_small(uint64_t number) {
     first_len = draw_length(&draw, job.weights.count);
     second_len = draw_length(&draw, job.weights.count);
     while (chance(&draw, 4)) draw_fault(&draw, &job);
-    job.kind = KIND_ONCE; /* there are neither kinds nor copies here, and so no faults of them */
-    job.copies.count = 0;
+    job.kind = KIND_ONCE; /* there are neither kinds nor copies here, nor more than one budget, and so no faults of them */
+    job.copies.count = job.budgets = 0;
     try_lengths(number, first_len, second_len);
 }
 

@@ -110,6 +110,7 @@ static void job_of(struct job *job, uint32_t kind, uint32_t n, uint32_t budget) 
     uint32_t i;
     job->kind = kind;
     job->budget = budget;
+    job->q = LEAST_Q;
     job->weights.count = n;
     job->values.count = plain_kind(kind)->values ? n : 0;
     job->copies.count = plain_kind(kind)->copies ? n : 0;
@@ -172,6 +173,9 @@ static void try_numbers(uint32_t kind) {
     job_of(&job, kind, 3, budget);
     if (rules->copies) try_least(&job, &job.copies.at[2], LEAST_COPIES);
     if (rules->copies) try_most(&job, &job.copies.at[2], MOST_COPIES);
+    job_of(&job, kind, 3, budget);
+    if (kind == KIND_STATED_SHARE) try_least(&job, &job.q, LEAST_Q);
+    if (kind == KIND_STATED_SHARE) try_most(&job, &job.q, MOST_Q);
 }
 
 /* ---- 7 and 8, and what is just counted */

@@ -17,6 +17,7 @@ static const struct tie_case cases[] = {
     {KIND_FEWEST, 24, 4, {1, 3, 7, 9}, {0}, {0}, {0, 2, 0, 2}},
     {KIND_SHARES, 3, 5, {1, 3, 1, 3, 1}, {0}, {0}, {1, 1, 0, 1, 0}},
     {KIND_LABELS_BEHIND, 4, 4, {2, 1, 3, 1}, {0}, {0}, {0, 1, 1, 0}},
+    {KIND_STATED_SHARE, 4, 4, {2, 1, 3, 1}, {2, 1, 3, 1}, {0}, {0, 1, 1, 0}},
 };
 
 static void try_case(const struct tie_case *given) {

@@ -96,6 +96,14 @@ static void try_longer(uint32_t kind) {
     for (more = 0; more <= 2; more++) is_written(N, MOST_CELLS + more, CASE_A_CERTIFICATE);
 }
 
+/* One budget where the kind has two, or two where it has one: the bytes can't be read, and the kind isn't asked for. */
+static void other_budgets(uint32_t kind) {
+    fresh(kind);
+    job.budgets = 3 - BUDGETS_OF(kind);
+    put_job(&bytes, &job);
+    is_turned_down(N, MOST_CELLS, CASE_A_CERTIFICATE, 1);
+}
+
 void part_write(void) {
     unsigned mask;
     uint32_t kind;
@@ -108,5 +116,6 @@ void part_write(void) {
         fresh(kind);
         is_turned_down(N, MOST_CELLS, CASE_A_CERTIFICATE, 2);
     }
+    for (kind = 0; kind <= LAST_KIND + 1; kind++) other_budgets(kind);
     printf("write: %lu calls, %lu refused\n", tried, refused);
 }
