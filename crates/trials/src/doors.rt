@@ -6,8 +6,8 @@ use meaning::Way;
 ghost use Prim.Native.Nat.{_≤_};
 ghost use lib.ListN.{length};
 
-// Where the weights' count stands.
-pub const WEIGHTS: usize = 4;
+// Where the budgets' count stands.
+const BUDGETS: usize = 2;
 
 // How many cells, words and picks are lent where a job says nothing of it, and how many bytes a job may have: more than any of the list needs.
 const CELLS: usize = 131_072;
@@ -53,9 +53,17 @@ pub fn list(numbers: &[u32], place: usize) -> &[u32] {
     &numbers[start..end]
 }
 
+// Where the weights' count stands.
+pub fn weights_place(numbers: &[u32]) -> usize {
+    after(numbers, BUDGETS)
+}
+
 // The place after the copies.
 fn end_of_job(numbers: &[u32]) -> usize {
-    after(numbers, after(numbers, after(numbers, WEIGHTS)))
+    after(
+        numbers,
+        after(numbers, after(numbers, weights_place(numbers))),
+    )
 }
 
 // How many cells, words or picks are lent, of so many: the first, second or third number of the list after the copies.
@@ -74,7 +82,7 @@ pub fn lent(numbers: &[u32], which: usize, most: usize) -> usize
 
 // Shows an answer with the picks of its labels.
 fn show(numbers: &[u32], answer: Answer, picks: [u32; PICKS], whole: bool) {
-    let n = lesser(wide(at(numbers, WEIGHTS)), PICKS);
+    let n = lesser(wide(at(numbers, weights_place(numbers))), PICKS);
     lines::show(at(numbers, 1), answer, &picks[0..n], whole);
 }
 
@@ -92,7 +100,7 @@ fn solve_bytes(
     }
 }
 
-// Its answer to lists.
+// Its answer to lists. q is the second budget, and 0 where there is none.
 fn solve_lists(
     way: Way,
     numbers: &[u32],
@@ -101,16 +109,37 @@ fn solve_lists(
     picks: &mut [u32],
 ) -> Answer {
     let kind = at(numbers, 1);
-    let budget = at(numbers, 3);
-    let place = after(numbers, WEIGHTS);
-    let weights = list(numbers, WEIGHTS);
+    let budgets = list(numbers, BUDGETS);
+    let budget = at(budgets, 0);
+    let q = at(budgets, 1);
+    let start = weights_place(numbers);
+    let place = after(numbers, start);
+    let weights = list(numbers, start);
     let values = list(numbers, place);
     let copies = list(numbers, after(numbers, place));
     match way {
-        Way::Light => { planner::solve(kind, budget, weights, values, copies, cells, words, picks) }
-        Way::Full => {
-            planner::solve_full(kind, budget, weights, values, copies, cells, words, picks)
-        }
+        Way::Light => planner::solve(
+            kind,
+            budget,
+            q,
+            weights,
+            values,
+            copies,
+            cells,
+            words,
+            picks,
+        ),
+        Way::Full => planner::solve_full(
+            kind,
+            budget,
+            q,
+            weights,
+            values,
+            copies,
+            cells,
+            words,
+            picks,
+        ),
     }
 }
 

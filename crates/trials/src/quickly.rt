@@ -49,12 +49,15 @@ fn budget(numbers: &[u32]) -> u32 {
 
 // Its weights.
 fn weights(numbers: &[u32]) -> &[u32] {
-    doors::list(numbers, doors::WEIGHTS)
+    doors::list(numbers, doors::weights_place(numbers))
 }
 
 // Its values.
 fn values(numbers: &[u32]) -> &[u32] {
-    doors::list(numbers, doors::after(numbers, doors::WEIGHTS))
+    doors::list(
+        numbers,
+        doors::after(numbers, doors::weights_place(numbers)),
+    )
 }
 
 // How many places the first list has, or the second.
