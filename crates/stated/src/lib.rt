@@ -361,10 +361,9 @@ fn pack(
         top,
         picks,
     );
-    Answer::Knapsack {
-        value: value_of(values, vbytes, picks),
-        weight: cells[last + top],
-    }
+    let value = value_of(values, vbytes, picks);
+    let weight = cells[last + top];
+    Answer::Knapsack { value, weight }
 }
 
 // ---- the doors

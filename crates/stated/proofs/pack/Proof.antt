@@ -161,20 +161,20 @@ value-of-requires c κs =
       λ i h. trace-ones (read w .trace) i,
     )
 
-add-t17 : tie.Need-add-t17
-add-t17 c =
+add-weight : tie.Need-add-weight
+add-weight c =
     let h = after-highest (traced (c .before)) in
     let f = after-fill h in
     omega (arith, top-inside h, table-long f, start f .good)
 
-mul-t15 : tie.Need-mul-t15
-mul-t15 c =
+mul-weight : tie.Need-mul-weight
+mul-weight c =
     let h = after-highest (traced (c .before)) in
     let f = after-fill h in
     omega (arith, top-inside h, table-long f, start f .good)
 
-slice-read-t28 : tie.Need-slice-read-t28
-slice-read-t28 c = top-inside (after-highest (traced (c .before .before)))
+slice-read-weight : tie.Need-slice-read-weight
+slice-read-weight c = top-inside (after-highest (traced (c .before .before)))
 
 same-length : tie.Need-same-length
 same-length c = search needs
@@ -209,9 +209,9 @@ pack-spec =
     highest-requires
     trace-back-requires
     value-of-requires
-    add-t17
-    mul-t15
-    slice-read-t28
+    add-weight
+    mul-weight
+    slice-read-weight
     same-length
     same-length-2
     returns)
