@@ -32,7 +32,8 @@ module _ (c : ℕ) (weights : List ℕ) where
   row-none = remain-none alone
 
   -- label i, as a loop counts: x is 1 where it remains, and 0 where it is left aside
-  pub row-count : (i w x m : ℕ) → i < length weights → w ≡ at weights i → x ≡ if (leb w c) 1 0 → m ≡ rowOf c weights i → m + x ≡ rowOf c weights (i + 1)
+  pub row-count : (i w x m : ℕ) → i < length weights → w ≡ at weights i → x ≡ if (leb w c) 1 0 → m ≡ rowOf c weights i
+      → m + x ≡ rowOf c weights (i + 1)
   unfolding jobOf labels
   row-count i w x m h ew ex em = rw add-one (omega (arith, rw ew at ex, remain-next alone i h))
 
