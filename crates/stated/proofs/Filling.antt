@@ -31,10 +31,11 @@ module _ (c : ℕ) (weights : List ℕ) where
   pub row-none : rowOf c weights 0 ≡ 0
   row-none = remain-none alone
 
-  -- label i, as a loop goes on
-  pub row-next : (i : ℕ) → i < length weights → rowOf c weights (i + 1) ≡ rowOf c weights i + if (leb (at weights i) c) 1 0
+  -- label i, as a loop counts: x is 1 where it remains, and 0 where it is left aside
+  pub row-count : (i w x m : ℕ) → i < length weights → w ≡ at weights i → x ≡ if (leb w c) 1 0 → m ≡ rowOf c weights i
+      → m + x ≡ rowOf c weights (i + 1)
   unfolding jobOf labels
-  row-next i h = rw add-one (remain-next alone i h)
+  row-count i w x m h ew ex em = rw add-one (omega (arith, rw ew at ex, remain-next alone i h))
 
   -- a label that remains has a row of its own, and one that is left aside has none
   pub row-more : (i : ℕ) → i < length weights → at weights i ≤ c → rowOf c weights (suc i) ≡ rowOf c weights i + 1

@@ -53,12 +53,19 @@ module _ (c : ℕ) (ws xs : List ℕ) (long : length xs ≡ length ws) where
     unfolding thatFit
     next-on = rw (add-one, drop-cons ws i 0 inside, drop-cons xs i 0 (omega arith))
 
-    -- the greatest of them, and their sum
-    pub greatest-on : greatestOf (from-on i) ≡ max (if (leb (at ws i) c) (at xs i) 0) (greatestOf (from-on (i + 1)))
-    greatest-on = ap greatestOf next-on ∙ greatest-if (leb (at ws i) c) (at xs i) (from-on (i + 1))
+    -- what a loop takes of label i, y: its number x, or 0 where it is left aside
+    module _ (w x y : ℕ) (weighs : w ≡ at ws i) (is-number : x ≡ at xs i) (is-taken : y ≡ if (leb w c) x 0) where
+      here : y ≡ if (leb (at ws i) c) (at xs i) 0
+      here = rw (weighs, is-number) at is-taken
 
-    pub sum-on : sum (from-on i) ≡ if (leb (at ws i) c) (at xs i) 0 + sum (from-on (i + 1))
-    sum-on = ap sum next-on ∙ sum-if (leb (at ws i) c) (at xs i) (from-on (i + 1))
+      -- the greatest so far, and of those from i on
+      pub greatest-on : (p p′ all : ℕ) → max p (greatestOf (from-on i)) ≡ all → p′ ≡ max p y → max p′ (greatestOf (from-on (i + 1))) ≡ all
+      greatest-on p p′ all e e′ =
+          omega (arith, here, ap greatestOf next-on, greatest-if (leb (at ws i) c) (at xs i) (from-on (i + 1)))
+
+      -- the sum so far, and of those from i on
+      pub sum-on : (s all : ℕ) → s + sum (from-on i) ≡ all → s + y + sum (from-on (i + 1)) ≡ all
+      sum-on s all e = omega (arith, here, ap sum next-on, sum-if (leb (at ws i) c) (at xs i) (from-on (i + 1)))
 
 -- none of them is more than their sum
 pub one-of-sum : (c : ℕ) (ws xs : List ℕ) (i : ℕ) → i < length ws → at ws i ≤ c → at xs i ≤ sum (thatFit c ws xs)

@@ -119,7 +119,7 @@ struct Measures {
     cells: usize,
 }
 
-// The measures of a job, in one go over its labels each. The number of cells may pass 32 bits.
+// The measures of a job, by three goes over its labels. How many cells there are may pass 32 bits; all before it fits them.
 fn measure(
     budget: u32,
     q: u32,
@@ -361,10 +361,9 @@ fn pack(
         top,
         picks,
     );
-    Answer::Knapsack {
-        value: value_of(values, vbytes, picks),
-        weight: cells[last + top],
-    }
+    let value = value_of(values, vbytes, picks);
+    let weight = cells[last + top];
+    Answer::Knapsack { value, weight }
 }
 
 // ---- the doors

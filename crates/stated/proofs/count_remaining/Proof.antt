@@ -1,6 +1,6 @@
 -- `stated::count_remaining` meets its contract: m of the first i labels remain.
 -- Assumes nothing.
-use mathlib.Core.Path.{_≡_, sym, ap₂, _∙_}
+use mathlib.Core.Path.{_≡_, sym}
 use Prim.Native.Nat.{ℕ, _+_, _-_, _≤_, _<_}
 use native.Mathlib.Omega.{arith}
 use mathlib.Core.List.{List}
@@ -9,7 +9,7 @@ use borrow.Author.Needs.{needs}
 use Rattle.numbers.specs.TwoSlices.{listFrom}
 use Rattle.stated.specs.LeastWeights.{rowOf}
 use Rattle.stated.proofs.Fitting.{count-fits}
-use Rattle.stated.proofs.Filling.{row-none, row-next}
+use Rattle.stated.proofs.Filling.{row-none, row-count}
 use Rattle.stated.proofs.count_remaining.Statement.{statement}
 use Rattle.stated.proofs.count_remaining.Tie as tie
 
@@ -70,8 +70,8 @@ loop-again c =
     let s = entry (turn c .before) in (
       omega arith,
       omega (arith, c .if-light .ensures .1, l .inv .1),
-      ap₂ _+_ (l .inv .2) (rw (c .before .item .ensures) at (c .if-light .ensures .0))
-          ∙ sym (row-next (s .args .budget) (weights s) (l .i) (inside (turn c))),
+      row-count (s .args .budget) (weights s) (l .i) (c .before .item .result) (c .if-light .result) (l .m)
+          (inside (turn c)) (c .before .item .ensures) (c .if-light .ensures .0) (l .inv .2),
     )
 
 returns : tie.Need-returns Inv-loop μ-loop

@@ -105,12 +105,9 @@ loop-again c =
     let l = turn c .before .loop in (
       omega arith,
       fits c .0,
-      omega (
-        arith,
-        l .inv .2,
-        rw (c .before .before .item .ensures, cut-is c) at (c .if-light .ensures .0),
-        sum-on (s .args .budget) (weights s) (cuts s) (one-each s) (l .i) (inside (turn c)),
-      ),
+      sum-on (s .args .budget) (weights s) (cuts s) (one-each s) (l .i) (inside (turn c))
+          (c .before .before .item .result) (c .before .item2 .result / s .args .divisor) (c .if-light .result)
+          (c .before .before .item .ensures) (cut-is c) (c .if-light .ensures .0) (l .sum) _ (l .inv .2),
     )
 
 returns : tie.Need-returns Inv-loop μ-loop

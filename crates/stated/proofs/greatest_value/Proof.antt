@@ -72,13 +72,10 @@ loop-again c =
     let s = entry (now .before) in
     let l = now .before .loop in (
       omega arith,
-      omega (
-        arith,
-        l .inv .1,
-        c .greater .ensures,
-        rw (known .before .item .ensures, known .item2 .ensures) at (c .before .if-light .ensures .0),
-        greatest-on (s .args .budget) (weights s) (values s) (s .pre) (l .i) (inside now),
-      ),
+      greatest-on (s .args .budget) (weights s) (values s) (s .pre) (l .i) (inside now)
+          (known .before .item .result) (known .item2 .result) (c .before .if-light .result)
+          (known .before .item .ensures) (known .item2 .ensures) (c .before .if-light .ensures .0) (l .p) (c .greater .result) _ (l .inv .1)
+          (c .greater .ensures),
     )
 
 returns : tie.Need-returns Inv-loop μ-loop

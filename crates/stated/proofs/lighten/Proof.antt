@@ -1,6 +1,6 @@
 -- `stated::lighten` meets its contract: each cell so far is made of two of the row before, which lies before all stores and is as it was.
 -- Assumes nothing.
-use mathlib.Core.Path.{_≡_, refl, _∙_}
+use mathlib.Core.Path.{_≡_, refl, ap, ap₂, _∙_}
 use Prim.Native.Nat.{ℕ, _+_, _-_}
 use native.Mathlib.Omega.{arith}
 use mathlib.Core.List.{List}
@@ -81,9 +81,13 @@ loop-again c =
     let l = turn c .before .loop in
     let kept = l .inv .stored .before in
     let less : a .from + l .t - a .a ≡ a .from + (l .t - a .a) = omega arith in
+    let cell : c .lesser-weight .result ≡ lighter (a .w + a .room) (a .w) (at (l .cells) (a .from + l .t)) (at (l .cells) (a .from + l .t - a .a)) =
+    c .lesser-weight .ensures in
     storing-more (a .cells .now) (a .to) (a .a) (a .width) (made (a .cells .now) (a .from) (a .a) (a .w) (a .room))
     (l .t) (a .to + l .t) (c .lesser-weight .result) (l .cells) (turn c .loop-test .taken) (s .pre .1 .1 .0) (l .inv) refl
-    (c .lesser-weight .ensures ∙ rw (less, kept (a .from + l .t) (omega arith), kept (a .from + (l .t - a .a)) (omega arith)))
+    (cell
+    ∙ ap₂ (lighter (a .w + a .room) (a .w)) (kept (a .from + l .t) (omega arith))
+    (ap (at (l .cells)) less ∙ kept (a .from + (l .t - a .a)) (omega arith)))
 
 same-length : tie.Need-same-length Inv-loop μ-loop
 same-length c = c .before .loop .inv .long

@@ -31,8 +31,11 @@ module _ (s : tie.Start) where
 
 -- what is known with the divisor
 module _ (c : tie.After-divisor-of) where
+  abbrev valued : tie.After-greatest-value
+  valued = c .before
+
   abbrev counted : tie.After-count-remaining
-  counted = c .before .before
+  counted = valued .before
 
   abbrev start : tie.Start
   start = entry counted
@@ -44,8 +47,8 @@ module _ (c : tie.After-divisor-of) where
   divisor-is : c .divisor-of .result ≡ divisor (job start)
   unfolding jobOf if hasQ
   divisor-is =
-      measured-divisor (job start) (c .before .greatest-value .result) (counted .count-remaining .result) (c .divisor-of .result)
-      (c .before .greatest-value .ensures) count-is (c .divisor-of .ensures)
+      measured-divisor (job start) (valued .greatest-value .result) (counted .count-remaining .result) (c .divisor-of .result)
+      (valued .greatest-value .ensures) count-is (c .divisor-of .ensures)
 
 -- and with the sum
 sum-is : (c : tie.After-cut-sum) → c .cut-sum .result ≡ cutSum (job (start (c .before)))

@@ -14,7 +14,7 @@ use Rattle.meaning.specs.Cuts.{cutBy}
 use Rattle.numbers.specs.TwoSlices.{listFrom}
 use Rattle.rows.proofs.Parts.{endOf, end-long, end-at}
 use Rattle.stated.specs.LeastWeights.{rowOf, cellOf, Roomy, Filled}
-use Rattle.stated.specs.ReadOff.{Highest}
+use Rattle.stated.specs.ReadOff.{Highest, TracedBack}
 use Rattle.stated.proofs.Filling.{last-row, first-within, total-0-reached}
 use Rattle.stated.proofs.Tracing.{highest-same, trace-ones}
 use Rattle.stated.proofs.pack.Statement.{statement}
@@ -93,6 +93,10 @@ module _ (w : tie.After-trace-back) where
   abbrev found : List ℕ
   found = w .trace-back .last .1 .1 .1 .1 .1 .1 .1 .1 .1 .0
 
+  read : let f = after-fill after-highest in let s = start f in
+      TracedBack (cellOf (s .args .budget) (weights s) (s .args .width) (table f)) (cuts s) (length (weights s)) (top after-highest) found
+  read = w .trace-back .ensures
+
   found-long : let s = start (after-fill after-highest) in length found ≡ length (weights s)
   found-long = w .trace-back .kept .1 .1 .1 .1 .1 .1 .1 .1 .1 .0 ∙ sym (start (after-fill after-highest) .pre .1 .1)
 
@@ -154,23 +158,23 @@ value-of-requires c κs =
         one-each = v .one-each ∙ sym (found-long w);
         cheap = λ i h. v .cheap i (omega (arith, found-long w));
       },
-      λ i h. trace-ones (w .trace-back .ensures .trace) i,
+      λ i h. trace-ones (read w .trace) i,
     )
 
-add-t17 : tie.Need-add-t17
-add-t17 c =
+add-weight : tie.Need-add-weight
+add-weight c =
     let h = after-highest (traced (c .before)) in
     let f = after-fill h in
     omega (arith, top-inside h, table-long f, start f .good)
 
-mul-t15 : tie.Need-mul-t15
-mul-t15 c =
+mul-weight : tie.Need-mul-weight
+mul-weight c =
     let h = after-highest (traced (c .before)) in
     let f = after-fill h in
     omega (arith, top-inside h, table-long f, start f .good)
 
-slice-read-t28 : tie.Need-slice-read-t28
-slice-read-t28 c = top-inside (after-highest (traced (c .before .before)))
+slice-read-weight : tie.Need-slice-read-weight
+slice-read-weight c = top-inside (after-highest (traced (c .before .before)))
 
 same-length : tie.Need-same-length
 same-length c = search needs
@@ -187,7 +191,7 @@ returns c =
       top = top h;
       filled = filled f;
       highest = is-highest h;
-      traced = w .trace-back .ensures;
+      traced = read w;
       says = ap₂ (λ (value weight : ℕ). Says.Knapsack value weight) (c .before .value-of .ensures)
           (ap (λ (from : ℕ). at (table f) (from + top h)) (last-is f));
     }
@@ -205,9 +209,9 @@ pack-spec =
     highest-requires
     trace-back-requires
     value-of-requires
-    add-t17
-    mul-t15
-    slice-read-t28
+    add-weight
+    mul-weight
+    slice-read-weight
     same-length
     same-length-2
     returns)
