@@ -72,7 +72,7 @@ module _ (c q : ℕ) (ws vs cs : List ℕ) where
 -- ---- the room
 
 -- 6 where a slice is too short, and 0 for none
-abbrev asks-room : ℕ → ℕ → ℕ → ℕ → ℕ
+abbrev pub asks-room : ℕ → ℕ → ℕ → ℕ → ℕ
 asks-room needed n cells picks = if (leb needed cells && leb n picks) 0 6
 
 -- too few cells; too few picks; or enough of both

@@ -10,8 +10,9 @@ use Rattle.meaning.specs.Job.{Job, jobOf, labels, once, packing, stated-share, 
 use Rattle.meaning.specs.Cuts.{statedCells}
 use Rattle.meaning.specs.Refusals.{jobRefusal, rulesOf}
 use Rattle.numbers.specs.TwoSlices.{listFrom}
+use Rattle.rules.specs.declared.Rules.{Rules}
 use Rattle.rules.specs.Ruling.{rulesFrom}
-use Rattle.planner.proofs.Stating.{as-kind-1, bare, bare-is, bare-passes, few-cells, few-picks, fits, job, q-outside}
+use Rattle.planner.proofs.Stating.{as-kind-1, asks-room, bare, bare-is, bare-passes, few-cells, few-picks, fits, job, q-outside}
 use Rattle.planner.proofs.Stating.{room-enough, then-room}
 use borrow.Author.Needs.{needs}
 use Rattle.planner.proofs.stated_refusal.Statement.{statement}
@@ -22,6 +23,12 @@ abbrev entry : tie.After-job-refusal → tie.Start
 entry c = c .before .before .before .before .before .before .before .before
 
 module _ (c : tie.After-job-refusal) where
+  abbrev budget : ℕ
+  budget = entry c .args .budget
+
+  abbrev q : ℕ
+  q = entry c .args .q
+
   abbrev weights : List ℕ
   weights = listFrom (entry c .args .weights .now) (entry c .args .wbytes .now)
 
@@ -31,12 +38,19 @@ module _ (c : tie.After-job-refusal) where
   abbrev copies : List ℕ
   copies = listFrom (entry c .args .copies .now) (entry c .args .cbytes .now)
 
-  abbrev asked-job : Job
-  asked-job = job (entry c .args .budget) (entry c .args .q) weights values copies
+  abbrev its-job : Job
+  its-job = job budget q weights values copies
 
-  its-rules : rulesFrom (c .before .knapsack-rules .result) false ≡ rulesOf (packing once)
+  abbrev rules : Rules
+  rules = c .before .knapsack-rules .result
+
+  its-rules : rulesFrom rules false ≡ rulesOf (packing once)
   unfolding kindOf allKinds
   its-rules = c .before .knapsack-rules .ensures once refl
+
+  -- 6, or 0 where there is room
+  abbrev room-number : ℕ
+  room-number = asks-room (statedCells its-job) (labels its-job) (entry c .args .cells) (entry c .args .picks)
 
 -- none of them applies, and q is within its bounds
 module _ (c : tie.Else2) where
@@ -46,24 +60,19 @@ module _ (c : tie.Else2) where
   abbrev asked : tie.After-job-refusal
   asked = first .before
 
-  abbrev its-job : Job
-  its-job = asked-job asked
-
-  abbrev cells : ℕ
-  cells = entry asked .args .cells
-
-  abbrev picks : ℕ
-  picks = entry asked .args .picks
-
-  within : fits (entry asked .args .q) ≡ true
+  within : fits (q asked) ≡ true
   within = sym (c .before .q-fits .ensures) ∙ not-false _ (c .if2 .left)
 
   -- so the room is asked about
-  room-next : (later : ℕ) → later ≡ jobRefusal (rulesOf stated-share) its-job later
-  room-next later = then-room _ _ _ _ _ _ _ (its-rules asked) (asked .job-refusal .ensures 9 false) (first .if1 .left) within later
+  room-next : (later : ℕ) → later ≡ jobRefusal (rulesOf stated-share) (its-job asked) later
+  room-next later =
+      then-room (budget asked) (q asked) (weights asked) (values asked) (copies asked) (rules asked) (asked .job-refusal .result) (its-rules asked)
+      (asked .job-refusal .ensures 9 false) (first .if1 .left) within later
 
-  no-copies : its-job ≡ bare (entry asked .args .budget) (entry asked .args .q) (weights asked) (values asked) (copies asked)
-  no-copies = bare-is _ _ _ _ _ _ _ (its-rules asked) (asked .job-refusal .ensures 9 false) (first .if1 .left) within
+  no-copies : its-job asked ≡ bare (budget asked) (q asked) (weights asked) (values asked) (copies asked)
+  no-copies =
+      bare-is (budget asked) (q asked) (weights asked) (values asked) (copies asked) (rules asked) (asked .job-refusal .result) (its-rules asked)
+      (asked .job-refusal .ensures 9 false) (first .if1 .left) within
 
 knapsack-rules-requires : tie.Need-knapsack-rules-requires
 knapsack-rules-requires c κs = search needs
@@ -72,29 +81,36 @@ job-refusal-requires : tie.Need-job-refusal-requires
 job-refusal-requires c κs = search needs
 
 returns : tie.Need-returns
-returns c = as-kind-1 _ _ _ _ _ _ _ (its-rules (c .before)) (c .before .job-refusal .ensures 9 false) (c .if1 .taken) _
+returns c =
+    let a = c .before in
+    as-kind-1 (budget a) (q a) (weights a) (values a) (copies a) (rules a) (a .job-refusal .result) (its-rules a) (a .job-refusal .ensures 9 false)
+    (c .if1 .taken) (room-number a)
 
 q-fits-requires : tie.Need-q-fits-requires
 q-fits-requires c κs = search needs
 
 returns-2 : tie.Need-returns-2
 returns-2 c =
-    let first = c .before .before in
-    q-outside _ _ _ _ _ _ _ (its-rules (first .before)) (first .before .job-refusal .ensures 9 false) (first .if1 .left)
-    (sym (c .before .q-fits .ensures) ∙ not-true _ (c .if2 .taken)) _
+    let a = c .before .before .before in
+    q-outside (budget a) (q a) (weights a) (values a) (copies a) (rules a) (a .job-refusal .result) (its-rules a) (a .job-refusal .ensures 9 false)
+    (c .before .before .if1 .left) (sym (c .before .q-fits .ensures) ∙ not-true _ (c .if2 .taken)) (room-number a)
 
 cells-needed-requires : tie.Need-cells-needed-requires
 cells-needed-requires c κs =
-    bare-passes _ _ _ _ _ _ _ (its-rules (asked c)) (asked c .job-refusal .ensures 9 false) (first c .if1 .left) (within c)
+    let a = asked c in
+    bare-passes (budget a) (q a) (weights a) (values a) (copies a) (rules a) (a .job-refusal .result) (its-rules a) (a .job-refusal .ensures 9 false)
+    (first c .if1 .left) (within c)
 
 -- what was counted is what the job needs
-needed : (c : tie.After-cells-needed) → c .cells-needed .result ≡ statedCells (its-job (c .before))
+needed : (c : tie.After-cells-needed) → c .cells-needed .result ≡ statedCells (its-job (asked (c .before)))
 needed c = c .cells-needed .ensures ∙ ap statedCells (sym (no-copies (c .before)))
 
 returns-3 : tie.Need-returns-3
 returns-3 c =
     let s = c .before .before in
-    few-cells (statedCells (its-job s)) (labels (its-job s)) (cells s) (picks s) (omega (arith, needed (c .before))) ∙ room-next s _
+    let j = its-job (asked s) in
+    let a = entry (asked s) .args in
+    few-cells (statedCells j) (labels j) (a .cells) (a .picks) (omega (arith, needed (c .before))) ∙ room-next s (room-number (asked s))
 
 list-length-requires : tie.Need-list-length-requires
 list-length-requires c κs = search needs
@@ -104,18 +120,22 @@ unfolding jobOf labels
 returns-4 c =
     let counted = c .before in
     let s = counted .before .before .before in
-    few-picks (statedCells (its-job s)) (labels (its-job s)) (cells s) (picks s)
+    let j = its-job (asked s) in
+    let a = entry (asked s) .args in
+    few-picks (statedCells j) (labels j) (a .cells) (a .picks)
     (omega (arith, needed (counted .before .before))) (omega (arith, counted .list-length .ensures))
-    ∙ room-next s _
+    ∙ room-next s (room-number (asked s))
 
 returns-5 : tie.Need-returns-5
 unfolding jobOf labels
 returns-5 c =
     let counted = c .before in
     let s = counted .before .before .before in
-    room-enough (statedCells (its-job s)) (labels (its-job s)) (cells s) (picks s)
+    let j = its-job (asked s) in
+    let a = entry (asked s) .args in
+    room-enough (statedCells j) (labels j) (a .cells) (a .picks)
     (omega (arith, needed (counted .before .before))) (omega (arith, counted .list-length .ensures))
-    ∙ room-next s _
+    ∙ room-next s (room-number (asked s))
 
 pub stated-refusal-spec : {M : Type 1} → statement M
 stated-refusal-spec =
