@@ -89,8 +89,8 @@ filled way x k =
     let room = roomBy way k (tried k .job) in
     lentOf (replicate (room .cells) x) (replicate (room .words) x) (replicate (room .picks) x)
 
--- it goes as the sixteen say (kind 8's as F, which is among them, says, and kind 9's as its definition says), and is read back from its bytes; its answer is no refusal, and its first number isn't 0; with `filled` slices it isn't
--- refused, and its table, where the kind has one, begins with what they are filled with
+-- it goes as the sixteen say (kind 8's as F, which is among them, says; kind 9's by itself), and is read back from its bytes; its answer is no
+-- refusal, and its first number isn't 0; with `filled` slices it isn't refused, and its table, where the kind has one, begins with what they are filled with
 pub record TrialFacts (k : Kind) : Type 0 where
   pub goes : Goes (solve (tried k .job) (tried k .answer) (tried k .picks))
   pub back : readJob (jobBytes (tried k .job)) ≡ readable (tried k .job)

@@ -103,11 +103,15 @@ heavy-between = stated 3 2 (3 ∷ 4 ∷ 2 ∷ []) (9 ∷ 99 ∷ 8 ∷ [])
 abbrev heavy-last : Job
 heavy-last = stated 3 2 (3 ∷ 2 ∷ 4_294_967_295 ∷ []) (9 ∷ 8 ∷ 65_535 ∷ [])
 
-remaining : Computes remain (shareJob gives 2 ∷ heavy-first gives 2 ∷ heavy-between gives 2 ∷ heavy-last gives 2 ∷ stated 0 2 (1 ∷ []) (5 ∷ []) gives 0 ∷ [])
+-- one label, and no budget for it
+abbrev none-fits : Job
+none-fits = stated 0 2 (1 ∷ []) (5 ∷ [])
+
+remaining : Computes remain (shareJob gives 2 ∷ heavy-first gives 2 ∷ heavy-between gives 2 ∷ heavy-last gives 2 ∷ none-fits gives 0 ∷ [])
 unfolding opens
 remaining = refl
 
-greatest : Computes greatestValue (shareJob gives 9 ∷ heavy-first gives 9 ∷ heavy-between gives 9 ∷ heavy-last gives 9 ∷ stated 0 2 (1 ∷ []) (5 ∷ []) gives 0 ∷ [])
+greatest : Computes greatestValue (shareJob gives 9 ∷ heavy-first gives 9 ∷ heavy-between gives 9 ∷ heavy-last gives 9 ∷ none-fits gives 0 ∷ [])
 unfolding opens
 greatest = refl
 
@@ -118,7 +122,7 @@ divisors : Computes divisor (
     ∷ heavy-last gives 2
     ∷ stated 3 3 (3 ∷ 2 ∷ []) (9 ∷ 8 ∷ []) gives 1  -- 9 / 6
     ∷ stated 3 5 (3 ∷ 2 ∷ []) (9 ∷ 8 ∷ []) gives 1  -- 9 / 10 is 0, but at least 1
-    ∷ stated 0 2 (1 ∷ []) (5 ∷ []) gives 1  -- no label remains
+    ∷ none-fits gives 1  -- no label remains
     ∷ stated 9 2 (1 ∷ []) (65_535 ∷ []) gives 32_767
     ∷ []
     )
@@ -134,14 +138,14 @@ cuts : Computes cutValues (
 unfolding opens
 cuts = refl
 
-sums : Computes cutSum (shareJob gives 8 ∷ heavy-first gives 8 ∷ heavy-between gives 8 ∷ heavy-last gives 8 ∷ stated 0 2 (1 ∷ []) (5 ∷ []) gives 0 ∷ [])
+sums : Computes cutSum (shareJob gives 8 ∷ heavy-first gives 8 ∷ heavy-between gives 8 ∷ heavy-last gives 8 ∷ none-fits gives 0 ∷ [])
 unfolding opens
 sums = refl
 
 cells : Computes statedCells (
     shareJob gives 27
     ∷ heavy-last gives 27
-    ∷ stated 0 2 (1 ∷ []) (5 ∷ []) gives 1
+    ∷ none-fits gives 1
     ∷ stated 3 2 [] [] gives 1
     ∷ stated mostBudget 64 (replicate 1_024 1) (replicate 1_024 65_535) gives 68_785_537_025  -- more than 32 bits hold
     ∷ []
@@ -222,7 +226,8 @@ call₉-bytes : SolvedBytes (jobBytes shareJob) (lentOf (replicate 27 9 ++ (7 �
 call₉-bytes = solved-bytes (jobBytes shareJob) shareJob _ _ _ stated-back call₉
 
 -- no label remains: one cell, which is 0
-call-none : Solved (stated 1 2 (2 ∷ 3 ∷ []) (9 ∷ 9 ∷ [])) (lentOf (9 ∷ 7 ∷ []) [] (6 ∷ 6 ∷ [])) (Says.Knapsack 0 0) (lentOf (0 ∷ 7 ∷ []) [] (0 ∷ 0 ∷ []))
+call-none : Solved (stated 1 2 (2 ∷ 3 ∷ []) (9 ∷ 9 ∷ [])) (lentOf (9 ∷ 7 ∷ []) [] (6 ∷ 6 ∷ [])) (Says.Knapsack 0 0)
+    (lentOf (0 ∷ 7 ∷ []) [] (0 ∷ 0 ∷ []))
 unfolding call isStatedTable
 call-none =
     leaves stated-share (stated 1 2 (2 ∷ 3 ∷ []) (9 ∷ 9 ∷ [])) (lentOf (0 ∷ []) [] (0 ∷ 0 ∷ []))

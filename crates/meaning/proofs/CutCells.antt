@@ -31,7 +31,10 @@ module _ (j : Job) (cuts : List ℕ) where
   first-cell = shown
       (record {
         picks = [];
-        fits = record { selection = record { one-each = refl; allowed = λ m h. absurd (not-suc-le-zero h) }; weight = omega (arith, total-none (j .weights)) };
+        fits = record {
+          selection = record { one-each = refl; allowed = λ m h. absurd (not-suc-le-zero h) };
+          weight = omega (arith, total-none (j .weights));
+        };
         cut = total-none cuts;
         heavy = total-none (j .weights);
       })
@@ -56,7 +59,9 @@ module _ (j : Job) (cuts : List ℕ) where
         let long : length (h .picks) ≡ i = h .fits .selection .one-each in
         record {
           picks = h .picks ++ (x ∷ []);
-          fits = fits-more once j i (j .budget) (h .picks) x one (omega arith) (record { selection = h .fits .selection; weight = omega (arith, h .heavy) });
+          fits =
+              fits-more once j i (j .budget) (h .picks) x one (omega arith)
+              (record { selection = h .fits .selection; weight = omega (arith, h .heavy) });
           cut = omega (arith, total-with cuts (h .picks) x i long, h .cut);
           heavy = omega (arith, total-with (j .weights) (h .picks) x i long, h .heavy);
         }
@@ -159,7 +164,8 @@ module _ (j : Job) (cuts : List ℕ) where
         unfolding noWay mostBudget
         cell-lesser x g s s′ light =
             let e : t - a + a ≡ t = omega arith in
-            let made : CutWeight j cuts (suc i) t (g + w) = subst (λ (z : ℕ). CutWeight j cuts (suc i) z (g + w)) e (weight-with (within g (omega arith) s′) light) in
+            let made : CutWeight j cuts (suc i) t (g + w) =
+            subst (λ (z : ℕ). CutWeight j cuts (suc i) z (g + w)) e (weight-with (within g (omega arith) s′) light) in
             elim s [
               | shown h least ↦
                   shown

@@ -32,8 +32,10 @@ use Rattle.meaning.specs.Answers.{AnswerNumbers, Which, is-blocks, is-kn
 use Rattle.meaning.specs.Answers.{answerNumbers}
 use Rattle.meaning.specs.Certificates.{certificateCells}
 use Rattle.meaning.specs.Solved.{Answered, Built, Gives, OnceTable, TableBy, Weighed, a-sum, no-such-sum, waysAnswer}
-use Rattle.meaning.proofs.OneOfEach.{same-list, rows-unique, row-unique, stated-cells-unique, bits-table-unique, label-words-unique, least-shown-unique, ways-shown-unique}
-use Rattle.meaning.proofs.OneOfEach.{packed-unique, best-unique, stated-unique, summed-unique, sum-or-none-unique, laid-unique, ways-given-unique, behind-unique}
+use Rattle.meaning.proofs.OneOfEach.{same-list, rows-unique, row-unique, stated-cells-unique}
+use Rattle.meaning.proofs.OneOfEach.{bits-table-unique, label-words-unique, least-shown-unique, ways-shown-unique}
+use Rattle.meaning.proofs.OneOfEach.{packed-unique, best-unique, stated-unique}
+use Rattle.meaning.proofs.OneOfEach.{summed-unique, sum-or-none-unique, laid-unique, ways-given-unique, behind-unique}
 
 -- ---- the number
 

@@ -192,7 +192,8 @@ best-unique k j i c p q b b′ =
 pub stated-unique : (j : Job) (p q : List ℕ) → StatedPicks j p → StatedPicks j q → p ≡ q
 unfolding StatedPicks
 stated-unique j p q b b′ =
-    chosen-unique statedOrder (labels j) (CutBest j (cutValues j)) p q b b′ (b .one-of .fits .selection .one-each) (b′ .one-of .fits .selection .one-each)
+    chosen-unique statedOrder (labels j) (CutBest j (cutValues j)) p q b b′
+    (b .one-of .fits .selection .one-each) (b′ .one-of .fits .selection .one-each)
 
 same-bit : (x y : Bool) → _≡_ {A = ℕ} (if x 1 0) (if y 1 0) → x ≡ y
 unfolding if

@@ -4,7 +4,8 @@ use Rattle.meaning.specs.Lists.{sum, total, every, upTo, if, tally}
 use Rattle.meaning.specs.Job.{hasQ, budgetCount, jobOf, budgetsOf, labels, allKinds, kindOf}
 use Rattle.meaning.specs.Cuts.{remainOf, remain, thatFit, greatestOf, greatestValue, divisor, cutBy, cutValues, cutSum, statedCells}
 use Rattle.meaning.specs.Lent.{lentOf, roomOf, cellCount, onceRoom, roomBy}
-use Rattle.meaning.specs.Bounds.{mostLabels, mostSizes, mostClaims, mostBudget, mostShared, mostValue, mostCopies, leastCopies, leastQ, mostQ, mostOfOne}
+use Rattle.meaning.specs.Bounds.{mostLabels, mostSizes, mostClaims, mostBudget, mostShared, mostValue}
+use Rattle.meaning.specs.Bounds.{mostCopies, leastCopies, leastQ, mostQ, mostOfOne}
 use Rattle.meaning.specs.Refusals.{positive, ascendingFrom, anything, eachWithin, hasCopies, leastValue, knapsackRules, weightRules}
 use Rattle.meaning.specs.Refusals.{rulesOf, listsFit, boundsFit, qFits, numbersFit, roomFits, claimsFit, jobRefusal, kindRefusal}
 use Rattle.meaning.specs.Bytes.{numberAt, numbersIn, between, isNeeded, wholeSection, readSection, withSection}

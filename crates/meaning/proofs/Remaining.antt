@@ -34,51 +34,51 @@ none-of w zero c h l g = refl
 none-of w (suc x) c h l g = let one : x ≡ 0 = omega arith in absurd (omega (arith, mul-one w, rw one at l))
 
 -- each count at most 1, and no label weighs more than c
-pub record Light (c : ℕ) (ws r : List ℕ) : Type 0 where
-  pub ones : (k : ℕ) → at r k ≤ 1
-  pub within : (k : ℕ) → at ws k * at r k ≤ c
+record EachFits (c : ℕ) (ws r : List ℕ) : Type 0 where
+  ones : (k : ℕ) → at r k ≤ 1
+  within : (k : ℕ) → at ws k * at r k ≤ c
 
-light-rest : {c w x : ℕ} {ws r : List ℕ} → Light c (w ∷ ws) (x ∷ r) → Light c ws r
-light-rest l = record { ones = λ k. l .ones (suc k); within = λ k. l .within (suc k) }
+each-rest : {c w x : ℕ} {ws r : List ℕ} → EachFits c (w ∷ ws) (x ∷ r) → EachFits c ws r
+each-rest l = record { ones = λ k. l .ones (suc k); within = λ k. l .within (suc k) }
 
 -- the sum of such counts is at most the number of labels that weigh at most c
-pub few : (c : ℕ) (ws r : List ℕ) → length r ≡ length ws → Light c ws r → sum r ≤ tally (λ w. leb w c) ws
+few : (c : ℕ) (ws r : List ℕ) → length r ≡ length ws → EachFits c ws r → sum r ≤ tally (λ w. leb w c) ws
 unfolding sum tally if
 few c [] [] e l = zero-le
 few c [] (x ∷ r) e l = absurd (omega arith)
 few c (w ∷ ws) [] e l = zero-le
 few c (w ∷ ws) (x ∷ r) e l =
-    let rest : sum r ≤ tally (λ w. leb w c) ws = few c ws r (omega arith) (light-rest l) in
+    let rest : sum r ≤ tally (λ w. leb w c) ws = few c ws r (omega arith) (each-rest l) in
     elim (tested (leb w c)) [
       | passes t ↦ rw t (omega (arith, l .ones 0))
       | fails t ↦ rw t (omega (arith, none-of w x c (l .ones 0) (l .within 0) (leb-false w c t)))
     ]
 
 -- their total is at most the sum of the numbers of those labels
-pub total-few : (c : ℕ) (ws xs r : List ℕ) → length r ≡ length ws → Light c ws r → total xs r ≤ sum (thatFit c ws xs)
+total-few : (c : ℕ) (ws xs r : List ℕ) → length r ≡ length ws → EachFits c ws r → total xs r ≤ sum (thatFit c ws xs)
 unfolding sum total thatFit if
 total-few c ws [] r e l = zero-le
 total-few c [] (x ∷ xs) [] e l = zero-le
 total-few c [] (x ∷ xs) (y ∷ r) e l = absurd (omega arith)
 total-few c (w ∷ ws) (x ∷ xs) [] e l = zero-le
 total-few c (w ∷ ws) (x ∷ xs) (y ∷ r) e l =
-    let rest : total xs r ≤ sum (thatFit c ws xs) = total-few c ws xs r (omega arith) (light-rest l) in
+    let rest : total xs r ≤ sum (thatFit c ws xs) = total-few c ws xs r (omega arith) (each-rest l) in
     elim (tested (leb w c)) [
       | passes t ↦ rw t (omega (arith, mul-le-mul-left x (l .ones 0), mul-one x))
       | fails t ↦ rw t (omega (arith, ap (λ (z : ℕ). x * z) (none-of w y c (l .ones 0) (l .within 0) (leb-false w c t)), mul-zero x))
     ]
 
 -- the greatest of those numbers, where it isn't 0, is that of a label
-pub record ReachedBy (c : ℕ) (ws xs : List ℕ) (g : ℕ) : Type 0 where
+pub record GreatestAt (c : ℕ) (ws xs : List ℕ) (g : ℕ) : Type 0 where
   pub label : ℕ
   pub inside : label < length ws
   pub light : at ws label ≤ c
   pub number : at xs label ≡ g
 
-later : {c w x g : ℕ} {ws xs : List ℕ} → ReachedBy c ws xs g → ReachedBy c (w ∷ ws) (x ∷ xs) g
+later : {c w x g : ℕ} {ws xs : List ℕ} → GreatestAt c ws xs g → GreatestAt c (w ∷ ws) (x ∷ xs) g
 later r = record { label = suc (r .label); inside = suc-le-suc (r .inside); light = r .light; number = r .number }
 
-pub greatest-reached : (c : ℕ) (ws xs : List ℕ) (g : ℕ) → g ≡ greatestOf (thatFit c ws xs) → 0 < g → ReachedBy c ws xs g
+pub greatest-reached : (c : ℕ) (ws xs : List ℕ) (g : ℕ) → g ≡ greatestOf (thatFit c ws xs) → 0 < g → GreatestAt c ws xs g
 unfolding thatFit greatestOf if
 greatest-reached c [] xs g e h = absurd (omega arith)
 greatest-reached c (w ∷ ws) [] g e h = absurd (omega arith)
@@ -87,7 +87,12 @@ greatest-reached c (w ∷ ws) (x ∷ xs) g e h =
       | passes t ↦
           let e′ : g ≡ max x (greatestOf (thatFit c ws xs)) = rw t at e in
           elim (tested (leb (greatestOf (thatFit c ws xs)) x)) [
-            | passes u ↦ record { label = 0; inside = suc-le-suc zero-le; light = leb-true w c t; number = omega (arith, leb-true (greatestOf (thatFit c ws xs)) x u) }
+            | passes u ↦ record {
+              label = 0;
+              inside = suc-le-suc zero-le;
+              light = leb-true w c t;
+              number = omega (arith, leb-true (greatestOf (thatFit c ws xs)) x u);
+            }
             | fails u ↦ later (greatest-reached c ws xs g (omega (arith, leb-false (greatestOf (thatFit c ws xs)) x u)) h)
           ]
       | fails t ↦ later (greatest-reached c ws xs g (rw t at e) h)
@@ -95,9 +100,9 @@ greatest-reached c (w ∷ ws) (x ∷ xs) g e h =
 
 module _ (j : Job) where
   -- a fitting selection picks no label that is left aside, and each other at most once
-  pub fits-light : (r : List ℕ) → Fits once j (labels j) (j .budget) r → Light (j .budget) (j .weights) r
+  fits-each : (r : List ℕ) → Fits once j (labels j) (j .budget) r → EachFits (j .budget) (j .weights) r
   unfolding MayPick labels
-  fits-light r f = record {
+  fits-each r f = record {
     ones = λ k. at-most k;
     within = λ k. le-trans (total-part (j .weights) r k) (f .weight);
   }
@@ -111,12 +116,14 @@ module _ (j : Job) where
 
   pub few-picked : (r : List ℕ) → Fits once j (labels j) (j .budget) r → sum r ≤ remain j
   unfolding remain remainOf labels
-  few-picked r f = rw (take-all (length (j .weights)) (j .weights) (le-refl (length (j .weights)))) (few (j .budget) (j .weights) r (f .selection .one-each) (fits-light r f))
+  few-picked r f =
+      rw (take-all (length (j .weights)) (j .weights) (le-refl (length (j .weights))))
+      (few (j .budget) (j .weights) r (f .selection .one-each) (fits-each r f))
 
   -- the cut values, or whatever numbers, of a fitting selection sum to no more than those of the remaining labels
   pub total-fitting : (xs r : List ℕ) → Fits once j (labels j) (j .budget) r → total xs r ≤ sum (thatFit (j .budget) (j .weights) xs)
   unfolding labels
-  total-fitting xs r f = total-few (j .budget) (j .weights) xs r (f .selection .one-each) (fits-light r f)
+  total-fitting xs r f = total-few (j .budget) (j .weights) xs r (f .selection .one-each) (fits-each r f)
 
 -- ---- how many of the first labels remain
 
@@ -160,10 +167,12 @@ passed-by test (w ∷ ws) (suc r) h =
     elim (tested (test w)) [
       | passes t ↦
           let one : _≡_ {A = ℕ} (if (test w) 1 0) 1 = rw t in
-          subst (λ (z : ℕ). Passed test (w ∷ ws) z) (let q : 1 + r ≡ suc r = omega arith in q) (passed-later test w 1 r ws one (passed-by test ws r (omega arith)))
+          let more : 1 + r ≡ suc r = omega arith in
+          subst (λ (z : ℕ). Passed test (w ∷ ws) z) more (passed-later test w 1 r ws one (passed-by test ws r (omega arith)))
       | fails t ↦
           let none : _≡_ {A = ℕ} (if (test w) 1 0) 0 = rw t in
-          subst (λ (z : ℕ). Passed test (w ∷ ws) z) (let q : 0 + suc r ≡ suc r = omega arith in q) (passed-later test w 0 (suc r) ws none (passed-by test ws (suc r) (omega arith)))
+          let same : 0 + suc r ≡ suc r = omega arith in
+          subst (λ (z : ℕ). Passed test (w ∷ ws) z) same (passed-later test w 0 (suc r) ws none (passed-by test ws (suc r) (omega arith)))
     ]
 
 -- the first labels of which r remain

@@ -152,5 +152,6 @@ module _ (j : Job) where
     unfolding isStatedTable StatedTable
     stated-table-out h i t hi ht =
         elim (or-yes (isLeast i t (cellFor i t)) (isNone i t (cellFor i t))
-        (below-out (suc (cutSum j)) (isCell i) (below-out (suc (labels j)) (λ i′. below (suc (cutSum j)) (isCell i′)) h i (suc-le-suc hi)) t (suc-le-suc ht)))
+        (below-out (suc (cutSum j)) (isCell i)
+        (below-out (suc (labels j)) (λ i′. below (suc (cutSum j)) (isCell i′)) h i (suc-le-suc hi)) t (suc-le-suc ht)))
         [ inl s ↦ least-out i t (cellFor i t) s | inr n ↦ none-out i t (cellFor i t) n ]

@@ -36,7 +36,10 @@ record Numbers (j : Job) (v w : ℕ) (p : List ℕ) : Type 0 where
 
 packed-numbers : {Choice : List ℕ → Type 0} {j : Job} (v w : ℕ) {p : List ℕ} → Packed Choice j (answerNumbers (Says.Knapsack v w)) p → Numbers j v w p
 unfolding answerNumbers
-packed-numbers v w g = record { value = ap (λ (s : AnswerNumbers). s .value) (g .numbers); weight = ap (λ (s : AnswerNumbers). s .weight) (g .numbers) }
+packed-numbers v w g = record {
+  value = ap (λ (s : AnswerNumbers). s .value) (g .numbers);
+  weight = ap (λ (s : AnswerNumbers). s .weight) (g .numbers);
+}
 
 -- ---- a job of kind 9 that is answered by v and w
 
@@ -45,7 +48,8 @@ module _ (way : Way) (C q : ℕ) (weights values copies : List ℕ) (before afte
   asNine = jobOf 9 (C ∷ q ∷ []) weights values copies
 
   module _ (solved : SolvedBy way asNine before (Says.Knapsack v w) after) where
-    answered : Answered (roomBy way stated-share asNine) (TableBy way stated-share asNine) stated-share asNine before (answerNumbers (Says.Knapsack v w)) after
+    answered : Answered (roomBy way stated-share asNine) (TableBy way stated-share asNine) stated-share asNine before
+        (answerNumbers (Says.Knapsack v w)) after
     unfolding jobOf kindOf allKinds answerNumbers refusals
     answered = some-answer stated-share asNine before after (Says.Knapsack v w) refl refl solved
 

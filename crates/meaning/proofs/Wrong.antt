@@ -183,7 +183,7 @@ traced-last b =
     let first : _≡_ {A = ℕ} 0 1 = ap (λ (l : List ℕ). at l 0) same in
     omega arith
 
--- ---- kind 9: the best value where another is asked for, the value in cut values, the heavier label of equal cut values; a cell that isn't the least weight
+-- ---- kind 9: the best value, the value in cut values or the heavier of two labels with one cut value; a cell that isn't the least weight
 
 module _ {way : Way} (before after : Lent) (ok : UnrefusedBy way stated-share shareJob before) where
   says-8 : (a : Answer) → SolvedBy way shareJob before a after → (a ≡ Says.Knapsack 8 2) × Holds (0 ∷ 1 ∷ []) (before .picks) (after .picks)

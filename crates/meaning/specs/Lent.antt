@@ -4,7 +4,8 @@ use Prim.Native.Nat.{ℕ, _+_, _*_, _/_}
 use mathlib.Core.List.{List}
 use Rattle.meaning.specs.declared.Way.{Way}
 use Rattle.meaning.specs.declared.Way.the-variants.{Light, Full}
-use Rattle.meaning.specs.Job.{Job, labels, once, limited, free, Kind, packing, subset-sums, fewest-blocks, block-ways, sharing, labels-behind, stated-share}
+use Rattle.meaning.specs.Job.{Job, labels, once, limited, free, Kind, packing, subset-sums, fewest-blocks, block-ways, sharing}
+use Rattle.meaning.specs.Job.{labels-behind, stated-share}
 use Rattle.meaning.specs.Cuts.{statedCells}
 
 -- what the slices hold: a table of 32-bit cells, a table of 64-bit words, and picks

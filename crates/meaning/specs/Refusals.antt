@@ -10,7 +10,8 @@ use lib.Dec.{leb, ltb, eqb}
 use lib.ListN.{length}
 use Rattle.meaning.specs.Bounds.{mostLabels, mostSizes, mostClaims, mostBudget, mostShared, mostValue, mostCopies, leastCopies, leastQ, mostQ}
 use Rattle.meaning.specs.Lists.{sum, every, if}
-use Rattle.meaning.specs.Job.{Job, labels, Knapsack, once, limited, free, Kind, packing, subset-sums, fewest-blocks, block-ways, sharing, labels-behind, stated-share}
+use Rattle.meaning.specs.Job.{Job, labels, Knapsack, once, limited, free, Kind, packing, subset-sums, fewest-blocks, block-ways, sharing}
+use Rattle.meaning.specs.Job.{labels-behind, stated-share}
 use Rattle.meaning.specs.Lent.{Lent, Room}
 
 -- ---- rules on the numbers of a list
@@ -34,7 +35,7 @@ eachWithin low high xs = every (λ x. leb low x && leb x high) xs
 
 -- ---- the rules of a kind
 
--- which lists it uses, its bounds on n and C, its rule on weights, its least value, whether the weights' sum S has to be positive, and whether it has a q
+-- which lists it uses, its bounds on n and C, its rule on weights, its least value, whether the weights' sum S has to be positive, whether it has a q
 pub record Rules : Type 0 where
   pub uses-values : Bool
   pub uses-copies : Bool

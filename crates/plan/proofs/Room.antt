@@ -12,7 +12,8 @@ use Rattle.meaning.specs.declared.Answer.{Answer}
 use Rattle.meaning.specs.declared.Answer.the-variants as Says
 use Rattle.meaning.specs.declared.Way.the-variants.{Light}
 use Rattle.meaning.specs.Lists.{if}
-use Rattle.meaning.specs.Job.{Job, labels, Kind, once, limited, free, packing, subset-sums, fewest-blocks, block-ways, sharing, labels-behind, stated-share, kindOf}
+use Rattle.meaning.specs.Job.{Job, labels, Kind, once, limited, free, packing, subset-sums, fewest-blocks, block-ways}
+use Rattle.meaning.specs.Job.{sharing, labels-behind, stated-share, kindOf}
 use Rattle.meaning.specs.Lent.{Lent, onceRoom, roomBy, roomFor, roomOf}
 use Rattle.meaning.specs.Refusals.{kindRefusal}
 use Rattle.meaning.specs.Bytes.{JobRead, readJob, readable, unreadable}

@@ -14,7 +14,8 @@ use Rattle.meaning.specs.declared.Answer.{Answer}
 use Rattle.meaning.specs.declared.Answer.the-variants as Says
 use Rattle.meaning.specs.declared.Way.the-variants.{Light}
 use Rattle.meaning.specs.Lists.{at, if}
-use Rattle.meaning.specs.Job.{Job, Kind, block-ways, fewest-blocks, free, jobOf, kindOf, labels, limited, once, packing, sharing, labels-behind, stated-share, subset-sums}
+use Rattle.meaning.specs.Job.{Job, Kind, block-ways, fewest-blocks, free, jobOf, kindOf, labels, limited, once}
+use Rattle.meaning.specs.Job.{packing, sharing, labels-behind, stated-share, subset-sums}
 use Rattle.meaning.specs.Lent.{Lent, roomFor}
 use Rattle.meaning.specs.Refusals.{kindRefusal}
 use Rattle.meaning.specs.Bytes.{jobBytes, readJob, readable}

@@ -151,8 +151,8 @@ pub no-copies : (k : Kind) (j : Job) (later : ℕ) → rulesOf k .uses-copies �
 unfolding listsFit
 no-copies k j later unused none =
     let (v, c) =
-    and-yes (eqb (length (j .values)) (if (rulesOf k .uses-values) (labels j) 0)) (eqb (length (j .copies)) (if (rulesOf k .uses-copies) (labels j) 0))
-    (has-passed (rulesOf k) j later none .lists) in
+    and-yes (eqb (length (j .values)) (if (rulesOf k .uses-values) (labels j) 0))
+    (eqb (length (j .copies)) (if (rulesOf k .uses-copies) (labels j) 0)) (has-passed (rulesOf k) j later none .lists) in
     no-members (j .copies) _ (labels j) unused c
 
 pub without-copies : {way : Way} {k : Kind} (kind : ℕ) (budgets ws vs cs : List ℕ) {lent : Lent} {r : ℕ} → rulesOf k .uses-copies ≡ false

@@ -96,5 +96,6 @@ unfolding roomFits roomBy roomOf lentOf kindOf allKinds
 stated-lowest j cells words picks r nine asked = record {
   of-kind = rw nine;
   lowest = asked ∙ ap (λ (enough : Bool). jobRefusal (rulesOf stated-share) j (if (enough && leb (labels j) (length picks)) 0 6))
-      (sym (and-true (leb (statedCells j) (length cells))) ∙ ap (λ (b : Bool). leb (statedCells j) (length cells) && b) (sym (leb·zero (length words))));
+      (sym (and-true (leb (statedCells j) (length cells)))
+      ∙ ap (λ (b : Bool). leb (statedCells j) (length cells) && b) (sym (leb·zero (length words))));
 }

@@ -179,7 +179,10 @@ module _ (b : List ℕ) where
                   })
               unfolding atEnd if listFrom bytesAt
               parts-read e f g h = record {
-                read = so-far-5 ∙ simp (e, le-ltb p₅ (length b) h) (ap readable (rw kind-read (same-budgets (numberAt b kind) _ _ _ budgets _ _ (first ∙ sym f) (λ has. last has ∙ sym g))));
+                read =
+                    so-far-5
+                    ∙ simp (e, le-ltb p₅ (length b) h)
+                    (ap readable (rw kind-read (same-budgets (numberAt b kind) _ _ _ budgets _ _ (first ∙ sym f) (λ has. last has ∙ sym g))));
                 weights-within = within Any b p₂ weights n₃ p₃ e₃;
                 values-within = within Any b p₃ values n₄ p₄ e₄;
                 copies-within = within Any b p₄ copies n₅ p₅ e₅;

@@ -10,7 +10,8 @@ use Rattle.meaning.specs.Job.{budgetCount}
 use Rattle.meaning.specs.Bytes.{numberAt}
 use Rattle.meaning.proofs.Budgets.{some-budget}
 use Rattle.requests.specs.Reading.{ReadAs}
-use Rattle.requests.proofs.Reading.{Whole, breaks, broken-1, broken-2, broken-3, broken-4, broken-5, left-over, parts-read, one-inside, last-inside, last-there}
+use Rattle.requests.proofs.Reading.{Whole, breaks, broken-1, broken-2, broken-3, broken-4, broken-5, left-over, parts-read}
+use Rattle.requests.proofs.Reading.{one-inside, last-inside, last-there}
 use borrow.Author.Needs.{needs}
 use Rattle.requests.proofs.read_job.Statement.{statement}
 use Rattle.requests.proofs.read_job.Tie as tie
@@ -164,7 +165,8 @@ returns-5 c =
     let read = c .before .before .before in
     let s = read .before .before in
     breaks _ (read .read-section5 .ensures) (c .before .enum-told5 .given .1)
-    (broken-5 _ (whole-1 (first (second (third s)))) (by-kind (counted (second (third s)))) (whole-2 (second (third s))) (whole-3 (third s)) (whole-4 s) _) (c .broken5 .ensures)
+    (broken-5 _ (whole-1 (first (second (third s)))) (by-kind (counted (second (third s)))) (whole-2 (second (third s)))
+    (whole-3 (third s)) (whole-4 s) _) (c .broken5 .ensures)
 
 returns-6 : tie.Need-returns-6
 unfolding ReadAs
