@@ -7,8 +7,7 @@ use native.Mathlib.Decide.{decLe}
 use native.Mathlib.Omega.{arith}
 use mathlib.Core.List.{List, [], _∷_, _++_}
 use lib.ListN.{length}
-use borrow.Author.Tests.{le-leb, lt-leb}
-use Rattle.meaning.specs.Lists.{at, total, if}
+use Rattle.meaning.specs.Lists.{at, total}
 use Rattle.meaning.specs.Job.{Job, once}
 use Rattle.meaning.specs.Cells.{LeastShown, shown, none-shown, noWay}
 use Rattle.meaning.specs.Bounds.{mostBudget}

@@ -7,7 +7,7 @@ use native.Mathlib.Nat.{mul-one, mul-zero, mul-le-mul-left, le-trans, le-refl, n
 use native.Mathlib.Decide.{decLt}
 use native.Mathlib.Omega.{arith}
 use mathlib.Core.Bool.{Bool, true, false}
-use mathlib.Core.List.{List, [], _∷_, _++_}
+use mathlib.Core.List.{List, [], _∷_}
 use lib.Dec.{leb}
 use lib.ListN.{length, take, List·getD-eq-default}
 use lib.Seq.{take-all, take-suc}

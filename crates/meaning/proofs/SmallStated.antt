@@ -1,6 +1,6 @@
 -- Kind 9 on a small job: the picks can be tested over all lists of counts, and the table cell by cell.
 -- Assumes nothing.
-use mathlib.Core.Path.{_≡_, refl, subst}
+use mathlib.Core.Path.{_≡_, subst}
 use mathlib.Core.Logic.{inl, inr}
 use Prim.Native.Nat.{ℕ, suc, _≤_, suc-le-suc}
 use native.Mathlib.Nat.{le-antisymm, le-of-eq, le-of-lt}

@@ -13,8 +13,7 @@ use Rattle.meaning.specs.declared.Way.the-variants.{Light}
 use Rattle.meaning.specs.Slices.{Holds}
 use Rattle.meaning.specs.Job.{Job, Kind, labels}
 use Rattle.meaning.specs.Lent.{Lent, lentOf, roomBy, roomFor}
-use Rattle.meaning.specs.Bounds.{leastCopies, mostCopies, mostValue}
-use Rattle.meaning.specs.Refusals.{boundsFit, claimsFit, eachWithin, kindRefusal, numbersFit, roomFits, rulesOf}
+use Rattle.meaning.specs.Refusals.{boundsFit, claimsFit, kindRefusal, roomFits, rulesOf}
 use Rattle.meaning.specs.Answers.{answerNumbers}
 use Rattle.meaning.specs.Solved.{Gives, TableBy, TableHolds, Unrefused, UnrefusedBy}
 use Rattle.meaning.specs.SolvedIn.{SolvedInCellsBy, SolvedInWords, SolvedInPicks}

@@ -1,8 +1,7 @@
 -- Kind 9, over the planner's promise: its value is the stated share of kind 1's, it is the best where the divisor is 1, and 0 where no label remains.
 -- And q has no influence on any other kind.
 -- Assumes nothing.
-use mathlib.Core.Path.{_≡_, refl, sym, ap, _∙_}
-use mathlib.Core.Option.{some}
+use mathlib.Core.Path.{_≡_, refl, ap, _∙_}
 use Prim.Native.Nat.{ℕ, _+_, _-_, _*_, _≤_, zero-le}
 use native.Mathlib.Nat.{le-antisymm, zero-mul}
 use native.Mathlib.Omega.{arith}

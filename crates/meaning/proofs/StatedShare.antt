@@ -7,13 +7,12 @@ use native.Mathlib.Nat.{div-mul-le-self, lt-mul-div-succ, div-one, pos-of-div-po
 use native.Mathlib.Decide.{decLe, ℕ-discrete}
 use native.Mathlib.Omega.{arith}
 use mathlib.Core.List.{List, [], _∷_, map}
-use lib.ListN.{length, set, replicate, length-replicate, getD-replicate, length-set}
+use lib.ListN.{length, replicate, length-replicate, getD-replicate}
 use Rattle.meaning.specs.Lists.{at, sum, total}
 use Rattle.meaning.specs.Job.{Job, labels, once}
 use Rattle.meaning.specs.Knapsacks.{Fits, MayPick}
 use Rattle.meaning.specs.Cuts.{remain, greatestValue, divisor, cutBy, cutValues}
 use Rattle.meaning.specs.Stated.{CutBest, StatedPicks}
-use Rattle.meaning.proofs.EachLabel.{total-one}
 use Rattle.meaning.proofs.Totals.{one-more, length-more, more-total, at-more, at-more-other, sum-zeros, zero-total}
 use Rattle.meaning.proofs.Remaining.{greatest-reached, few-picked}
 

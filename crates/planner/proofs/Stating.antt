@@ -10,7 +10,7 @@ use borrow.Author.Tests.{le-leb, lt-leb}
 use Rattle.meaning.specs.Lists.{if}
 use Rattle.meaning.specs.Job.{Job, jobOf, labels, once, packing, stated-share, kindOf, allKinds, hasQ}
 use Rattle.meaning.specs.Cuts.{statedCells}
-use Rattle.meaning.specs.Lent.{Lent, lentOf, roomBy, roomOf}
+use Rattle.meaning.specs.Lent.{lentOf, roomBy, roomOf}
 use Rattle.meaning.specs.Bounds.{leastQ, mostQ}
 use Rattle.meaning.specs.Refusals.{hasCopies, jobRefusal, knapsackRules, roomFits, rulesOf}
 use Rattle.meaning.proofs.Loops.{and-true}

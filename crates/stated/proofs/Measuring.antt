@@ -1,6 +1,6 @@
 -- The loops that measure a job: the numbers of the labels that remain, from label i on; and cut values one by one.
 -- Assumes nothing.
-use mathlib.Core.Path.{_≡_, refl, sym, ap, _∙_}
+use mathlib.Core.Path.{_≡_, refl, sym, ap}
 use Prim.Native.Nat.{ℕ, zero, suc, _+_, _/_, _≤_, _<_, max, zero-le}
 use native.Mathlib.Nat.{zero-div, not-suc-le-zero}
 use native.Mathlib.Numerals.{add-one}

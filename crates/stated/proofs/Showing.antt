@@ -6,7 +6,7 @@ use mathlib.Core.List.{List}
 use lib.ListN.{length}
 use Rattle.meaning.specs.Lists.{at}
 use Rattle.meaning.specs.Cells.{LeastShown, noWay}
-use Rattle.meaning.specs.Job.{Job, labels}
+use Rattle.meaning.specs.Job.{Job}
 use Rattle.meaning.specs.Bounds.{mostBudget}
 use Rattle.meaning.specs.Stated.{CutWeight}
 use Rattle.meaning.proofs.CutCells.{first-cell, first-others, cell-aside, cell-short, cell-lesser, cell-past}

@@ -3,7 +3,7 @@
 use mathlib.Core.Path.{_≡_, refl, subst}
 use Prim.Native.Nat.{ℕ}
 use mathlib.Core.List.{List, [], _∷_}
-use Rattle.meaning.specs.Job.{Job, jobOf, once, stated-share}
+use Rattle.meaning.specs.Job.{Job, jobOf, stated-share}
 use Rattle.meaning.specs.Lent.{Lent, lentOf}
 use Rattle.meaning.specs.Refusals.{claimsFit, hasCopies, knapsackRules, rulesOf}
 use Rattle.meaning.specs.Solved.{Unrefused}
