@@ -30,7 +30,7 @@ greatestOf (x ∷ xs) = max x (greatestOf xs)
 unfoldable pub greatestValue : Job → ℕ
 greatestValue j = greatestOf (thatFit (j .budget) (j .weights) (j .values))
 
--- the whole part of p divided by the product of m and q, but at least 1
+-- the whole part of p divided by the product of m and q, but at least 1; so it is 1 where none remains, since a quotient by 0 is 0
 unfoldable pub divisor : Job → ℕ
 divisor j = max 1 (greatestValue j / (remain j * j .q))
 

@@ -108,7 +108,7 @@ boundsFit r j = leb (labels j) (r .label-bound) && leb (j .budget) (r .budget-bo
 
 -- q is from 2 to 100, in a kind that has one
 unfoldable pub qFits : Rules → Job → Bool
-qFits r j = not (r .uses-q) || leb leastQ (j .q) && leb (j .q) mostQ
+qFits r j = not (r .uses-q) || (leb leastQ (j .q) && leb (j .q) mostQ)
 
 -- 5: every weight, value and copies number keeps its rule, and so does q
 unfoldable pub numbersFit : Rules → Job → Bool
