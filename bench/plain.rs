@@ -24,7 +24,7 @@ pub fn solve(bytes: &[u8], lent: Lent, scratch: &mut Scratch, way: Way) -> Answe
         FEWEST => fewest_blocks(&scratch.job, lent),
         WAYS => ways(&scratch.job, lent.words),
         LABELS_BEHIND => labels_behind(&scratch.job, lent, reach),
-        STATED_SHARE => stated_share(&scratch.job, lent),
+        STATED_SHARE => stated_share(&scratch.job, lent, lighten),
         _ => shares(scratch, lent.picks, |order, remainders, _| {
             order.sort_unstable_by_key(|&i| (Reverse(remainders[i as usize]), i));
         }),
@@ -352,8 +352,8 @@ fn behind_back(job: &Job, row: &[u32], picks: &mut [u32]) -> Answer {
     answered(0, job.budget.into(), 0)
 }
 
-/// Kind 9: a row for each label that remains, with the least weight for each total of cut values.
-fn stated_share(job: &Job, lent: Lent) -> Answer {
+/// Kind 9: a row for each label that remains, with the least weight for each total of cut values, by the pass that is given.
+pub fn stated_share(job: &Job, lent: Lent, lighten: impl Fn(&[u32], &mut [u32], usize, u32, u32)) -> Answer {
     let cuts = job.cuts();
     let width = cuts.width();
     lent.cells[..width].fill(NO_WAY);
