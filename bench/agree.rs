@@ -51,16 +51,17 @@ fn small_job(draw: &mut Draw) -> Vec<u8> {
             let other = draw.number(0, LAST_KIND + 2);
             return bytes_of(other, &budgets_of(other, budget * 1_000, q), &weights, &values, &copies);
         }
-        4 => {
-            let mut bytes = bytes_of(kind, &budgets, &weights, &values, &copies);
-            let at = draw.number(0, bytes.len() as u32 - 1) as usize;
-            bytes[at] = draw.number(0, 255) as u8;
-            return bytes;
-        }
+        4 => return with_a_byte_changed(draw, bytes_of(kind, &budgets, &weights, &values, &copies)),
         5 => budgets.resize(draw.number(0, 3) as usize, LEAST_Q),
         _ => {}
     }
     bytes_of(kind, &budgets, &weights, &values, &copies)
+}
+
+fn with_a_byte_changed(draw: &mut Draw, mut bytes: Vec<u8>) -> Vec<u8> {
+    let at = draw.number(0, bytes.len() as u32 - 1) as usize;
+    bytes[at] = draw.number(0, 255) as u8;
+    bytes
 }
 
 /// In kind 9 of three sizes, so that they are cut by 1, by 2 and by more.

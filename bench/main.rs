@@ -288,27 +288,27 @@ fn growth_of_stated() {
     }
 }
 
-/// The same labels and C as kind 1 and as kind 9, each in the library: which takes longer, as labels become more and for several q.
+/// The same labels and C as kind 1 and as kind 9, each by the library alone, with numbers of labels on both sides of where the two take as long.
 fn stated_beside_once() {
-    const QS: [u32; 4] = [2, 4, 10, 100];
-    /// As many as the full table of kind 1 has in the longest line.
-    const MOST_CELLS: usize = 61_000_000;
-    println!("\n| The same labels as kind 1 and as kind 9 | Kind 1 | {} |", QS.map(|q| format!("Kind 9, q {q} | Ratio")).join(" | "));
+    const QS: [u32; 3] = [2, 10, 100];
+    println!("\n| The same labels | Kind 1 | {} |", QS.map(|q| format!("Kind 9, q {q} | To kind 1")).join(" | "));
     println!("|---|---{}|", "|---|---".repeat(QS.len()));
-    for (budget, heaviest, counts) in [(MOST_BUDGET, 3_000, [10, 25, 50, 75, 100, 150, 200, 250]), (500, 100, [2, 5, 10, 15, 20, 25, 50, 100])] {
+    for (budget, heaviest, counts) in [(MOST_BUDGET, 3_000, [10, 25, 50, 100, 200, 300]), (500, 100, [3, 5, 10, 15, 30, 50])] {
         for n in counts {
             let once = jobs::labels(ONCE, n, budget, heaviest);
-            let alone = |job: &Job| solved(job, Way::Light, 1).best[0];
-            let by_once = alone(&once);
-            let beside = QS.map(|q| {
-                let job = jobs::stated(n, budget, heaviest, q);
-                if job.room(Way::Light)[0] > MOST_CELLS {
-                    return " | ".to_string();
-                }
-                let best = alone(&job);
-                format!("{} | {:.2}", time(best), best / by_once)
-            });
+            let by_once = solved(&once, Way::Light, 1).best[0];
+            let beside = QS.map(|q| beside(by_once, &jobs::stated(n, budget, heaviest, q)));
             println!("| {} | {} | {} |", once.name.trim_start_matches("kind 1, "), time(by_once), beside.join(" | "));
         }
     }
+}
+
+/// A job's time, and its ratio to another time; nothing where the table is larger than that of the longest line of kind 1 in full.
+fn beside(other: f64, job: &Job) -> String {
+    const MOST_CELLS: usize = 1_001 * 60_001;
+    if job.room(Way::Light)[0] > MOST_CELLS {
+        return " | ".to_string();
+    }
+    let best = solved(job, Way::Light, 1).best[0];
+    format!("{} | {:.2}", time(best), best / other)
 }
