@@ -1,11 +1,11 @@
 //! Before anything is timed: the Rust gives the library's answers and verdicts, on small jobs and certificates of which many are refused.
 use crate::bounds::{
     are_sizes, copies_used, full_table, most_of, row, values_used, Way, FIRST_CERTIFICATE_REFUSAL, LAST_CHECKED_KIND, LAST_KIND, LAST_REFUSAL,
-    LEAST_COPIES, MOST_BUDGET, MOST_VALUE, ONCE,
+    LEAST_COPIES, LEAST_Q, MOST_BUDGET, MOST_Q, MOST_VALUE, ONCE, STATED_SHARE,
 };
 use crate::checker::{check, Plain, Strong, Verdict};
 use crate::families::Labels;
-use crate::jobs::{bytes_of, said, Draw};
+use crate::jobs::{budgets_of, bytes_of, said, Draw};
 use crate::ours;
 use crate::plain;
 use crate::quick;
@@ -38,29 +38,58 @@ fn small_job(draw: &mut Draw) -> Vec<u8> {
         weights.dedup();
     }
     let n = weights.len();
-    let mut values = draw.list(values_used(kind, n), 1, 9);
+    let mut values = small_values(draw, kind, n);
     let most_copies = [4, MOST_C + 9][draw.number(0, 1) as usize];
     let copies = draw.list(copies_used(kind, n), LEAST_COPIES, most_copies);
-    match draw.number(0, 9) {
+    let q = small_q(draw);
+    let mut budgets = budgets_of(kind, budget, q);
+    match draw.number(0, 10) {
         0 => values.push(1),
         1 => weights.iter_mut().for_each(|w| *w -= 1),
         2 => values.iter_mut().for_each(|v| *v *= 10_000),
-        3 => return bytes_of(draw.number(0, LAST_KIND + 2), budget * 1_000, &weights, &values, &copies),
-        4 => {
-            let mut bytes = bytes_of(kind, budget, &weights, &values, &copies);
-            let at = draw.number(0, bytes.len() as u32 - 1) as usize;
-            bytes[at] = draw.number(0, 255) as u8;
-            return bytes;
+        3 => {
+            let other = draw.number(0, LAST_KIND + 2);
+            return bytes_of(other, &budgets_of(other, budget * 1_000, q), &weights, &values, &copies);
         }
+        4 => return with_a_byte_changed(draw, bytes_of(kind, &budgets, &weights, &values, &copies)),
+        5 => budgets.resize(draw.number(0, 3) as usize, LEAST_Q),
         _ => {}
     }
-    bytes_of(kind, budget, &weights, &values, &copies)
+    bytes_of(kind, &budgets, &weights, &values, &copies)
 }
 
-/// Like tables, full of dirt and now and then too short.
-fn dirty<const COUNT: usize>(draw: &mut Draw) -> [Table; COUNT] {
+fn with_a_byte_changed(draw: &mut Draw, mut bytes: Vec<u8>) -> Vec<u8> {
+    let at = draw.number(0, bytes.len() as u32 - 1) as usize;
+    bytes[at] = draw.number(0, 255) as u8;
+    bytes
+}
+
+/// In kind 9 of three sizes, so that they are cut by 1, by 2 and by more.
+fn small_values(draw: &mut Draw, kind: u32, n: usize) -> Vec<u32> {
+    let greatest = if kind == STATED_SHARE { [9, 60, MOST_VALUE][draw.number(0, 2) as usize] } else { 9 };
+    draw.list(values_used(kind, n), 1, greatest)
+}
+
+/// Mostly small, so that a table that isn't short is long enough; now and then past its bounds.
+fn small_q(draw: &mut Draw) -> u32 {
+    match draw.number(0, 4) {
+        0 => draw.number(0, MOST_Q + 2),
+        _ => draw.number(LEAST_Q, 5),
+    }
+}
+
+/// The cells that a job needs in the light way, if it isn't refused for another reason.
+fn cells_needed(bytes: &[u8], job: &mut Job) -> Option<usize> {
+    let is_valid = job.read(bytes).is_some() && (1..=LAST_KIND).contains(&job.kind) && job.rule_broken() == 0;
+    is_valid.then(|| job.room(Way::Light)[0])
+}
+
+/// Like tables, full of dirt and now and then too short, by much or by one cell.
+fn dirty<const COUNT: usize>(draw: &mut Draw, needed: Option<usize>) -> [Table; COUNT] {
     let most = MOST_N as usize;
-    let cells = [full_table(most, MOST_C) + 9, row(MOST_C) + 9, 20][draw.number(0, 2) as usize];
+    let longest = full_table(most, MOST_C) + 9;
+    let just = needed.map_or(longest, |cells| (cells + 1).saturating_sub(draw.number(1, 2) as usize).min(longest));
+    let cells = [longest, longest, row(MOST_C) + 9, 20, just][draw.number(0, 4) as usize];
     let words = [row(MOST_C) + 9, 1][draw.number(0, 1) as usize];
     [(); COUNT].map(|()| Table { cells: vec![7; cells], words: vec![7; words], picks: vec![7; most + 1] })
 }
@@ -125,10 +154,12 @@ pub fn compare() {
     let mut scratch = plain::Scratch::default();
     let (mut job, mut strong) = (Job::default(), Strong::default());
     let mut seen = [0; LAST_REFUSAL + 1];
+    let mut divisors = [0; 4];
     let mut judged = [[0; LAST_REFUSAL + 1]; LAST_CHECKED_KIND as usize + 1];
     for _ in 0..JOBS {
         let bytes = small_job(&mut draw);
-        let [mut one, mut other, mut third, mut full, mut other_full] = dirty(&mut draw);
+        let needed = cells_needed(&bytes, &mut job);
+        let [mut one, mut other, mut third, mut full, mut other_full] = dirty(&mut draw, needed);
         let answer = ours::solve(&bytes, one.lend(), Way::Light);
         same("plain Rust", &bytes, plain::solve(&bytes, other.lend(), &mut scratch, Way::Light) == answer && one == other);
         if strong::KINDS.contains(&scratch.job.kind) {
@@ -140,11 +171,17 @@ pub fn compare() {
         let certificate = small_certificate(&mut draw, &full, &bytes, scratch.job.weights.len());
         let (verdict, _) = same_verdict(&bytes, &certificate, &mut job, &mut strong);
         seen[answer.refusal as usize] += 1;
+        if job.kind == STATED_SHARE && answer.refusal == 0 {
+            divisors[job.cuts().divisor.min(3) as usize] += 1;
+        }
         if let Some(of_kind) = judged.get_mut(job.kind as usize) {
             of_kind[verdict as usize] += 1;
         }
     }
     println!("{} small jobs and their certificates: no difference. Refusals that came up: {}.", said(JOBS), times(&seen, 1));
+    let [_, one, two, more] = divisors;
+    assert!(one > 0 && two > 0 && more > 0, "a divisor of kind 9 never came up");
+    println!("Kind 9 answered: by the divisor 1 {} times, by 2 {} times, by more {} times.", said(one), said(two), said(more));
     for (kind, of_kind) in judged.iter().enumerate().skip(1) {
         assert!(of_kind[0] > 0 && !of_kind[FIRST_CERTIFICATE_REFUSAL..].contains(&0), "a verdict on kind {kind} never came up");
         println!("Certificates of kind {kind}: accepted {} times; refused with {}.", said(of_kind[0]), times(of_kind, FIRST_CERTIFICATE_REFUSAL));

@@ -1,4 +1,5 @@
 //! What the documents say in numbers, each once: the kinds, their bounds and the room that each needs. Rust's own, as tests/bounds.h is C's.
+use std::iter::zip;
 
 pub const ONCE: u32 = 1;
 pub const COPIES: u32 = 2;
@@ -8,17 +9,21 @@ pub const FEWEST: u32 = 5;
 pub const WAYS: u32 = 6;
 pub const SHARES: u32 = 7;
 pub const LABELS_BEHIND: u32 = 8;
+pub const STATED_SHARE: u32 = 9;
 /// The kinds to solve are 1 to this one.
-pub const LAST_KIND: u32 = LABELS_BEHIND;
+pub const LAST_KIND: u32 = STATED_SHARE;
 /// Those with certificates are 1 to this one.
 pub const LAST_CHECKED_KIND: u32 = ANY;
 
-/// n in kinds 1 to 4 and 8, in 5 and 6, and in 7: three rules, though two of the numbers are equal.
+/// n in kinds 1 to 4, 8 and 9, in 5 and 6, and in 7: three rules, though two of the numbers are equal.
 pub const MOST_LABELS: usize = 1_024;
 pub const MOST_SIZES: usize = 64;
 pub const MOST_CLAIMS: usize = 1_024;
 /// C in all kinds but 7, where it is any number.
 pub const MOST_BUDGET: u32 = 65_535;
+/// In kind 9.
+pub const LEAST_Q: u32 = 2;
+pub const MOST_Q: u32 = 100;
 pub const LEAST_VALUE: u32 = 0;
 /// In kind 3.
 pub const LEAST_VALUE_ANY: u32 = 1;
@@ -29,7 +34,7 @@ pub const MOST_COPIES: u32 = 65_535;
 pub const MOST_PICKED_ONCE: u32 = 1;
 pub const MOST_PICKED_ANY: u32 = 65_535;
 
-/// A cell of kind 5 for which there is no way, one of kind 8 that isn't reached, and a word of kind 6 for so many ways or more.
+/// A cell of kinds 5 and 9 for which there is no way, one of kind 8 that isn't reached, and a word of kind 6 for so many ways or more.
 pub const NO_WAY: u32 = u32::MAX;
 pub const NOT_REACHED: u32 = u32::MAX;
 pub const FULL: u64 = u64::MAX;
@@ -40,16 +45,25 @@ pub const LAST_REFUSAL: usize = 15;
 
 /// Whether a kind's weights are labels, and no sizes or claims.
 pub fn are_labels(kind: u32) -> bool {
-    matches!(kind, ONCE | COPIES | ANY | SUMS | LABELS_BEHIND)
+    matches!(kind, ONCE | COPIES | ANY | SUMS | LABELS_BEHIND | STATED_SHARE)
 }
 
 pub fn are_sizes(kind: u32) -> bool {
     matches!(kind, FEWEST | WAYS)
 }
 
+/// How many budgets a job has: C alone, or C and q. Any other number counts as a kind with one.
+pub fn budgets_used(kind: u32) -> usize {
+    if kind == STATED_SHARE {
+        2
+    } else {
+        1
+    }
+}
+
 /// How many values and copies numbers a job with n labels has.
 pub fn values_used(kind: u32, n: usize) -> usize {
-    if matches!(kind, ONCE | COPIES | ANY) {
+    if matches!(kind, ONCE | COPIES | ANY | STATED_SHARE) {
         n
     } else {
         0
@@ -98,7 +112,7 @@ pub enum Way {
     Full,
 }
 
-/// How many cells, words and picks are needed in a way, for a kind that there is.
+/// How many cells, words and picks are needed in a way, for a kind that there is; but kind 9's cells go by more, and `Cuts` has them.
 pub fn room(kind: u32, n: usize, budget: u32, way: Way) -> [usize; 3] {
     match kind {
         ONCE if way == Way::Light => [row(budget), n * words_of_bits(budget), n],
@@ -107,6 +121,34 @@ pub fn room(kind: u32, n: usize, budget: u32, way: Way) -> [usize; 3] {
         SUMS => [0, words_of_bits(budget), 0],
         WAYS => [0, row(budget), 0],
         _ => [0, 0, n],
+    }
+}
+
+/// What kind 9 makes of the labels that remain, which are those within the budget: how many they are, what their values are divided by, and the sum
+/// of what that leaves of them.
+pub struct Cuts {
+    remaining: usize,
+    pub divisor: u32,
+    sum: usize,
+}
+
+impl Cuts {
+    pub fn new(budget: u32, q: u32, weights: &[u32], values: &[u32]) -> Cuts {
+        let remaining = || zip(weights, values).filter(|(&w, _)| w <= budget).map(|(_, &v)| v);
+        let count = remaining().count();
+        let greatest = remaining().max().unwrap_or(0);
+        let divisor = greatest.checked_div(count as u32 * q).unwrap_or(0).max(1);
+        Cuts { remaining: count, divisor, sum: remaining().map(|v| (v / divisor) as usize).sum() }
+    }
+
+    /// The cells of a row: one for each total of cut values.
+    pub fn width(&self) -> usize {
+        self.sum + 1
+    }
+
+    /// The cells of a row for each number of remaining labels.
+    pub fn cells(&self) -> usize {
+        (self.remaining + 1) * self.width()
     }
 }
 

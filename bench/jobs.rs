@@ -1,5 +1,5 @@
 //! The jobs that are timed, drawn from a fixed seed, so that a run can be repeated.
-use crate::bounds::{copies_used, values_used, Way, COPIES, LEAST_VALUE_ANY, MOST_VALUE, SHARES};
+use crate::bounds::{budgets_used, copies_used, values_used, Way, COPIES, LEAST_VALUE_ANY, MOST_VALUE, SHARES, STATED_SHARE};
 use crate::request;
 
 /// Numbers from a small xorshift.
@@ -50,10 +50,15 @@ pub fn said(x: usize) -> String {
     }
 }
 
+/// The budgets of a kind: C, and where it has a second one, q.
+pub fn budgets_of(kind: u32, budget: u32, q: u32) -> Vec<u32> {
+    [budget, q][..budgets_used(kind)].to_vec()
+}
+
 /// The lists as the five sections of a job.
-pub fn bytes_of(kind: u32, budget: u32, weights: &[u32], values: &[u32], copies: &[u32]) -> Vec<u8> {
+pub fn bytes_of(kind: u32, budgets: &[u32], weights: &[u32], values: &[u32], copies: &[u32]) -> Vec<u8> {
     let mut bytes = Vec::new();
-    for list in [&[kind], &[budget], weights, values, copies] {
+    for list in [&[kind], budgets, weights, values, copies] {
         for x in [&[list.len() as u32], list].concat() {
             bytes.extend(x.to_le_bytes());
         }
@@ -62,8 +67,8 @@ pub fn bytes_of(kind: u32, budget: u32, weights: &[u32], values: &[u32], copies:
 }
 
 impl Job {
-    fn new(name: &str, kind: u32, budget: u32, weights: &[u32], values: &[u32], copies: &[u32]) -> Job {
-        let bytes = bytes_of(kind, budget, weights, values, copies);
+    fn new(name: &str, kind: u32, budgets: &[u32], weights: &[u32], values: &[u32], copies: &[u32]) -> Job {
+        let bytes = bytes_of(kind, budgets, weights, values, copies);
         let mut job = request::Job::default();
         job.read(&bytes).expect("job bytes");
         Job { name: format!("kind {kind}, {} {name}", said(weights.len())), bytes, rooms: [Way::Light, Way::Full].map(|way| job.room(way)) }
@@ -76,19 +81,29 @@ impl Job {
 
 /// Kinds 1 to 4 and 8: labels of weight 1 to `heaviest`.
 pub fn labels(kind: u32, n: usize, budget: u32, heaviest: u32) -> Job {
+    let copied = if kind == COPIES { ", copies to 20" } else { "" };
+    drawn(kind, n, &[budget], heaviest, copied)
+}
+
+/// Kind 9: the labels of kind 1, for a share of the best.
+pub fn stated(n: usize, budget: u32, heaviest: u32, q: u32) -> Job {
+    drawn(STATED_SHARE, n, &[budget, q], heaviest, &format!(", q {q}"))
+}
+
+/// Labels with as many numbers each as the kind has; two kinds that have the same numbers get the same ones.
+fn drawn(kind: u32, n: usize, budgets: &[u32], heaviest: u32, more: &str) -> Job {
     let mut draw = Draw::new(0x5eed_1a8e_15ca_1e5d);
     let weights = draw.list(n, 1, heaviest);
     let values = draw.list(values_used(kind, n), LEAST_VALUE_ANY, MOST_VALUE);
     let copies = draw.list(copies_used(kind, n), 1, 20);
-    let copied = if kind == COPIES { ", copies to 20" } else { "" };
-    let name = format!("labels, C {}, weights to {}{copied}", said(budget as usize), said(heaviest as usize));
-    Job::new(&name, kind, budget, &weights, &values, &copies)
+    let name = format!("labels, C {}, weights to {}{more}", said(budgets[0] as usize), said(heaviest as usize));
+    Job::new(&name, kind, budgets, &weights, &values, &copies)
 }
 
 /// Kind 2: one label, of the greatest value.
 pub fn one_label(budget: u32, weight: u32, copies: u32) -> Job {
     let [c, w, most] = [budget, weight, copies].map(|x| said(x as usize));
-    Job::new(&format!("label, C {c}, weight {w}, {most} copies"), COPIES, budget, &[weight], &[MOST_VALUE], &[copies])
+    Job::new(&format!("label, C {c}, weight {w}, {most} copies"), COPIES, &[budget], &[weight], &[MOST_VALUE], &[copies])
 }
 
 /// Kinds 5 and 6: three sets of sizes.
@@ -96,7 +111,7 @@ pub fn sizes(kind: u32, n: usize, budget: u32, greatest: u32) -> [Job; 3] {
     let steps = |step: u32| -> Vec<u32> { (1..=n as u32).map(|k| step * k).collect() };
     let drawn = Draw::new(0x0b10_c5ed_5a3e_d17e).sizes(n, greatest);
     let c = said(budget as usize);
-    let job = |name: String, sizes: &[u32]| Job::new(&format!("sizes, C {c}, {name}"), kind, budget, sizes, &[], &[]);
+    let job = |name: String, sizes: &[u32]| Job::new(&format!("sizes, C {c}, {name}"), kind, &[budget], sizes, &[], &[]);
     [
         job(format!("1 to {n}"), &steps(1)),
         job(format!("random to {}", said(greatest as usize)), &drawn),
@@ -108,6 +123,6 @@ pub fn sizes(kind: u32, n: usize, budget: u32, greatest: u32) -> [Job; 3] {
 pub fn claims(n: usize) -> [Job; 3] {
     const BUDGET: u32 = 2_718_281_828;
     let mut draw = Draw::new(0xc1a1_3ed0_5a7e_b0a7);
-    let job = |name: &str, claims: &[u32]| Job::new(&format!("claims, {name}"), SHARES, BUDGET, claims, &[], &[]);
+    let job = |name: &str, claims: &[u32]| Job::new(&format!("claims, {name}"), SHARES, &[BUDGET], claims, &[], &[]);
     [job("random of 32 bits", &draw.list(n, 0, u32::MAX)), job("1 to 10", &draw.list(n, 1, 10)), job("all equal", &vec![10; n])]
 }

@@ -12,7 +12,9 @@ mod request;
 mod strong;
 mod timing;
 
-use bounds::{Way, ANY, COPIES, FEWEST, LABELS_BEHIND, LAST_CHECKED_KIND, LAST_KIND, MOST_BUDGET, MOST_COPIES, MOST_SIZES, ONCE, SUMS, WAYS};
+use bounds::{
+    Way, ANY, COPIES, FEWEST, LABELS_BEHIND, LAST_CHECKED_KIND, LAST_KIND, MOST_BUDGET, MOST_COPIES, MOST_SIZES, ONCE, STATED_SHARE, SUMS, WAYS,
+};
 use certificates::Case;
 use checker::{Plain, Strong};
 use families::{families, Family, Labels};
@@ -153,6 +155,7 @@ fn jobs_of(kind: u32) -> Vec<Job> {
             labels_jobs(LABELS_BEHIND).into_iter().chain(more).collect()
         }
         ONCE | COPIES => labels_jobs(kind),
+        STATED_SHARE => vec![jobs::stated(200, 60_000, 3_000, 10), jobs::stated(50, 500, 100, 4)],
         FEWEST | WAYS => jobs::sizes(kind, MOST_SIZES, 60_000, 3_000).into_iter().chain(jobs::sizes(kind, MOST_SIZES, 500, 400)).collect(),
         _ => jobs::claims(1_000).into_iter().chain(jobs::claims(50)).collect(),
     }
@@ -257,6 +260,8 @@ fn growth() {
     };
     println!("\nQuick answers, random labels: {} for 500, {} for 1,000.", quick(500), quick(1_000));
     growth_with_counts();
+    growth_of_stated();
+    stated_beside_once();
 }
 
 /// What a cell costs the library's checker of kind 2 as more counts of a label fit.
@@ -269,4 +274,41 @@ fn growth_with_counts() {
         let of_cell = |count| if count * weight > MOST_BUDGET { String::new() } else { format!("{:.2}", judged(count)) };
         println!("| 1 label, C {}, weight {weight} | {} |", said(MOST_BUDGET as usize), COUNTS.map(of_cell).join(" | "));
     }
+}
+
+/// What kind 9 costs the library as labels become more, and as q does.
+fn growth_of_stated() {
+    println!("\n| Job | Cells | Time | ns a cell |\n|---|---|---|---|");
+    let by_labels = [25, 50, 100, 200].map(|n| jobs::stated(n, 60_000, 3_000, 10));
+    let by_q = [2, 5, 10, 20].map(|q| jobs::stated(100, 60_000, 3_000, q));
+    for job in by_labels.iter().chain(&by_q) {
+        let [cells, ..] = job.room(Way::Light);
+        let best = solved(job, Way::Light, 1).best[0];
+        println!("| {} | {} | {} | {:.2} |", job.name, said(cells), time(best), best / cells as f64);
+    }
+}
+
+/// The same labels and C as kind 1 and as kind 9, each by the library alone, with numbers of labels on both sides of where the two take as long.
+fn stated_beside_once() {
+    const QS: [u32; 3] = [2, 10, 100];
+    println!("\n| The same labels | Kind 1 | {} |", QS.map(|q| format!("Kind 9, q {q} | To kind 1")).join(" | "));
+    println!("|---|---{}|", "|---|---".repeat(QS.len()));
+    for (budget, heaviest, counts) in [(MOST_BUDGET, 3_000, [10, 25, 50, 100, 200, 300]), (500, 100, [3, 5, 10, 15, 30, 50])] {
+        for n in counts {
+            let once = jobs::labels(ONCE, n, budget, heaviest);
+            let by_once = solved(&once, Way::Light, 1).best[0];
+            let beside = QS.map(|q| beside(by_once, &jobs::stated(n, budget, heaviest, q)));
+            println!("| {} | {} | {} |", once.name.trim_start_matches("kind 1, "), time(by_once), beside.join(" | "));
+        }
+    }
+}
+
+/// A job's time, and its ratio to another time; nothing where the table is larger than that of the longest line of kind 1 in full.
+fn beside(other: f64, job: &Job) -> String {
+    const MOST_CELLS: usize = 1_001 * 60_001;
+    if job.room(Way::Light)[0] > MOST_CELLS {
+        return " | ".to_string();
+    }
+    let best = solved(job, Way::Light, 1).best[0];
+    format!("{} | {:.2}", time(best), best / other)
 }

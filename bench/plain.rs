@@ -1,5 +1,7 @@
 //! The planner in plain Rust, from job bytes to answer, with the contract of include/quabnester.h.
-use crate::bounds::{words_of_bits, Way, ANY, COPIES, FEWEST, FULL, LABELS_BEHIND, LAST_KIND, NOT_REACHED, NO_WAY, ONCE, SHARES, SUMS, WAYS};
+use crate::bounds::{
+    words_of_bits, Way, ANY, COPIES, FEWEST, FULL, LABELS_BEHIND, LAST_KIND, NOT_REACHED, NO_WAY, ONCE, SHARES, STATED_SHARE, SUMS, WAYS,
+};
 use crate::request::{answered, refused, Answer, Job, Lent};
 use std::cmp::Reverse;
 use std::iter::zip;
@@ -22,6 +24,7 @@ pub fn solve(bytes: &[u8], lent: Lent, scratch: &mut Scratch, way: Way) -> Answe
         FEWEST => fewest_blocks(&scratch.job, lent),
         WAYS => ways(&scratch.job, lent.words),
         LABELS_BEHIND => labels_behind(&scratch.job, lent, reach),
+        STATED_SHARE => stated_share(&scratch.job, lent, lighten),
         _ => shares(scratch, lent.picks, |order, remainders, _| {
             order.sort_unstable_by_key(|&i| (Reverse(remainders[i as usize]), i));
         }),
@@ -347,4 +350,52 @@ fn behind_back(job: &Job, row: &[u32], picks: &mut [u32]) -> Answer {
         t -= job.weights[label] as usize;
     }
     answered(0, job.budget.into(), 0)
+}
+
+/// Kind 9: a row for each label that remains, with the least weight for each total of cut values, by the pass that is given.
+pub fn stated_share(job: &Job, lent: Lent, lighten: impl Fn(&[u32], &mut [u32], usize, u32, u32)) -> Answer {
+    let cuts = job.cuts();
+    let width = cuts.width();
+    lent.cells[..width].fill(NO_WAY);
+    lent.cells[0] = 0;
+    let mut from = 0;
+    for (&w, &v) in zip(&job.weights, &job.values) {
+        if w <= job.budget {
+            let (before, after) = lent.cells[from..from + 2 * width].split_at_mut(width);
+            lighten(before, after, (v / cuts.divisor) as usize, w, job.budget - w);
+            from += width;
+        }
+    }
+    stated_back(job, &lent.cells[..from + width], width, cuts.divisor, lent.picks)
+}
+
+/// A label of cut value a and weight w over the row before, where `room` is left of the budget beside it: what weighs more is kept without it, and
+/// so is the mark, which is greater than any weight.
+fn lighten(before: &[u32], after: &mut [u32], a: usize, w: u32, room: u32) {
+    after[..a].copy_from_slice(&before[..a]);
+    for ((cell, &without), &less) in zip(zip(&mut after[a..], &before[a..]), before) {
+        *cell = if less <= room { without.min(less + w) } else { without };
+    }
+}
+
+/// The picks of kind 9, from the last label on: it is kept where its row differs from the row before. Their worth is in values that aren't cut.
+fn stated_back(job: &Job, cells: &[u32], width: usize, divisor: u32, picks: &mut [u32]) -> Answer {
+    let mut row = cells.len() - width;
+    let mut t = cells[row..].iter().rposition(|&weight| weight != NO_WAY).unwrap();
+    let weight = cells[row + t];
+    let mut value = 0;
+    for (i, (&w, &v)) in zip(&job.weights, &job.values).enumerate().rev() {
+        picks[i] = 0;
+        if w > job.budget {
+            continue;
+        }
+        let before = row - width;
+        if cells[before + t] != cells[row + t] {
+            picks[i] = 1;
+            value += u64::from(v);
+            t -= (v / divisor) as usize;
+        }
+        row = before;
+    }
+    answered(0, value, weight.into())
 }

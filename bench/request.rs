@@ -29,6 +29,8 @@ pub fn answered(refusal: u32, first: u64, second: u64) -> Answer {
 pub struct Job {
     pub kind: u32,
     pub budget: u32,
+    /// In kind 9; others have none, and it is 0.
+    pub q: u32,
     pub weights: Vec<u32>,
     pub values: Vec<u32>,
     pub copies: Vec<u32>,
@@ -63,7 +65,13 @@ impl Job {
     /// Reads job bytes; none where they can't be read.
     pub fn read(&mut self, mut bytes: &[u8]) -> Option<()> {
         self.kind = single(&mut bytes)?;
-        self.budget = single(&mut bytes)?;
+        let budgets = section(&mut bytes)?;
+        if budgets.len() != 4 * bounds::budgets_used(self.kind) {
+            return None;
+        }
+        let (budget, q) = budgets.split_at(4);
+        self.budget = number(budget);
+        self.q = if q.is_empty() { 0 } else { number(q) };
         decode(&mut bytes, &mut self.weights)?;
         decode(&mut bytes, &mut self.values)?;
         decode(&mut bytes, &mut self.copies)?;
@@ -93,7 +101,8 @@ impl Job {
         let least_value = bounds::least_value(self.kind);
         let values_right = self.values.iter().all(|v| (least_value..=bounds::MOST_VALUE).contains(v));
         let copies_right = self.copies.iter().all(|k| (bounds::LEAST_COPIES..=bounds::MOST_COPIES).contains(k));
-        if weights_right && values_right && copies_right {
+        let q_right = self.kind != bounds::STATED_SHARE || (bounds::LEAST_Q..=bounds::MOST_Q).contains(&self.q);
+        if weights_right && values_right && copies_right && q_right {
             0
         } else {
             5
@@ -109,9 +118,17 @@ impl Job {
         }
     }
 
-    /// How many cells, words and picks are needed in a way, for a kind that there is.
+    /// Kind 9: the divisor, and how large the table is.
+    pub fn cuts(&self) -> bounds::Cuts {
+        bounds::Cuts::new(self.budget, self.q, &self.weights, &self.values)
+    }
+
+    /// How many cells, words and picks are needed in a way, for a job that breaks no rule.
     pub fn room(&self, way: bounds::Way) -> [usize; 3] {
-        bounds::room(self.kind, self.weights.len(), self.budget, way)
+        match self.kind {
+            bounds::STATED_SHARE => [self.cuts().cells(), 0, self.weights.len()],
+            _ => bounds::room(self.kind, self.weights.len(), self.budget, way),
+        }
     }
 
     /// Whether a slice that is needed is too short.

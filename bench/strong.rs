@@ -1,14 +1,14 @@
-//! Kinds 1 (in the light way), 2, 3, 5 and 8 in Rust that is written for vectors, as the proved code is, so that a ratio doesn't speak of a missed
+//! Kinds 1 (in the light way), 2, 3, 5, 8 and 9 in Rust that is written for vectors, as the proved code is, so that a ratio doesn't speak of a missed
 //! vector loop; and kind 7 by a selection in place of a sort.
-use crate::bounds::{Way, ANY, COPIES, FEWEST, LABELS_BEHIND, NOT_REACHED, NO_WAY, ONCE, SHARES};
-use crate::plain::{self, any_along, blocks_back, copies, labels_behind, once, shares, unless_refused, Scratch};
+use crate::bounds::{Way, ANY, COPIES, FEWEST, LABELS_BEHIND, NOT_REACHED, NO_WAY, ONCE, SHARES, STATED_SHARE};
+use crate::plain::{self, any_along, blocks_back, copies, labels_behind, once, shares, stated_share, unless_refused, Scratch};
 use crate::request::{Answer, Job, Lent};
 use std::cell::Cell;
 use std::cmp::Reverse;
 use std::iter::zip;
 
 /// The kinds that have a second Rust.
-pub const KINDS: [u32; 6] = [ONCE, COPIES, ANY, FEWEST, SHARES, LABELS_BEHIND];
+pub const KINDS: [u32; 7] = [ONCE, COPIES, ANY, FEWEST, SHARES, LABELS_BEHIND, STATED_SHARE];
 
 /// One of these kinds.
 pub fn solve(bytes: &[u8], lent: Lent, scratch: &mut Scratch) -> Answer {
@@ -18,6 +18,7 @@ pub fn solve(bytes: &[u8], lent: Lent, scratch: &mut Scratch) -> Answer {
         ANY => any_number(&scratch.job, lent),
         FEWEST => fewest_blocks(&scratch.job, lent),
         LABELS_BEHIND => labels_behind(&scratch.job, lent, |row, w, labels| reach(row, w as u16, labels)),
+        STATED_SHARE => stated_share(&scratch.job, lent, lighten),
         _ => shares(scratch, lent.picks, |order, remainders, spare| {
             if spare > 0 {
                 order.select_nth_unstable_by_key(spare - 1, |&i| (Reverse(remainders[i as usize]), i));
@@ -87,6 +88,18 @@ fn reach(row: &mut [u32], w: u16, labels: u32) {
     for (cell, with) in zip(high, row).rev() {
         let first = (cell.get() == NOT_REACHED) & (with.get() != NOT_REACHED);
         cell.set(if first { labels } else { cell.get() });
+    }
+}
+
+/// As `plain::lighten`, with comparisons that have a sign: plain x86-64 has no others in vectors. Without its highest bit the mark is still greater
+/// than any weight.
+fn lighten(before: &[u32], after: &mut [u32], a: usize, w: u32, room: u32) {
+    let signed = |cell: u32| (cell & 0x7fff_ffff) as i32;
+    after[..a].copy_from_slice(&before[..a]);
+    for ((cell, &without), &less) in zip(zip(&mut after[a..], &before[a..]), before) {
+        let with = less.wrapping_add(w);
+        let lighter = (signed(less) <= room as i32) & ((with as i32) < signed(without));
+        *cell = if lighter { with } else { without };
     }
 }
 
