@@ -15,8 +15,8 @@ pub const LAST_KIND: u32 = STATED_SHARE;
 /// Those with certificates are 1 to this one.
 pub const LAST_CHECKED_KIND: u32 = ANY;
 
-/// n in kinds 1 to 4, 8 and 9, in 5 and 6, and in 7: three rules, though two of the numbers are equal.
-pub const MOST_LABELS: usize = 1_024;
+/// n in kinds 1 to 4, 8 and 9, in 5 and 6, and in 7.
+pub const MOST_LABELS: usize = 4_096;
 pub const MOST_SIZES: usize = 64;
 pub const MOST_CLAIMS: usize = 1_024;
 /// C in all kinds but 7, where it is any number.

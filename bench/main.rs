@@ -13,7 +13,8 @@ mod strong;
 mod timing;
 
 use bounds::{
-    Way, ANY, COPIES, FEWEST, LABELS_BEHIND, LAST_CHECKED_KIND, LAST_KIND, MOST_BUDGET, MOST_COPIES, MOST_SIZES, ONCE, STATED_SHARE, SUMS, WAYS,
+    Way, ANY, COPIES, FEWEST, LABELS_BEHIND, LAST_CHECKED_KIND, LAST_KIND, MOST_BUDGET, MOST_COPIES, MOST_LABELS, MOST_SIZES, ONCE, STATED_SHARE,
+    SUMS, WAYS,
 };
 use certificates::Case;
 use checker::{Plain, Strong};
@@ -144,17 +145,31 @@ fn labels_jobs(kind: u32) -> Vec<Job> {
     vec![jobs::labels(kind, 1_000, 60_000, 3_000), jobs::labels(kind, 50, 500, 100)]
 }
 
+/// The kinds that are timed with the most labels: kind 1 in the light way, and those with one row or none.
+const WITH_MOST: [u32; 4] = [ONCE, ANY, SUMS, LABELS_BEHIND];
+
+/// So many labels of them.
+fn many_labels(kind: u32, n: usize) -> Job {
+    jobs::labels(kind, n, 60_000, 3_000)
+}
+
 fn jobs_of(kind: u32) -> Vec<Job> {
-    match kind {
-        ANY => labels_jobs(ANY).into_iter().chain([jobs::labels(ANY, 1_000, 60_000, 16), jobs::labels(ANY, 50, 500, 16)]).collect(),
+    let more = match kind {
+        ANY => vec![jobs::labels(ANY, 1_000, 60_000, 16), jobs::labels(ANY, 50, 500, 16)],
         // with so few labels the count of the totals is a large part of the call
-        SUMS => labels_jobs(SUMS).into_iter().chain([jobs::labels(SUMS, 2, 60_000, 3_000)]).collect(),
+        SUMS => vec![jobs::labels(SUMS, 2, 60_000, 3_000)],
         // light labels leave most of the row as it was filled, and with so few that filling is a large part of the call
-        LABELS_BEHIND => {
-            let more = [jobs::labels(LABELS_BEHIND, 1_000, 60_000, 16), jobs::labels(LABELS_BEHIND, 2, 60_000, 3_000)];
-            labels_jobs(LABELS_BEHIND).into_iter().chain(more).collect()
-        }
-        ONCE | COPIES => labels_jobs(kind),
+        LABELS_BEHIND => vec![jobs::labels(LABELS_BEHIND, 1_000, 60_000, 16), jobs::labels(LABELS_BEHIND, 2, 60_000, 3_000)],
+        _ => vec![],
+    };
+    let most = WITH_MOST.contains(&kind).then(|| many_labels(kind, MOST_LABELS));
+    sizes_of(kind).into_iter().chain(most).chain(more).collect()
+}
+
+/// The sizes that fit a kind.
+fn sizes_of(kind: u32) -> Vec<Job> {
+    match kind {
+        ONCE | COPIES | ANY | SUMS | LABELS_BEHIND => labels_jobs(kind),
         STATED_SHARE => vec![jobs::stated(200, 60_000, 3_000, 10), jobs::stated(50, 500, 100, 4)],
         FEWEST | WAYS => jobs::sizes(kind, MOST_SIZES, 60_000, 3_000).into_iter().chain(jobs::sizes(kind, MOST_SIZES, 500, 400)).collect(),
         _ => jobs::claims(1_000).into_iter().chain(jobs::claims(50)).collect(),
@@ -259,9 +274,22 @@ fn growth() {
         time(answered_quickly(&random, 1).best[0])
     };
     println!("\nQuick answers, random labels: {} for 500, {} for 1,000.", quick(500), quick(1_000));
+    growth_with_labels();
     growth_with_counts();
     growth_of_stated();
     stated_beside_once();
+}
+
+/// What a label costs the library as they become four thousand.
+fn growth_with_labels() {
+    let counts = [MOST_LABELS / 4, MOST_LABELS / 2, MOST_LABELS];
+    println!("\n| C 60,000, weights to 3,000 | {} |", counts.map(|n| format!("{} labels | us a label", said(n))).join(" | "));
+    println!("|---{}|", "|---|---".repeat(counts.len()));
+    for kind in WITH_MOST {
+        let taken = counts.map(|n| (n, solved(&many_labels(kind, n), Way::Light, 1).best[0]));
+        let times = taken.map(|(n, best)| format!("{} | {:.2}", time(best), best / 1e3 / n as f64));
+        println!("| kind {kind} | {} |", times.join(" | "));
+    }
 }
 
 /// What a cell costs the library's checker of kind 2 as more counts of a label fit.

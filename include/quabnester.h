@@ -45,10 +45,10 @@ extern "C" {
  * the third where no promise has changed. */
 
 #define QUABNESTER_VERSION_MAJOR 2
-#define QUABNESTER_VERSION_MINOR 2
+#define QUABNESTER_VERSION_MINOR 3
 #define QUABNESTER_VERSION_PATCH 0
 
-/* As one number, which grows with each version, and as text: "2.2.0" and the like. */
+/* As one number, which grows with each version, and as text: "2.3.0" and the like. */
 #define QUABNESTER_VERSION_NUMBER                                                                                          \
     (QUABNESTER_VERSION_MAJOR * 1000000 + QUABNESTER_VERSION_MINOR * 1000 + QUABNESTER_VERSION_PATCH)
 #define QUABNESTER_VERSION_STRING                                                                                          \
@@ -78,7 +78,7 @@ extern "C" {
 /* ---- BOUNDS. n and C may be 0, save that the claims of kind 7 have to sum to more. A weight, a size or a claim may be as
  * great as 32 bits allow, and a claim may be 0. Two bounds that are equal today are still two rules. */
 
-#define QUABNESTER_MOST_LABELS 1024        /* n in kinds 1 to 4, 8 and 9 */
+#define QUABNESTER_MOST_LABELS 4096        /* n in kinds 1 to 4, 8 and 9 */
 #define QUABNESTER_MOST_SIZES 64           /* n in kinds 5 and 6 */
 #define QUABNESTER_MOST_CLAIMS 1024        /* n in kind 7 */
 #define QUABNESTER_MOST_BUDGET 65535       /* C in kinds 1 to 6, 8 and 9 */

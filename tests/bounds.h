@@ -1,4 +1,4 @@
-/* What document 01 and the requests K1, K3, K4 and K6 say in numbers, each in one place: a request that moves a bound changes it here
+/* What document 01 and the requests K1, K3, K4, K6 and K7 say in numbers, each in one place: a request that moves a bound changes it here
  * alone. Written from these and not from include/quabnester.h; header.c holds that to these. Buffers and loops of the tests take their
  * sizes from here. */
 #ifndef BOUNDS_H
@@ -26,9 +26,9 @@ enum {
 /* ---- bounds on the numbers; weights, sizes and claims have no greatest one */
 
 enum {
-    MOST_LABELS = 1024,  /* n in kinds 1 to 4, 8 and 9 */
+    MOST_LABELS = 4096,  /* n in kinds 1 to 4, 8 and 9 (K7) */
     MOST_SIZES = 64,     /* n in kinds 5 and 6 */
-    MOST_CLAIMS = 1024,  /* n in kind 7: another rule, though the number is that of the labels */
+    MOST_CLAIMS = 1024,  /* n in kind 7 */
     MOST_BUDGET = 65535, /* C in kinds 1 to 6, 8 and 9 */
     LEAST_Q = 2,         /* in kind 9 (K6) */
     MOST_Q = 100,
@@ -64,7 +64,7 @@ enum { LAST_SOLVER_REFUSAL = 9, LAST_REFUSAL = 15 };
 
 /* ---- the program's buffers, which stay where a bound moves */
 
-enum { PROGRAM_CELLS = 8192, PROGRAM_WORDS = 1024, PROGRAM_PICKS = 1024 };
+enum { PROGRAM_BYTES = 16384, PROGRAM_CELLS = 8192, PROGRAM_WORDS = 1024, PROGRAM_PICKS = 1024 };
 
 /* ---- what follows: the longest list that any kind may have */
 

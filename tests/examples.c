@@ -39,12 +39,13 @@ static const struct {
     [KIND_SHARES] = {"spare", NULL},   [KIND_LABELS_BEHIND] = {"weight", NULL}, [KIND_STATED_SHARE] = {"value", "weight"},
 };
 
-/* An answer as document 01 has the program print it. */
+/* An answer as document 01 has the program print it, which refuses longer input than it has room for with 4, before all else. */
 static void say_answer(struct bytes *text, const struct solved *solved, const struct bytes *job) {
+    uint32_t refused = job->length > PROGRAM_BYTES ? 4 : solved->refused;
     struct plain_job read;
     text->length = 0;
-    if (solved->refused != 0) {
-        say(text, "%s %llu\n", "refused", solved->refused);
+    if (refused != 0) {
+        say(text, "%s %llu\n", "refused", refused);
         return;
     }
     if (!holds("reading an example that is answered", plain_read(job->at, job->length, &read))) return;

@@ -1,6 +1,7 @@
-/* Full bounds: the most labels and the greatest budget, from solving to checking, for each kind that has certificates; then one cell or one
- * pick changed. Kinds 1 and 2 share two slices, which take FULL_TABLE(MOST_LABELS, MOST_BUDGET) times 4 bytes each. Kind 1 is solved in
- * both ways: the full one leaves what a certificate is written from, and the light one is held to that. */
+/* The most labels, from solving to checking, for each kind that has certificates; then one cell or one pick changed. With the greatest
+ * budget, too, a table of kinds 1 and 2 would take a gigabyte and its certificate another: theirs is a quarter of it, and the two slices
+ * that they share take a quarter of that. Kind 1 is solved in both ways: the full one leaves what a certificate is written from, and the
+ * light one is held to that. With the greatest budget kind 1 is solved in the light way, and kind 3 from solving to checking. */
 #include "calls.h"
 #include "draw.h"
 #include "parts.h"
@@ -8,8 +9,9 @@
 #include <stdio.h>
 #include <string.h>
 
-enum { N = MOST_LABELS, C = MOST_BUDGET };
+enum { N = MOST_LABELS, TABLE_BUDGET = ROW(MOST_BUDGET) / 4 - 1 }; /* of which a table and a certificate are made */
 
+static uint32_t C; /* the job's budget */
 static struct job job;
 static struct bytes bytes;
 static struct plain_job read;
@@ -30,7 +32,7 @@ static void draw_copies(struct draw *draw, uint32_t label, uint32_t *weight, uin
     *copies = drawn(draw, 100, 999);
 }
 
-static void draw_full(uint32_t kind) {
+static void draw_full(uint32_t kind, uint32_t budget) {
     struct draw draw = {1024}; /* any number */
     uint32_t weights[N], values[N], copies[N], i;
     for (i = 0; i < N; i++) {
@@ -39,6 +41,7 @@ static void draw_full(uint32_t kind) {
         if (kind == KIND_COPIES) draw_copies(&draw, i, &weights[i], &copies[i]);
     }
     if (kind == KIND_ANY) weights[0] = values[0] = 1; /* then each cell is worth more than the one before it */
+    C = budget;
     set_job(&job, kind, C, N, weights, values, copies);
     put_job(&bytes, &job);
     read_back(&bytes, &read);
@@ -66,7 +69,7 @@ static const uint32_t *row_of(uint32_t i) {
 
 /* Row 0, and each row, or one in `every`, is what the second program makes of the one before it. */
 static void rows_are_best(uint32_t every) {
-    static uint32_t row[ROW(C)];
+    static uint32_t row[ROW(TABLE_BUDGET)];
     uint32_t i;
     for (i = 0; i <= C; i++) row[i] = 0;
     holds("row 0", memcmp(row_of(0), row, sizeof row) == 0);
@@ -103,33 +106,35 @@ static void solve_again(void) {
                                       &solved.first, &solved.second);
 }
 
-/* ---- kind 1 in the light way, beside the table that was left in the full one */
+/* ---- kind 1 in the light way */
 
-/* Word m of label i, by the label's row and the row before it. */
-static uint64_t bits_of(uint32_t i, uint32_t m) {
-    const uint32_t *with = row_of(i + 1) + m * WORD_BITS, *without = row_of(i) + m * WORD_BITS;
+/* Word m of a label, by its row and the row without it. */
+static uint64_t bits_of(const uint32_t *with, const uint32_t *without, uint32_t m) {
     uint64_t bits = 0;
-    uint32_t b;
-    for (b = 0; b < WORD_BITS && m * WORD_BITS + b <= C; b++) bits |= (uint64_t)(with[b] > without[b]) << b;
+    uint32_t b, c;
+    for (b = 0; b < WORD_BITS && (c = m * WORD_BITS + b) <= C; b++) bits |= (uint64_t)(with[c] > without[c]) << b;
     return bits;
 }
 
-/* The last label's bits, and those of one in `every` before it. */
-static void bits_are_right(const struct solved *light, uint32_t every) {
-    const uint64_t *words = light->words.slice;
-    uint32_t i, m;
-    for (i = N; i > every; i -= every) {
-        about("full, the light way, label", i - 1);
-        for (m = 0; m < WORDS_OF_BITS(C) && words[(size_t)(i - 1) * WORDS_OF_BITS(C) + m] == bits_of(i - 1, m); m++) continue;
-        same("the words that are right", WORDS_OF_BITS(C), m);
-    }
+/* The words of label i. */
+static const uint64_t *words_of(const struct solved *light, uint32_t i) {
+    return (uint64_t *)light->words.slice + (size_t)i * WORDS_OF_BITS(C);
 }
 
-static void in_the_light_way(void) {
+static void bits_are_right(const struct solved *light, uint32_t i, const uint32_t *with, const uint32_t *without) {
+    uint32_t m = 0;
+    while (m < WORDS_OF_BITS(C) && words_of(light, i)[m] == bits_of(with, without, m)) m++;
+    about("full, the light way, label", i);
+    same("the words that are right", WORDS_OF_BITS(C), m);
+}
+
+/* Beside the table that was left in the full way: the last label's bits, and those of one in so many before it. */
+static void beside_the_table(void) {
+    enum { EVERY = 9 };
     struct plain_room needed = plain_room(&read, LIGHT_WAY);
     struct solved light;
-    about("full, the light way", KIND_ONCE);
-    same("the words needed", (uint64_t)N * WORDS_OF_BITS(C), needed.words);
+    uint32_t i;
+    about("full, the light way", C);
     solve(&light, &bytes, LIGHT_WAY, &needed, 9);
     same("the refusal", 0, light.refused);
     same("the value", solved.first, light.first);
@@ -137,8 +142,43 @@ static void in_the_light_way(void) {
     holds("the picks", memcmp(light.picks.slice, solved.picks.slice, N * 4) == 0);
     holds("the row", memcmp(light.cells.slice, row_of(N), ROW(C) * 4) == 0);
     kept_the_rest(&light, &needed);
-    bits_are_right(&light, 9);
+    for (i = N; i > EVERY; i -= EVERY) bits_are_right(&light, i - 1, row_of(i), row_of(i - 1));
     give_back_solved(&light);
+}
+
+/* The second program's rows one after the other, since there is no room for all: each label's bits, and the last row. */
+static void rows_are_passed(void) {
+    static uint32_t rows[2][ROW(MOST_BUDGET)];
+    uint32_t i;
+    memset(rows[0], 0, sizeof rows[0]);
+    for (i = 0; i < N; i++) {
+        plain_next_row(&read, i, rows[i % 2], rows[(i + 1) % 2]);
+        bits_are_right(&solved, i, rows[(i + 1) % 2], rows[i % 2]);
+    }
+    holds("the row", memcmp(solved.cells.slice, rows[N % 2], ROW(C) * 4) == 0);
+}
+
+/* From the last label to the first, each is kept where its bit for what is left is set: without it less is made of that. */
+static void picks_are_by_bits(void) {
+    uint32_t i, left = C;
+    for (i = N; i-- > 0;) {
+        uint32_t pick = words_of(&solved, i)[left / WORD_BITS] >> left % WORD_BITS & 1;
+        about("full, the light way, label", i);
+        if (same("the pick", pick, *pick_of(i))) left -= pick * job.weights.at[i];
+    }
+}
+
+static void at_both_bounds(void) {
+    draw_full(KIND_ONCE, MOST_BUDGET);
+    room = plain_room(&read, LIGHT_WAY);
+    about("full, the light way", C);
+    same("the words needed", (uint64_t)N * WORDS_OF_BITS(C), room.words);
+    solve(&solved, &bytes, LIGHT_WAY, &room, 9);
+    is_solved();
+    rows_are_passed();
+    picks_are_by_bits();
+    give_back_solved(&solved);
+    printf("full, the light way: %llu words, value %llu\n", (unsigned long long)room.words, (unsigned long long)solved.first);
 }
 
 /* ---- writing */
@@ -223,14 +263,14 @@ static void print_kind(void) {
 }
 
 static void once(void) {
-    draw_full(KIND_ONCE);
+    draw_full(KIND_ONCE, TABLE_BUDGET);
     about("full, solve", KIND_ONCE);
     same("the cells needed", FULL_TABLE((uint64_t)N, C), room.cells);
     solve(&solved, &bytes, FULL_WAY, &room, 9);
     is_solved();
     rows_are_best(1);
     picks_are_least();
-    in_the_light_way();
+    beside_the_table();
     lend(&written.out, plain_certificate_bytes(&read), 1, 9);
     write_full();
     verdict_now(0, solved.first);
@@ -244,7 +284,7 @@ static void once(void) {
 
 /* Its table is as large as that of kind 1, and each look at it takes longer: so fewer of them. */
 static void copies(void) {
-    draw_full(KIND_COPIES);
+    draw_full(KIND_COPIES, TABLE_BUDGET);
     about("full, solve", KIND_COPIES);
     solve_again();
     is_solved();
@@ -260,7 +300,7 @@ static void copies(void) {
 
 /* One row, for all labels; the second program looks at all of it. */
 static void any_number(void) {
-    draw_full(KIND_ANY);
+    draw_full(KIND_ANY, MOST_BUDGET);
     about("full, solve", KIND_ANY);
     solve(&solved, &bytes, LIGHT_WAY, &room, 9);
     is_solved();
@@ -284,4 +324,5 @@ void part_full(void) {
     give_all_back();
     any_number();
     give_all_back();
+    at_both_bounds();
 }

@@ -72,6 +72,7 @@ static void the_version(void) {
     holds("that it is one of K4, which has kind 1 refused on slices that were enough before", QUABNESTER_VERSION_MAJOR >= 2);
     holds("that it is one of K5, which adds an entry", QUABNESTER_VERSION_NUMBER >= 2001000);
     holds("that it is one of K6, which has kind 9 answered", QUABNESTER_VERSION_NUMBER >= 2002000);
+    holds("that it is one of K7, which has more labels answered", QUABNESTER_VERSION_NUMBER >= 2003000);
 }
 
 /* ---- room */

@@ -20,6 +20,7 @@ void part_check(void);                       /* check_cases.c: the checker's ver
 void part_empty(void);                       /* empty.c: slices of length 0 */
 void part_drawn(void);                       /* drawn.c: small jobs of every kind, with faults and damage */
 void part_large(void);                       /* large.c: large jobs of every kind */
+void part_column(void);                      /* column.c: the column of K7 in each kind that may have so many labels */
 void part_ring(void);                        /* ring.c: solve, try every selection, write, check, check another list */
 void part_claims(void);                      /* claims.c: drawn tables of claims */
 void part_claims_long(void);                 /* claims_long.c: many copies, and long rows */

@@ -12,7 +12,7 @@ use Rattle.meaning.proofs.Computing.{Computes, _gives_, nothing, refusa
 
 -- document 01's own numbers: here alone they are said a second time, and a closed case below goes by the name (CornersNumbers has the other bounds)
 bounds : Computes (λ (x : ℕ). x) (
-    mostLabels gives 1_024
+    mostLabels gives 4_096
     ∷ mostSizes gives 64
     ∷ mostClaims gives 1_024
     ∷ mostBudget gives 65_535

@@ -4,7 +4,7 @@ use Prim.Native.Nat.{ℕ}
 
 -- n in kinds 1 to 4, 8 and 9
 unfoldable pub mostLabels : ℕ
-mostLabels = 1_024
+mostLabels = 4_096
 
 -- n in kinds 5 and 6
 unfoldable pub mostSizes : ℕ

@@ -14,7 +14,7 @@ ghost use Rattle.rules.specs.Places.{NeededFor, NeededBy, hasRoom};
 // ---- the bounds
 
 // n in kinds 1 to 4, 8 and 9.
-const MOST_LABELS: usize = 1_024;
+const MOST_LABELS: usize = 4_096;
 // n in kinds 5 and 6.
 const MOST_SIZES: usize = 64;
 // n in kind 7.

@@ -1,0 +1,75 @@
+/* The column that K7 is about, of 3,700 labels: in each kind that may have so many it is answered as the second program's tables have it,
+ * whole slices, and in both ways. Its labels are light, so that hundreds are kept; or any, so that most aren't. Kind 9's are all left, most
+ * of them worth nothing; or most are left aside, and the others' values are cut. */
+#include "calls.h"
+#include "draw.h"
+#include "parts.h"
+#include "tell.h"
+#include <stdio.h>
+
+enum { COLUMN = 3700 };
+
+/* The greatest budget for which the second program has room for a row for each number of labels. */
+enum { TABLE_BUDGET = PLAIN_CELLS / (COLUMN + 1) - 1 };
+
+/* Weights from 1 to the heaviest and values up to the dearest; one label in so many is worth something. At least so many are kept, in kinds
+ * that tell which. */
+static const struct column {
+    uint32_t kind, budget, q, heaviest, dearest, worth_in, kept;
+} columns[] = {
+    {KIND_ONCE, TABLE_BUDGET, LEAST_Q, 3, MOST_VALUE, 1, 500},
+    {KIND_ONCE, TABLE_BUDGET, LEAST_Q, 2 * TABLE_BUDGET, 999, 3, 20},
+    {KIND_COPIES, TABLE_BUDGET, LEAST_Q, 3, 999, 1, 100},
+    {KIND_COPIES, TABLE_BUDGET, LEAST_Q, 2 * TABLE_BUDGET, MOST_VALUE, 3, 9},
+    {KIND_ANY, TABLE_BUDGET, LEAST_Q, 900, 999, 1, 1},
+    {KIND_ANY, TABLE_BUDGET, LEAST_Q, 2 * TABLE_BUDGET, MOST_VALUE, 1, 1},
+    {KIND_SUMS, MOST_BUDGET, LEAST_Q, 20, 0, 1, 0},
+    {KIND_SUMS, 9999, LEAST_Q, MOST_BUDGET, 0, 1, 0},
+    {KIND_LABELS_BEHIND, MOST_BUDGET, LEAST_Q, 20, 0, 1, 3600},
+    {KIND_LABELS_BEHIND, 9999, LEAST_Q, MOST_BUDGET, 0, 1, 2},
+    {KIND_STATED_SHARE, 900, LEAST_Q, 3, 1, 2, 300},
+    {KIND_STATED_SHARE, 999, 10, 60 * 999, MOST_VALUE, 1, 2},
+};
+
+static struct job job;
+static struct bytes bytes;
+
+static void draw_column(const struct column *column, struct draw *draw) {
+    uint32_t i, least = plain_kind(column->kind)->least_value;
+    uint32_t weights[COLUMN], values[COLUMN], copies[COLUMN];
+    for (i = 0; i < COLUMN; i++) {
+        weights[i] = drawn(draw, LEAST_WEIGHT, column->heaviest);
+        values[i] = i % column->worth_in == 0 ? drawn(draw, least, GREATER(least, column->dearest)) : least;
+        copies[i] = drawn(draw, LEAST_COPIES, 9);
+    }
+    set_job(&job, column->kind, column->budget, COLUMN, weights, values, copies);
+    job.q = column->q;
+}
+
+/* How many labels are kept. */
+static uint32_t kept(const struct plain_answer *answer) {
+    uint32_t i, count = 0;
+    for (i = 0; i < answer->filled.picks; i++) count += answer->picks[i] > 0;
+    return count;
+}
+
+static void try_column(const struct column *column, uint64_t number) {
+    struct draw draw = {COLUMN + number};
+    struct plain_room lengths[PLAIN_WAYS];
+    const struct plain_answer *answer;
+    about("column", number);
+    draw_column(column, &draw);
+    lengths[LIGHT_WAY] = room_of(&job, LIGHT_WAY);
+    lengths[FULL_WAY] = room_of(&job, FULL_WAY);
+    put_job(&bytes, &job);
+    answer = try_both_ways(&bytes, lengths, number).of[LIGHT_WAY];
+    same("the second program's refusal", 0, answer->refused);
+    holds("that so many labels are kept", kept(answer) >= column->kept);
+    printf("column, kind %d: %llu %llu, %d labels kept\n", (int)job.kind, (unsigned long long)answer->first,
+           (unsigned long long)answer->second, (int)kept(answer));
+}
+
+void part_column(void) {
+    size_t k;
+    for (k = 0; k < sizeof columns / sizeof columns[0]; k++) try_column(&columns[k], k);
+}
