@@ -22,10 +22,10 @@ static const struct column {
     {KIND_COPIES, TABLE_BUDGET, LEAST_Q, 3, 999, 1, 100},
     {KIND_COPIES, TABLE_BUDGET, LEAST_Q, 2 * TABLE_BUDGET, MOST_VALUE, 3, 9},
     {KIND_ANY, TABLE_BUDGET, LEAST_Q, 900, 999, 1, 1},
-    {KIND_ANY, TABLE_BUDGET, LEAST_Q, 2 * TABLE_BUDGET, MOST_VALUE, 1, 1},
+    {KIND_ANY, TABLE_BUDGET, LEAST_Q, 9, 1, 1, 1},
     {KIND_SUMS, MOST_BUDGET, LEAST_Q, 20, 0, 1, 0},
     {KIND_SUMS, 9999, LEAST_Q, MOST_BUDGET, 0, 1, 0},
-    {KIND_LABELS_BEHIND, MOST_BUDGET, LEAST_Q, 20, 0, 1, 3600},
+    {KIND_LABELS_BEHIND, MOST_BUDGET, LEAST_Q, 40, 0, 1, 3000},
     {KIND_LABELS_BEHIND, 9999, LEAST_Q, MOST_BUDGET, 0, 1, 2},
     {KIND_STATED_SHARE, 900, LEAST_Q, 3, 1, 2, 300},
     {KIND_STATED_SHARE, 999, 10, 60 * 999, MOST_VALUE, 1, 2},
@@ -33,6 +33,7 @@ static const struct column {
 
 static struct job job;
 static struct bytes bytes;
+static unsigned long all_kept;
 
 static void draw_column(const struct column *column, struct draw *draw) {
     uint32_t i, least = plain_kind(column->kind)->least_value;
@@ -65,11 +66,11 @@ static void try_column(const struct column *column, uint64_t number) {
     answer = try_both_ways(&bytes, lengths, number).of[LIGHT_WAY];
     same("the second program's refusal", 0, answer->refused);
     holds("that so many labels are kept", kept(answer) >= column->kept);
-    printf("column, kind %d: %llu %llu, %d labels kept\n", (int)job.kind, (unsigned long long)answer->first,
-           (unsigned long long)answer->second, (int)kept(answer));
+    all_kept += kept(answer);
 }
 
 void part_column(void) {
     size_t k;
     for (k = 0; k < sizeof columns / sizeof columns[0]; k++) try_column(&columns[k], k);
+    printf("column: %d jobs of %d labels, of which %lu are kept in all\n", (int)k, COLUMN, all_kept);
 }

@@ -150,7 +150,7 @@ static void beside_the_table(void) {
 static void rows_are_passed(void) {
     static uint32_t rows[2][ROW(MOST_BUDGET)];
     uint32_t i;
-    memset(rows[0], 0, sizeof rows[0]);
+    for (i = 0; i <= C; i++) rows[0][i] = 0;
     for (i = 0; i < N; i++) {
         plain_next_row(&read, i, rows[i % 2], rows[(i + 1) % 2]);
         bits_are_right(&solved, i, rows[(i + 1) % 2], rows[i % 2]);

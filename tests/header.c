@@ -339,6 +339,9 @@ static void certificates_of(uint32_t kind) {
     same("the certificate's bytes", CERTIFICATE(CASE_A_LABELS, claims_of(&job)), length);
     written_on(length, QUABNESTER_NOT_REFUSED);
     written_on(length - 1, QUABNESTER_REFUSED_ROOM);
+    valid_job(kind, MOST_LABELS, MOST_BUDGET); /* a gigabyte in kinds 1 and 2 */
+    length = CERTIFICATE((uint64_t)MOST_LABELS, (uint64_t)claims_of(&job));
+    same("the longest certificate's bytes", length, quabnester_certificate_bytes(kind, MOST_LABELS, MOST_BUDGET));
 }
 
 /* Case A's certificate with a pick and the last cell set to these, and so many bytes left out. */

@@ -59,8 +59,8 @@ static struct thing things[THINGS] = {
     [FEW_FIRST] = {"refused with 6 for its first list alone", 1350, 0},
     [FEW_SECOND] = {"refused with 6 for its second list alone", 1350, 0},
     [TRIED] = {"answered, and every selection tried", 28000, 0},
-    [MANY] = {"a fifth of the most labels or more, answered", 190, 0},
-    [MOST] = {"the most labels, answered", 50, 0},
+    [MANY] = {"a fifth of the most labels or more, answered", 70, 0},
+    [MOST] = {"the most labels, answered", 5, 0},
     [TABLE] = {"the best value by a table", 140, 0},
     [WIDE] = {"products beyond 32 bits", 10000, 0},
     [CLOSE] = {"value per weight that isn't alike, though it is to 24 bits, one kept and one that fits C not", 380, 0},
@@ -239,11 +239,17 @@ static void try_small(uint64_t number) {
     try_lengths(number, first_len, second_len);
 }
 
+/* Most often some hundreds, and now and then any number or the most: for each next label the second program looks at all that are left. */
+static uint32_t draw_count(struct draw *draw) {
+    if (chance(draw, 32)) return MOST_LABELS;
+    return drawn(draw, LABELS + 1, chance(draw, 16) ? MOST_LABELS : MOST_LABELS / 4);
+}
+
 /* Weights and values up to a power of two, so that some jobs have light and cheap ones only, and some any that there are. */
 static void draw_large_job(struct draw *draw) {
     uint32_t i, heaviest = 1u << drawn(draw, 0, 16), dearest = (1u << drawn(draw, 1, 16)) - 1;
     job.kind = KIND_ONCE;
-    job.weights.count = job.values.count = chance(draw, 4) ? MOST_LABELS : drawn(draw, LABELS + 1, MOST_LABELS);
+    job.weights.count = job.values.count = draw_count(draw);
     job.budget = chance(draw, 3) ? drawn(draw, 0, MOST_BUDGET) : drawn(draw, 0, CELLS / (job.weights.count + 1) - 1);
     for (i = 0; i < job.weights.count; i++) {
         job.weights.at[i] = chance(draw, 60) ? drawn(draw, 1, UINT32_MAX) : drawn(draw, 1, heaviest);

@@ -7,8 +7,8 @@
 #include "tell.h"
 #include <stdio.h>
 
-enum { EVERY = 150, ALL_BUDGETS = 34 };                                  /* every n up to one, with all budgets up to another */
-enum { MOST_RANK = 2 * MOST_LABELS, HEAVIEST = MOST_VALUE / MOST_RANK }; /* the heaviest label that may be worth so much for each unit */
+enum { EVERY = 150, ALL_BUDGETS = 34 }; /* every n up to one, with all budgets up to another */
+enum { MANY = 1025 };                   /* above so many labels the second program takes long, and is asked for half of them alone */
 
 static unsigned long tried, alike;
 static struct job job;
@@ -33,6 +33,15 @@ enum {
     ORDERS
 };
 
+/* The greatest rank among n labels, and the heaviest label that may be worth so much for each unit. */
+static uint32_t most_rank(uint32_t n) {
+    return 2 * n + 2;
+}
+
+static uint32_t heaviest_of(uint32_t n) {
+    return MOST_VALUE / most_rank(n);
+}
+
 /* From 1 to the most for each label. */
 static uint32_t rank(int order, uint32_t n, uint32_t i, struct draw *draw) {
     uint32_t half = n / 2, run = 2 + n % 9, down = n - i;
@@ -48,7 +57,7 @@ static uint32_t rank(int order, uint32_t n, uint32_t i, struct draw *draw) {
     case FIRST_LAST: return i == 0 ? 1 : down + 1;
     case PIPE: return i < half ? i + 1 : down;
     case FEW_DRAWN: return drawn(draw, 1, 4);
-    case DRAWN: return drawn(draw, 1, MOST_RANK);
+    case DRAWN: return drawn(draw, 1, most_rank(n));
     default: return down;
     }
 }
@@ -100,29 +109,30 @@ static void try_ones(int order, uint32_t n) {
     set_order(order, n, 1);
     for (k = 0; n <= ALL_BUDGETS && k <= n; k++) try_budget(order, k, 1);
     if (n <= ALL_BUDGETS) return;
-    try_budget(order, n, 1);
     try_budget(order, n / 2, 1);
+    if (n > MANY) return;
+    try_budget(order, n, 1);
     for (k = 0; k < some_budgets(n); k++) try_budget(order, drawn(&draw, 1, n - 1), 1);
 }
 
 /* Labels of other weights: what fits depends on all that came before. */
 static void try_others(int order, uint32_t n) {
     struct draw draw = {n};
-    uint32_t k;
-    set_order(order, n, HEAVIEST);
-    for (k = 0; k < some_budgets(n); k++) try_budget(order, drawn(&draw, 0, HEAVIEST * n / 2), 0);
+    uint32_t k, heaviest = heaviest_of(n);
+    set_order(order, n, heaviest);
+    for (k = 0; k < some_budgets(n); k++) try_budget(order, drawn(&draw, 0, heaviest * n / 2), 0);
 }
 
 static void try_size(uint32_t n) {
     int order;
     for (order = 0; order < ORDERS; order++) {
         try_ones(order, n);
-        try_others(order, n);
+        if (n <= MANY) try_others(order, n);
     }
 }
 
 void part_quick_orders(void) {
-    static const uint32_t more[] = {191, 192, 193, 255, 256, 257, 384, 511, 512, 513, 700, MOST_LABELS - 1, MOST_LABELS};
+    static const uint32_t more[] = {191, 192, 193, 255, 256, 257, 384, 511, 512, 513, 700, 1023, 1024, MANY, MOST_LABELS};
     uint32_t n, k;
     for (n = 0; n <= EVERY; n++) try_size(n);
     for (k = 0; k < sizeof more / sizeof more[0]; k++) try_size(more[k]);

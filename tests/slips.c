@@ -1,5 +1,6 @@
 /* The calls of docs/SLIPS.md that the program can't show, with the right answers that stand there: on tables that held something, on slices
- * that are too short, the checker's, and quick answers. The jobs of the other slips are examples/slip-*.job. */
+ * that are too short, the checker's, quick answers, and claims of which there are too many. The jobs of the other slips are
+ * examples/slip-*.job. */
 #include "calls.h"
 #include "parts.h"
 #include "tell.h"
@@ -130,10 +131,32 @@ static void try_quick_call(const struct quick_call *call) {
     }
 }
 
+/* Slip 33: one claim too many, each of 1, on as many picks, which held 77. */
+static void too_many_claims(void) {
+    enum { N = MOST_CLAIMS + 1 };
+    static const struct plain_room lengths = {0, 0, N};
+    static struct bytes bytes;
+    static struct job job;
+    uint32_t ones[N], picks[N], i;
+    uint64_t first = 77, second = 77;
+    for (i = 0; i < N; i++) {
+        ones[i] = 1;
+        picks[i] = 77;
+    }
+    about("slip", 33);
+    set_job(&job, KIND_SHARES, N, N, ones, NULL, NULL);
+    put_job(&bytes, &job);
+    same("the refusal", 4, solve_in(LIGHT_WAY, bytes.at, bytes.length, &lengths, NULL, NULL, picks, &first, &second));
+    same("first", 0, first);
+    same("second", 0, second);
+    for (i = 0; i < N; i++) same_at("the pick", i, 77, picks[i]);
+}
+
 void part_slips(void) {
-    size_t k, others = sizeof claims / sizeof claims[0] + sizeof quick_calls / sizeof quick_calls[0];
+    size_t k, others = sizeof claims / sizeof claims[0] + sizeof quick_calls / sizeof quick_calls[0] + 1;
     for (k = 0; k < sizeof calls / sizeof calls[0]; k++) try_call(&calls[k]);
     for (k = 0; k < sizeof claims / sizeof claims[0]; k++) try_claim(&claims[k]);
     for (k = 0; k < sizeof quick_calls / sizeof quick_calls[0]; k++) try_quick_call(&quick_calls[k]);
+    too_many_claims();
     printf("slips: %d calls\n", (int)(sizeof calls / sizeof calls[0] + others));
 }

@@ -297,7 +297,7 @@ static void too_large(void) {
     is_too_large(two_to_32 + 512);
     many_alike(MANY, MOST_VALUE, 0, LEAST_Q); /* with a divisor of 31, and 2,114 of each cut value */
     is_too_large((MANY + 1) * (MANY * 2114u + 1));
-    many_alike(MOST_LABELS, MOST_VALUE, 0, MOST_Q); /* the greatest: with 1,024 labels 1,025 rows of 67,107,841 totals */
+    many_alike(MOST_LABELS, MOST_VALUE, 0, MOST_Q); /* the greatest: with 4,096 labels 4,097 rows of 268,431,361 totals */
     is_too_large((most + 1) * (most * MOST_VALUE + 1));
 }
 

@@ -147,7 +147,7 @@ cells : Computes statedCells (
     ∷ heavy-last gives 27
     ∷ none-fits gives 1
     ∷ stated 3 2 [] [] gives 1
-    ∷ stated mostBudget 64 (replicate 1_024 1) (replicate 1_024 65_535) gives 68_785_537_025  -- more than 32 bits hold
+    ∷ stated mostBudget mostQ (replicate mostLabels 1) (replicate mostLabels mostValue) gives 1_099_763_286_017  -- the most, which 32 bits don't hold
     ∷ []
     )
 unfolding opens

@@ -6,7 +6,7 @@ use mathlib.Core.List.{List, [], _++_, _∷_}
 use lib.ListN.{replicate}
 use Rattle.meaning.specs.declared.Written.the-variants as Reports
 use Rattle.meaning.specs.Slices.{Holds}
-use Rattle.meaning.specs.Bounds.{mostBudget}
+use Rattle.meaning.specs.Bounds.{mostBudget, mostLabels}
 use Rattle.meaning.specs.Job.{Job, Knapsack, once, limited, free}
 use Rattle.meaning.specs.Bytes.{jobBytes}
 use Rattle.meaning.specs.Writer.{Writes, WritesBytes, WritesFor, WritesRead, bytesNeeded, certificate, newBytes, slicesFit, writerRefusal, writtenAs}
@@ -45,6 +45,19 @@ writings : Computes writing (
     )
 unfolding opens writerRefusal slicesFit bytesNeeded
 writings = refl
+
+abbrev bytesOfJob : Knapsack × Job → ℕ
+bytesOfJob (k, j) = bytesNeeded k j
+
+-- the longest: with the most labels and the greatest budget a table of kinds 1 and 2 is a certificate of 1 GB
+most-bytes : Computes bytesOfJob (
+    (once, plain 1 mostBudget (replicate mostLabels 1) [] []) gives 1_074_020_360
+    ∷ (limited, plain 2 mostBudget (replicate mostLabels 1) [] []) gives 1_074_020_360
+    ∷ (free, plain 3 mostBudget (replicate mostLabels 1) [] []) gives 278_536
+    ∷ []
+    )
+unfolding opens bytesNeeded
+most-bytes = refl
 
 needed-places-alone : certificate once noLabels (8 ∷ []) (5 ∷ 6 ∷ []) ≡ 0 ∷ 0 ∷ 0 ∷ 0 ∷ 1 ∷ 0 ∷ 0 ∷ 0 ∷ 5 ∷ 0 ∷ 0 ∷ 0 ∷ []
 unfolding opens certificate
