@@ -273,7 +273,8 @@ fn growth() {
         let [random, ..] = families(n, 60_000, 3_000);
         time(answered_quickly(&random, 1).best[0])
     };
-    println!("\nQuick answers, random labels: {} for 500, {} for 1,000.", quick(500), quick(1_000));
+    let most = said(MOST_LABELS);
+    println!("\nQuick answers, random labels: {} for 500, {} for 1,000, {} for {most}.", quick(500), quick(1_000), quick(MOST_LABELS));
     growth_with_labels();
     growth_with_counts();
     growth_of_stated();

@@ -28,7 +28,8 @@
  *     a count                              as many as quabnester_full_cells_needed says: (n+1)(C+1), or C+1 in kind 3
  *     so many numbers                      the cells: cell i(C+1)+c claims a value that the first i labels can't beat
  *                                          with budget c; in kind 3 cell c claims one that no labels can beat with it
- * quabnester_certificate_bytes says how many bytes that are.
+ * quabnester_certificate_bytes says how many bytes that are: up to 1,074,020,360 in kinds 1 and 2, with the most labels
+ * and the greatest budget.
  */
 #ifndef QUABNESTER_H
 #define QUABNESTER_H

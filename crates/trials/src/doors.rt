@@ -9,7 +9,8 @@ ghost use lib.ListN.{length};
 // Where the budgets' count stands.
 const BUDGETS: usize = 2;
 
-// How many cells, words and picks are lent where a job says nothing of it, and how many bytes a job may have: more than any of the list needs.
+// How many cells, words and picks are lent where a job says nothing of it, and how many bytes a job may have: as many as any of the list needs that
+// keeps its bounds, or more.
 const CELLS: usize = 131_072;
 
 const WORDS: usize = 65_536;
