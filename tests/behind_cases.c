@@ -145,7 +145,8 @@ static void more_cells(void) {
 
 /* ---- many labels, with the greatest budget */
 
-/* So many labels of weights that step up, save for the last one. Kind 4 isn't asked, since these jobs take long. */
+/* So many labels of weights that step up, save for the last one. The second program isn't asked for kind 4 too, since these jobs take long.
+ */
 static const struct plain_answer *try_many(uint32_t n, uint32_t weight, uint32_t step, uint32_t last) {
     struct plain_room lengths;
     uint32_t i;
@@ -170,6 +171,7 @@ static void all_alike(void) {
         uint32_t over = t % WEIGHT;
         same_at("its cell", t, over == 0 ? t / WEIGHT : over == WEIGHT - 1 ? MOST_LABELS : NO, answer->cells[t]);
     }
+    holds("that C is reached as kind 4 as well", agree_on_totals(&bytes));
 }
 
 /* Weights 1, 2, 3 and so on: the first i reach all up to their sum, i(i+1)/2. One of those that make C is left out: what is too much. */

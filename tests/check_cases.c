@@ -339,6 +339,18 @@ static void other_budgets(void) {
     }
 }
 
+/* The most labels, of which case A's certificate has too few, and one more. */
+static void most_labels(uint32_t kind) {
+    uint32_t n;
+    fresh(kind);
+    for (n = MOST_LABELS; n <= MOST_LABELS + 1; n++) {
+        about("labels", tried++);
+        alike_labels(&job, kind, n, CASE_A_BUDGET);
+        put_job(&bytes, &job);
+        verdict_is(&bytes, &certificate, n <= MOST_LABELS ? 11 : 4, 0);
+    }
+}
+
 /* Two copies that are kept, claimed for one; and claims for one, where there are two. */
 static void copies_of_others(void) {
     static const uint32_t cells[] = {0, 0, 0, 0, 3, 6}, fewer[] = {0, 0, 0, 0, 3, 3}, twice = 2, once = 1;
@@ -425,6 +437,7 @@ void part_check(void) {
         no_labels(kind);
         other_counts(kind);
         wrong_counts(kind);
+        most_labels(kind);
         faults_together(kind);
     }
     printf("check: %lu certificates by hand\n", tried);

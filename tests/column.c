@@ -1,6 +1,6 @@
 /* The column that K7 is about, of 3,700 labels: in each kind that may have so many it is answered as the second program's tables have it,
- * whole slices, and in both ways. Its labels are light, so that hundreds are kept; or any, so that most aren't. Kind 9's are all left, most
- * of them worth nothing; or most are left aside, and the others' values are cut. */
+ * whole slices, and in both ways. Its labels are light, so that many are kept, but in kind 3, where one is kept many times; or any, so that
+ * most aren't. In kind 9 all of them remain, worth 0 or 1, or most are left aside and the others' values are cut; it has its share. */
 #include "calls.h"
 #include "draw.h"
 #include "parts.h"
@@ -12,23 +12,24 @@ enum { COLUMN = 3700 };
 /* The greatest budget for which the second program has room for a row for each number of labels. */
 enum { TABLE_BUDGET = PLAIN_CELLS / (COLUMN + 1) - 1 };
 
-/* Weights from 1 to the heaviest and values up to the dearest; one label in so many is worth something. At least so many are kept, in kinds
- * that tell which. */
 static const struct column {
-    uint32_t kind, budget, q, heaviest, dearest, worth_in, kept;
+    uint32_t kind, budget, q;
+    uint32_t lightest, heaviest, dearest; /* weights from the one to the other, values up to the last */
+    uint32_t worth_in;                    /* of so many labels one may be worth more than the least */
+    uint32_t kept;                        /* so many are kept at least, in a kind that tells which */
 } columns[] = {
-    {KIND_ONCE, TABLE_BUDGET, LEAST_Q, 3, MOST_VALUE, 1, 500},
-    {KIND_ONCE, TABLE_BUDGET, LEAST_Q, 2 * TABLE_BUDGET, 999, 3, 20},
-    {KIND_COPIES, TABLE_BUDGET, LEAST_Q, 3, 999, 1, 100},
-    {KIND_COPIES, TABLE_BUDGET, LEAST_Q, 2 * TABLE_BUDGET, MOST_VALUE, 3, 9},
-    {KIND_ANY, TABLE_BUDGET, LEAST_Q, 900, 999, 1, 1},
-    {KIND_ANY, TABLE_BUDGET, LEAST_Q, 9, 1, 1, 1},
-    {KIND_SUMS, MOST_BUDGET, LEAST_Q, 20, 0, 1, 0},
-    {KIND_SUMS, 9999, LEAST_Q, MOST_BUDGET, 0, 1, 0},
-    {KIND_LABELS_BEHIND, MOST_BUDGET, LEAST_Q, 40, 0, 1, 3000},
-    {KIND_LABELS_BEHIND, 9999, LEAST_Q, MOST_BUDGET, 0, 1, 2},
-    {KIND_STATED_SHARE, 900, LEAST_Q, 3, 1, 2, 300},
-    {KIND_STATED_SHARE, 999, 10, 60 * 999, MOST_VALUE, 1, 2},
+    {KIND_ONCE, TABLE_BUDGET, LEAST_Q, 1, 3, MOST_VALUE, 1, 500},
+    {KIND_ONCE, TABLE_BUDGET, LEAST_Q, 1, 2 * TABLE_BUDGET, 999, 3, 20},
+    {KIND_COPIES, TABLE_BUDGET, LEAST_Q, 1, 3, 999, 1, 100},
+    {KIND_COPIES, TABLE_BUDGET, LEAST_Q, 1, 2 * TABLE_BUDGET, MOST_VALUE, 3, 9},
+    {KIND_ANY, TABLE_BUDGET, LEAST_Q, 200, 600, 3, 1, 2},
+    {KIND_ANY, TABLE_BUDGET, LEAST_Q, 1, 9, 1, 1, 1},
+    {KIND_SUMS, MOST_BUDGET, LEAST_Q, 1, 40, 0, 1, 0},
+    {KIND_SUMS, 9999, LEAST_Q, 1, MOST_BUDGET, 0, 1, 0},
+    {KIND_LABELS_BEHIND, MOST_BUDGET, LEAST_Q, 1, 40, 0, 1, 3000},
+    {KIND_LABELS_BEHIND, 9999, LEAST_Q, 1, MOST_BUDGET, 0, 1, 2},
+    {KIND_STATED_SHARE, 900, LEAST_Q, 1, 3, 1, 2, 300},
+    {KIND_STATED_SHARE, 999, 10, 1, 60 * 999, MOST_VALUE, 1, 2},
 };
 
 static struct job job;
@@ -39,7 +40,7 @@ static void draw_column(const struct column *column, struct draw *draw) {
     uint32_t i, least = plain_kind(column->kind)->least_value;
     uint32_t weights[COLUMN], values[COLUMN], copies[COLUMN];
     for (i = 0; i < COLUMN; i++) {
-        weights[i] = drawn(draw, LEAST_WEIGHT, column->heaviest);
+        weights[i] = drawn(draw, column->lightest, column->heaviest);
         values[i] = i % column->worth_in == 0 ? drawn(draw, least, GREATER(least, column->dearest)) : least;
         copies[i] = drawn(draw, LEAST_COPIES, 9);
     }
@@ -58,6 +59,7 @@ static void try_column(const struct column *column, uint64_t number) {
     struct draw draw = {COLUMN + number};
     struct plain_room lengths[PLAIN_WAYS];
     const struct plain_answer *answer;
+    enum best_by by = NO_BEST;
     about("column", number);
     draw_column(column, &draw);
     lengths[LIGHT_WAY] = room_of(&job, LIGHT_WAY);
@@ -67,6 +69,8 @@ static void try_column(const struct column *column, uint64_t number) {
     same("the second program's refusal", 0, answer->refused);
     holds("that so many labels are kept", kept(answer) >= column->kept);
     all_kept += kept(answer);
+    if (job.kind == KIND_STATED_SHARE) is_below_best(&bytes, answer, &by); /* after which the answer is gone */
+    same("how the best of kind 1 was found", job.kind == KIND_STATED_SHARE ? BY_TABLE : NO_BEST, by);
 }
 
 void part_column(void) {

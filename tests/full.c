@@ -1,7 +1,7 @@
 /* The most labels, from solving to checking, for each kind that has certificates; then one cell or one pick changed. With the greatest
- * budget, too, a table of kinds 1 and 2 would take a gigabyte and its certificate another: theirs is a quarter of it, and the two slices
- * that they share take a quarter of that. Kind 1 is solved in both ways: the full one leaves what a certificate is written from, and the
- * light one is held to that. With the greatest budget kind 1 is solved in the light way, and kind 3 from solving to checking. */
+ * budget as well, a table of kinds 1 and 2 would take a gigabyte, and its certificate another: so their budget is a quarter of it. The two
+ * kinds share both slices. Kind 1 is solved in both ways: the full one leaves what a certificate is written from, and the light one is held
+ * to that. At both bounds are kind 3, from solving to checking, and kind 1 in the light way. */
 #include "calls.h"
 #include "draw.h"
 #include "parts.h"
@@ -11,7 +11,6 @@
 
 enum { N = MOST_LABELS, TABLE_BUDGET = ROW(MOST_BUDGET) / 4 - 1 }; /* of which a table and a certificate are made */
 
-static uint32_t C; /* the job's budget */
 static struct job job;
 static struct bytes bytes;
 static struct plain_job read;
@@ -41,8 +40,7 @@ static void draw_full(uint32_t kind, uint32_t budget) {
         if (kind == KIND_COPIES) draw_copies(&draw, i, &weights[i], &copies[i]);
     }
     if (kind == KIND_ANY) weights[0] = values[0] = 1; /* then each cell is worth more than the one before it */
-    C = budget;
-    set_job(&job, kind, C, N, weights, values, copies);
+    set_job(&job, kind, budget, N, weights, values, copies);
     put_job(&bytes, &job);
     read_back(&bytes, &read);
     room = plain_certificate_room(&read);
@@ -64,14 +62,14 @@ static uint64_t picked(const struct list *each) {
 
 /* Row i of the table that was left. */
 static const uint32_t *row_of(uint32_t i) {
-    return (uint32_t *)solved.cells.slice + (size_t)i * ROW(C);
+    return (uint32_t *)solved.cells.slice + (size_t)i * ROW(job.budget);
 }
 
 /* Row 0, and each row, or one in `every`, is what the second program makes of the one before it. */
 static void rows_are_best(uint32_t every) {
     static uint32_t row[ROW(TABLE_BUDGET)];
     uint32_t i;
-    for (i = 0; i <= C; i++) row[i] = 0;
+    for (i = 0; i <= job.budget; i++) row[i] = 0;
     holds("row 0", memcmp(row_of(0), row, sizeof row) == 0);
     for (i = every - 1; i < N; i += every) {
         about("full, row", i + 1);
@@ -82,7 +80,7 @@ static void rows_are_best(uint32_t every) {
 
 /* From the last label to the first, each count is the smallest with which the best is made. */
 static void picks_are_least(void) {
-    uint32_t i, left = C;
+    uint32_t i, left = job.budget;
     for (i = N; i-- > 0;) {
         uint32_t pick = 0, weight = job.weights.at[i], value = job.values.at[i];
         while (pick * weight <= left && row_of(i)[left - pick * weight] + pick * value != row_of(i + 1)[left]) pick++;
@@ -95,7 +93,7 @@ static void is_solved(void) {
     same("the refusal", 0, solved.refused);
     same("the value", picked(&job.values), solved.first);
     same("the weight", picked(&job.weights), solved.second);
-    holds("that the picks fit", solved.second <= C);
+    holds("that the picks fit", solved.second <= job.budget);
     same("the last cell", solved.first, ((uint32_t *)solved.cells.slice)[room.cells - 1]);
     kept_the_rest(&solved, &room);
 }
@@ -111,21 +109,21 @@ static void solve_again(void) {
 /* Word m of a label, by its row and the row without it. */
 static uint64_t bits_of(const uint32_t *with, const uint32_t *without, uint32_t m) {
     uint64_t bits = 0;
-    uint32_t b, c;
-    for (b = 0; b < WORD_BITS && (c = m * WORD_BITS + b) <= C; b++) bits |= (uint64_t)(with[c] > without[c]) << b;
+    uint32_t c, from = m * WORD_BITS;
+    for (c = from; c < from + WORD_BITS && c <= job.budget; c++) bits |= (uint64_t)(with[c] > without[c]) << (c - from);
     return bits;
 }
 
 /* The words of label i. */
 static const uint64_t *words_of(const struct solved *light, uint32_t i) {
-    return (uint64_t *)light->words.slice + (size_t)i * WORDS_OF_BITS(C);
+    return (uint64_t *)light->words.slice + (size_t)i * WORDS_OF_BITS(job.budget);
 }
 
 static void bits_are_right(const struct solved *light, uint32_t i, const uint32_t *with, const uint32_t *without) {
     uint32_t m = 0;
-    while (m < WORDS_OF_BITS(C) && words_of(light, i)[m] == bits_of(with, without, m)) m++;
+    while (m < WORDS_OF_BITS(job.budget) && words_of(light, i)[m] == bits_of(with, without, m)) m++;
     about("full, the light way, label", i);
-    same("the words that are right", WORDS_OF_BITS(C), m);
+    same("the words that are right", WORDS_OF_BITS(job.budget), m);
 }
 
 /* Beside the table that was left in the full way: the last label's bits, and those of one in so many before it. */
@@ -134,13 +132,13 @@ static void beside_the_table(void) {
     struct plain_room needed = plain_room(&read, LIGHT_WAY);
     struct solved light;
     uint32_t i;
-    about("full, the light way", C);
+    about("full, the light way", job.budget);
     solve(&light, &bytes, LIGHT_WAY, &needed, 9);
     same("the refusal", 0, light.refused);
     same("the value", solved.first, light.first);
     same("the weight", solved.second, light.second);
     holds("the picks", memcmp(light.picks.slice, solved.picks.slice, N * 4) == 0);
-    holds("the row", memcmp(light.cells.slice, row_of(N), ROW(C) * 4) == 0);
+    holds("the row", memcmp(light.cells.slice, row_of(N), ROW(job.budget) * 4) == 0);
     kept_the_rest(&light, &needed);
     for (i = N; i > EVERY; i -= EVERY) bits_are_right(&light, i - 1, row_of(i), row_of(i - 1));
     give_back_solved(&light);
@@ -150,17 +148,17 @@ static void beside_the_table(void) {
 static void rows_are_passed(void) {
     static uint32_t rows[2][ROW(MOST_BUDGET)];
     uint32_t i;
-    for (i = 0; i <= C; i++) rows[0][i] = 0;
+    for (i = 0; i <= job.budget; i++) rows[0][i] = 0;
     for (i = 0; i < N; i++) {
         plain_next_row(&read, i, rows[i % 2], rows[(i + 1) % 2]);
         bits_are_right(&solved, i, rows[(i + 1) % 2], rows[i % 2]);
     }
-    holds("the row", memcmp(solved.cells.slice, rows[N % 2], ROW(C) * 4) == 0);
+    holds("the row", memcmp(solved.cells.slice, rows[N % 2], ROW(job.budget) * 4) == 0);
 }
 
 /* From the last label to the first, each is kept where its bit for what is left is set: without it less is made of that. */
 static void picks_are_by_bits(void) {
-    uint32_t i, left = C;
+    uint32_t i, left = job.budget;
     for (i = N; i-- > 0;) {
         uint32_t pick = words_of(&solved, i)[left / WORD_BITS] >> left % WORD_BITS & 1;
         about("full, the light way, label", i);
@@ -171,8 +169,8 @@ static void picks_are_by_bits(void) {
 static void at_both_bounds(void) {
     draw_full(KIND_ONCE, MOST_BUDGET);
     room = plain_room(&read, LIGHT_WAY);
-    about("full, the light way", C);
-    same("the words needed", (uint64_t)N * WORDS_OF_BITS(C), room.words);
+    about("full, the light way", job.budget);
+    same("the words needed", (uint64_t)N * WORDS_OF_BITS(job.budget), room.words);
     solve(&solved, &bytes, LIGHT_WAY, &room, 9);
     is_solved();
     rows_are_passed();
@@ -220,7 +218,7 @@ static void lower(uint64_t place) {
 
 /* The number of K(i,c). */
 static uint64_t place_of(uint32_t i, uint32_t c) {
-    return (uint64_t)i * ROW(C) + c;
+    return (uint64_t)i * ROW(job.budget) + c;
 }
 
 /* Another pick for a label: it isn't allowed, or the list is too heavy, or worth another value than the table claims. */
@@ -230,7 +228,7 @@ static void turn(uint32_t label, uint32_t pick) {
     *pick_of(label) = pick;
     put_at(at, pick);
     if (pick > most_picked(&job, label)) verdict_now(12, label);
-    else verdict_now(picked(&job.weights) > C ? 13 : picked(&job.values) != solved.first ? 15 : 0, 0);
+    else verdict_now(picked(&job.weights) > job.budget ? 13 : picked(&job.values) != solved.first ? 15 : 0, 0);
     *pick_of(label) = kept;
     put_at(at, kept);
 }
@@ -244,7 +242,7 @@ static uint32_t first_kept(void) {
 
 static uint32_t first_left(void) {
     uint32_t i = 0;
-    while (i < N && (*pick_of(i) == most_picked(&job, i) || job.weights.at[i] + solved.second <= C)) i++;
+    while (i < N && (*pick_of(i) == most_picked(&job, i) || job.weights.at[i] + solved.second <= job.budget)) i++;
     return i;
 }
 
@@ -265,7 +263,7 @@ static void print_kind(void) {
 static void once(void) {
     draw_full(KIND_ONCE, TABLE_BUDGET);
     about("full, solve", KIND_ONCE);
-    same("the cells needed", FULL_TABLE((uint64_t)N, C), room.cells);
+    same("the cells needed", FULL_TABLE((uint64_t)N, job.budget), room.cells);
     solve(&solved, &bytes, FULL_WAY, &room, 9);
     is_solved();
     rows_are_best(1);
@@ -275,8 +273,8 @@ static void once(void) {
     write_full();
     verdict_now(0, solved.first);
     lower(place_of(1, job.weights.at[0]));
-    lower(place_of(N, C / 2));
-    lower(place_of(N, C));
+    lower(place_of(N, job.budget / 2));
+    lower(place_of(N, job.budget));
     if (holds("that a label is kept", first_kept() < N)) turn(first_kept(), 0);
     other_picks();
     print_kind();
@@ -292,8 +290,8 @@ static void copies(void) {
     picks_are_least();
     write_full();
     verdict_now(0, solved.first);
-    lower(place_of(MANY_IN, C / 2));
-    lower(place_of(N, C));
+    lower(place_of(MANY_IN, job.budget / 2));
+    lower(place_of(N, job.budget));
     other_picks();
     print_kind();
 }
@@ -308,7 +306,7 @@ static void any_number(void) {
     write_full();
     same("the verdict", 0, judged(&bytes, written.out.slice, written.bytes));
     lower(1);
-    lower(C);
+    lower(job.budget);
     other_picks();
     print_kind();
 }

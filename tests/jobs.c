@@ -78,6 +78,12 @@ void set_job(struct job *job, uint32_t kind, uint32_t budget, uint32_t n, const 
     set_list(&job->copies, plain_kind(kind)->copies ? n : 0, copies);
 }
 
+void alike_labels(struct job *job, uint32_t kind, uint32_t n, uint32_t budget) {
+    uint32_t ones[MOST_NUMBERS], i;
+    for (i = 0; i < n; i++) ones[i] = 1;
+    set_job(job, kind, budget, n, ones, ones, ones);
+}
+
 void case_a(struct job *job, uint32_t kind) {
     static const uint32_t weights[CASE_A_LABELS] = {3, 4, 5}, values[CASE_A_LABELS] = {4, 5, 6}, copies[CASE_A_LABELS] = {1, 1, 1};
     set_job(job, kind, CASE_A_BUDGET, CASE_A_LABELS, weights, values, copies);

@@ -49,6 +49,9 @@ void set_list(struct list *list, uint32_t count, const uint32_t *numbers);
 void set_job(struct job *job, uint32_t kind, uint32_t budget, uint32_t n, const uint32_t *weights, const uint32_t *values,
              const uint32_t *copies);
 
+/* So many labels, or claims, of 1: each list that the kind uses. */
+void alike_labels(struct job *job, uint32_t kind, uint32_t n, uint32_t budget);
+
 /* Document 01's case A: weights 3 4 5, values 4 5 6, C 7; as a job of any kind, with one copy of each. */
 enum {
     CASE_A_LABELS = 3,

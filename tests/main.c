@@ -16,11 +16,11 @@ static const struct {
     void (*run)(void);
     int third;
 } parts[] = {
-    {part_header, ENTRIES}, {part_solve, SOLVER},  {part_ties, SOLVER},         {part_totals, SOLVER},       {part_light, LARGE},
-    {part_behind, LARGE},   {part_stated, LARGE},  {part_quick, SOLVER},        {part_slips, ENTRIES},       {part_write, ENTRIES},
-    {part_check, ENTRIES},  {part_empty, ENTRIES}, {part_quick_orders, SOLVER}, {part_quick_drawn, LARGE},   {part_drawn, SOLVER},
-    {part_large, LARGE},    {part_column, SOLVER}, {part_ring, ENTRIES},  {part_claims, ENTRIES},      {part_claims_long, ENTRIES}, {part_damage, ENTRIES},
-    {part_full, ENTRIES},
+    {part_header, ENTRIES}, {part_solve, SOLVER},  {part_ties, SOLVER},         {part_totals, SOLVER},     {part_light, LARGE},
+    {part_behind, LARGE},   {part_stated, LARGE},  {part_quick, SOLVER},        {part_slips, ENTRIES},     {part_write, ENTRIES},
+    {part_check, ENTRIES},  {part_empty, ENTRIES}, {part_quick_orders, SOLVER}, {part_quick_drawn, LARGE}, {part_drawn, SOLVER},
+    {part_large, LARGE},    {part_column, SOLVER}, {part_ring, ENTRIES},        {part_claims, ENTRIES},    {part_claims_long, ENTRIES},
+    {part_damage, ENTRIES}, {part_full, ENTRIES},
 };
 
 /* The third that a word asks for, or THIRDS. */

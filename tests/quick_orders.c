@@ -8,7 +8,7 @@
 #include <stdio.h>
 
 enum { EVERY = 150, ALL_BUDGETS = 34 }; /* every n up to one, with all budgets up to another */
-enum { MANY = 1025 };                   /* above so many labels the second program takes long, and is asked for half of them alone */
+enum { MANY = 1025 };                   /* of more labels, which take the second program long, half are asked for, each of weight 1 */
 
 static unsigned long tried, alike;
 static struct job job;
@@ -102,7 +102,7 @@ static uint32_t some_budgets(uint32_t n) {
     return n <= EVERY ? 3 : 1;
 }
 
-/* All budgets of a few labels, and else all of the labels, half of them, and some others. */
+/* All budgets of a few labels, and else half of the labels; and where there aren't too many, all of them and some others. */
 static void try_ones(int order, uint32_t n) {
     struct draw draw = {n};
     uint32_t k;

@@ -137,14 +137,11 @@ static void too_many_claims(void) {
     static const struct plain_room lengths = {0, 0, N};
     static struct bytes bytes;
     static struct job job;
-    uint32_t ones[N], picks[N], i;
+    uint32_t picks[N], i;
     uint64_t first = 77, second = 77;
-    for (i = 0; i < N; i++) {
-        ones[i] = 1;
-        picks[i] = 77;
-    }
+    for (i = 0; i < N; i++) picks[i] = 77;
     about("slip", 33);
-    set_job(&job, KIND_SHARES, N, N, ones, NULL, NULL);
+    alike_labels(&job, KIND_SHARES, N, N);
     put_job(&bytes, &job);
     same("the refusal", 4, solve_in(LIGHT_WAY, bytes.at, bytes.length, &lengths, NULL, NULL, picks, &first, &second));
     same("first", 0, first);

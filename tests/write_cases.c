@@ -96,6 +96,16 @@ static void try_longer(uint32_t kind) {
     for (more = 0; more <= 2; more++) is_written(N, MOST_CELLS + more, CASE_A_CERTIFICATE);
 }
 
+/* The most labels, for which these slices are too short, and one more. */
+static void most_labels(uint32_t kind) {
+    uint32_t n;
+    for (n = MOST_LABELS; n <= MOST_LABELS + 1; n++) {
+        alike_labels(&job, kind, n, CASE_A_BUDGET);
+        put_job(&bytes, &job);
+        is_turned_down(N, MOST_CELLS, CASE_A_CERTIFICATE, n <= MOST_LABELS ? 6 : 4);
+    }
+}
+
 /* One budget where the kind has two, or two where it has one: the bytes can't be read, and the kind isn't asked for. */
 static void other_budgets(uint32_t kind) {
     fresh(kind);
@@ -111,6 +121,7 @@ void part_write(void) {
     for (kind = 1; kind <= LAST_CHECKED_KIND; kind++) {
         for (mask = 0; mask < 1u << BITS; mask++) try_faults(kind, mask);
         try_longer(kind);
+        most_labels(kind);
     }
     for (kind = LAST_CHECKED_KIND + 1; kind <= LAST_KIND + 1; kind++) {
         fresh(kind);

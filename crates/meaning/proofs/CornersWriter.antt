@@ -49,7 +49,7 @@ writings = refl
 abbrev bytesOfJob : Knapsack × Job → ℕ
 bytesOfJob (k, j) = bytesNeeded k j
 
--- the longest: with the most labels and the greatest budget a table of kinds 1 and 2 is a certificate of 1 GB
+-- the longest: with the most labels and the greatest budget a certificate of kinds 1 and 2 has more than a gigabyte
 most-bytes : Computes bytesOfJob (
     (once, plain 1 mostBudget (replicate mostLabels 1) [] []) gives 1_074_020_360
     ∷ (limited, plain 2 mostBudget (replicate mostLabels 1) [] []) gives 1_074_020_360

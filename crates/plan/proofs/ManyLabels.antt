@@ -1,20 +1,20 @@
--- More labels than the program has picks, in a kind that has a pick for each label: whoever replies prints a refusal with 6, or with the lowest of
--- 3 to 5 that applies.
+-- More labels than the program has picks: in kinds 1, 2, 3, 8 and 9 whoever replies prints a refusal with 6, or with the lowest of 3 to 5 that
+-- applies.
 -- Assumes nothing.
 use mathlib.Core.Path.{_∙_, _≡_, ap, refl}
 use mathlib.Core.Option.{some}
 use Prim.Native.Nat.{ℕ, zero, suc, _≤_, _<_}
 use native.Mathlib.Omega.{arith}
 use mathlib.Core.Bool.{Bool, true, false, _&&_}
-use mathlib.Core.List.{List}
+use mathlib.Core.List.{List, [], _∷_, map}
 use lib.Dec.{leb}
-use lib.ListN.{length, length-replicate, take}
+use lib.ListN.{length, length-replicate, replicate, take}
 use borrow.Author.Tests.{lt-leb}
 use Rattle.meaning.specs.declared.Answer.{Answer}
 use Rattle.meaning.specs.declared.Answer.the-variants as Says
 use Rattle.meaning.specs.Lists.{if}
-use Rattle.meaning.specs.Job.{Job, Kind, kindOf, labels}
-use Rattle.meaning.specs.Lent.{Lent, Room, lentOf, roomFor}
+use Rattle.meaning.specs.Job.{Job, Kind, Knapsack, once, limited, free, packing, subset-sums, labels-behind, stated-share, kindOf, labels}
+use Rattle.meaning.specs.Lent.{Lent, Room, lentOf, onceRoom, roomBy, roomFor, roomOf}
 use Rattle.meaning.specs.Refusals.{jobRefusal, kindRefusal, roomFits, rulesOf}
 use Rattle.meaning.specs.Bytes.{readJob, readable}
 use Rattle.meaning.specs.Answers.{answerNumbers}
@@ -22,6 +22,8 @@ use Rattle.meaning.specs.Solved.{Outcome, Solved, TableHolds}
 use Rattle.meaning.proofs.Laws.{bytes-solved, kind-solved}
 use Rattle.meaning.proofs.Unique.{answer-numbers-unique}
 use Rattle.meaning.proofs.Valid.{has-passed}
+use Rattle.meaning.proofs.Opens.{opens}
+use Rattle.meaning.proofs.Cases.{plain}
 use Rattle.print.specs.Lines.{linesOf, refusedLines}
 use Rattle.print.proofs.Joined.{written-out}
 use Rattle.plan.specs.Replies.{JobReplied, Replied, a-job, longer, mostInput, ourPicks, ourSlices}
@@ -42,18 +44,18 @@ few-picks room lent few =
     rw (lt-leb (room .picks) (length (lent .picks)) few) (last-fails cells-fit words-fit)
 
 -- and what isn't refused with less is refused with 6
-at-most-6 : (k : Kind) (j : Job) (room : Room) (lent : Lent) → length (lent .picks) < room .picks
+six-or-less : (k : Kind) (j : Job) (room : Room) (lent : Lent) → length (lent .picks) < room .picks
     → kindRefusal room k j lent ≡ jobRefusal (rulesOf k) j 6
 unfolding kindRefusal if
-at-most-6 k j room lent few = rw (few-picks room lent few) refl
+six-or-less k j room lent few = rw (few-picks room lent few) refl
 
 -- so whoever solves it answers that
-pub refused-for-picks : (k : Kind) (j : Job) (before after : Lent) (a : Answer) → kindOf (j .kind-number) ≡ some k
+refused-for-picks : (k : Kind) (j : Job) (before after : Lent) (a : Answer) → kindOf (j .kind-number) ≡ some k
     → length (before .picks) < roomFor k j .picks → Solved j before a after → a ≡ Says.Refused (jobRefusal (rulesOf k) j 6)
 unfolding Outcome
 refused-for-picks k j before after a of-kind few solved =
     go (jobRefusal (rulesOf k) j 6) (λ none. absurd (omega (arith, has-passed (rulesOf k) j 6 none .later-none)))
-    (kind-solved j before k (jobRefusal (rulesOf k) j 6) a after of-kind (at-most-6 k j (roomFor k j) before few) solved)
+    (kind-solved j before k (jobRefusal (rulesOf k) j 6) a after of-kind (six-or-less k j (roomFor k j) before few) solved)
   where
     go : (r : ℕ) → ¬ (r ≡ 0) → Outcome r (roomFor k j) (TableHolds k j) k j before (answerNumbers a) after → a ≡ Says.Refused r
     go zero some-number o = absurd (some-number refl)
@@ -70,12 +72,44 @@ refused-prints : (kind r : ℕ) (a : Answer) (picks : List ℕ) → a ≡ Says.R
 unfolding linesOf
 refused-prints kind r a picks says = ap (λ (b : Answer). linesOf kind b picks) says
 
--- kinds 1, 2, 3, 8 and 9 have a pick for each label; so have 5 and 7, whose bounds are no more than the picks
-pub more-labels-than-picks : {input before after : List ℕ} {size : ℕ} (j : Job) (k : Kind) → length input ≤ mostInput → readJob input ≡ readable j
-    → kindOf (j .kind-number) ≡ some k → roomFor k j .picks ≡ labels j → ourPicks < labels j → Replied input before after size
+-- kinds 1, 2, 3, 8 and 9
+pub data PicksLabels : Kind → Type 0 where
+  a-knapsack : (s : Knapsack) → PicksLabels (packing s)
+  behind-a-total : PicksLabels labels-behind
+  for-a-share : PicksLabels stated-share
+
+-- have a pick for each label
+a-pick-each : {k : Kind} (j : Job) → PicksLabels k → roomFor k j .picks ≡ labels j
+unfolding roomBy onceRoom roomOf
+a-pick-each j (a-knapsack once) = refl
+a-pick-each j (a-knapsack limited) = refl
+a-pick-each j (a-knapsack free) = refl
+a-pick-each j behind-a-total = refl
+a-pick-each j for-a-share = refl
+
+pub more-labels-than-picks : {input before after : List ℕ} {size : ℕ} {k : Kind} (j : Job) → PicksLabels k → length input ≤ mostInput
+    → readJob input ≡ readable j → kindOf (j .kind-number) ≡ some k → ourPicks < labels j → Replied input before after size
     → take size after ≡ refusedLines (jobRefusal (rulesOf k) j 6)
-more-labels-than-picks j k short reads of-kind each more (longer long put) = absurd (omega arith)
-more-labels-than-picks {input} j k short reads of-kind each more (a-job short′ x) =
+more-labels-than-picks j picks short reads of-kind more (longer long put) = absurd (omega arith)
+more-labels-than-picks {input} {k = k} j picks short reads of-kind more (a-job short′ x) =
     let solved = bytes-solved input j ourSlices (x .left) (x .answer) reads (x .solved) in
-    let few : length (ourSlices .picks) < roomFor k j .picks = rw each (few-of-ours (labels j) more) in
+    let few : length (ourSlices .picks) < roomFor k j .picks = rw (a-pick-each j picks) (few-of-ours (labels j) more) in
     written-out (x .put) ∙ refused-prints _ _ (x .answer) _ (refused-for-picks k j ourSlices (x .left) (x .answer) of-kind few solved)
+
+-- ---- closed cases: as many labels as picks, and one more
+
+abbrev refused-here : Kind × Job → ℕ
+refused-here (k, j) = kindRefusal (roomFor k j) k j ourSlices
+
+at-our-picks : map refused-here (
+    (packing once, plain 1 63 (replicate ourPicks 1) (replicate ourPicks 1) [])
+    ∷ (packing once, plain 1 63 (replicate (suc ourPicks) 1) (replicate (suc ourPicks) 1) [])
+    ∷ (labels-behind, plain 8 63 (replicate ourPicks 1) [] [])
+    ∷ (labels-behind, plain 8 63 (replicate (suc ourPicks) 1) [] [])
+    ∷ (labels-behind, plain 8 63 (replicate (suc ourPicks) 0) [] [])  -- a lower number applies
+    ∷ (subset-sums, plain 4 63 (replicate (suc ourPicks) 1) [] [])  -- which has no picks
+    ∷ []
+    )
+    ≡ 0 ∷ 6 ∷ 0 ∷ 6 ∷ 5 ∷ 0 ∷ []
+unfolding opens ourSlices
+at-our-picks = refl
