@@ -9,7 +9,7 @@
 #include <stdio.h>
 #include <string.h>
 
-enum { N = MOST_LABELS, TABLE_BUDGET = ROW(MOST_BUDGET) / 4 - 1 }; /* of which a table and a certificate are made */
+enum { N = MOST_LABELS, TABLE_BUDGET = ROW(MOST_BUDGET) / 4 - 1 }; /* with which tables and certificates are made */
 
 static struct job job;
 static struct bytes bytes;
