@@ -191,6 +191,12 @@ struct both_ways try_both_ways(const struct bytes *job, const struct plain_room 
     return expected;
 }
 
+uint32_t labels_kept(const struct plain_answer *answer) {
+    uint32_t i, count = 0;
+    for (i = 0; i < answer->filled.picks; i++) count += answer->picks[i] > 0;
+    return count;
+}
+
 int other_rule_tells(const struct plain_job *job, int other, const uint32_t *picks) {
     uint32_t others[PLAIN_PICKS];
     struct plain_rule rule = plain_rule(job->kind);

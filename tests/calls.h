@@ -51,6 +51,9 @@ struct both_ways {
 };
 struct both_ways try_both_ways(const struct bytes *job, const struct plain_room lengths[PLAIN_WAYS], uint64_t salt);
 
+/* How many labels are kept, however often. */
+uint32_t labels_kept(const struct plain_answer *answer);
+
 /* Whether another tie rule than the kind's names other picks than these, of a job that was tried. Rule 1 reads the labels the other way
  * round, rule 2 wants the other counts, rule 3 does both. */
 enum { RULES = 4 };

@@ -48,13 +48,6 @@ static void draw_column(const struct column *column, struct draw *draw) {
     job.q = column->q;
 }
 
-/* How many labels are kept. */
-static uint32_t kept(const struct plain_answer *answer) {
-    uint32_t i, count = 0;
-    for (i = 0; i < answer->filled.picks; i++) count += answer->picks[i] > 0;
-    return count;
-}
-
 static void try_column(const struct column *column, uint64_t number) {
     struct draw draw = {COLUMN + number};
     struct plain_room lengths[PLAIN_WAYS];
@@ -67,8 +60,8 @@ static void try_column(const struct column *column, uint64_t number) {
     put_job(&bytes, &job);
     answer = try_both_ways(&bytes, lengths, number).of[LIGHT_WAY];
     same("the second program's refusal", 0, answer->refused);
-    holds("that so many labels are kept", kept(answer) >= column->kept);
-    all_kept += kept(answer);
+    holds("that so many labels are kept", labels_kept(answer) >= column->kept);
+    all_kept += labels_kept(answer);
     if (job.kind == KIND_STATED_SHARE) is_below_best(&bytes, answer, &by); /* after which the answer is gone */
     same("how the best of kind 1 was found", job.kind == KIND_STATED_SHARE ? BY_TABLE : NO_BEST, by);
 }

@@ -184,13 +184,6 @@ static int has_mixed(const struct plain_answer *answer) {
     return count >= 10;
 }
 
-/* How many labels are picked. */
-static uint32_t picked(const struct plain_answer *answer) {
-    uint32_t i, count = 0;
-    for (i = 0; i < answer->filled.picks; i++) count += answer->picks[i] > 0;
-    return count;
-}
-
 /* Kind 9: the same of a cut value and the totals that its pass goes over. */
 static int has_totals(int which) {
     uint32_t k;
@@ -214,7 +207,7 @@ static void count_stated(const struct plain_answer *answer) {
     loops[WIDE_ROW].came += stated.total >= 4096;
     loops[MANY_LEFT].came += stated.m >= MOST_LABELS / 5 && aside == 0;
     loops[MANY_ASIDE].came += stated.m >= 10 && aside >= 10;
-    loops[SEVERAL].came += picked(answer) >= 6;
+    loops[SEVERAL].came += labels_kept(answer) >= 6;
 }
 
 /* Kind 9 beside the best; what is expected is gone after it. */
@@ -243,7 +236,7 @@ static void count_loops(const struct plain_answer *answer) {
     loops[PRODUCT].came += kind == KIND_SHARES && has_product();
     loops[SUM].came += kind == KIND_SHARES && plain_sum(read.weights) > UINT32_MAX;
     for (which = NEAR; which <= EVEN; which++) loops[which].came += job.kind == KIND_LABELS_BEHIND && has_pass(which, STRETCH);
-    loops[TAKEN].came += kind == KIND_LABELS_BEHIND && picked(answer) >= 6;
+    loops[TAKEN].came += kind == KIND_LABELS_BEHIND && labels_kept(answer) >= 6;
     loops[LATE].came += kind == KIND_LABELS_BEHIND && job.weights.count >= 3 && answer->cells[job.budget] == job.weights.count;
     loops[MANY].came += kind != 0 && has_labels(kind) && job.weights.count >= MOST_LABELS / 5;
     loops[BOUND].came += kind != 0 && kind != KIND_SHARES && job.budget == MOST_BUDGET;

@@ -10,7 +10,7 @@ use Rattle.meaning.proofs.Opens.{opens}
 use Rattle.meaning.proofs.Cases.{plain}
 use Rattle.meaning.proofs.Computing.{Computes, _gives_, nothing, refusalOf}
 
--- document 01's own numbers: here alone they are said a second time, and a closed case below goes by the name (CornersNumbers has the other bounds)
+-- the documents' own numbers: here alone they are said a second time, and a closed case below goes by the name (CornersNumbers has the other bounds)
 bounds : Computes (λ (x : ℕ). x) (
     mostLabels gives 4_096
     ∷ mostSizes gives 64

@@ -1,4 +1,4 @@
--- The bounds on the numbers, each in one place: document 01's own numbers and no rule. Refusals says what is held to them.
+-- The bounds on the numbers, each in one place: the documents' own numbers and no rule. Refusals says what is held to them.
 -- Assumes nothing.
 use Prim.Native.Nat.{ℕ}
 
