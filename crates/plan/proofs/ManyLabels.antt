@@ -26,10 +26,11 @@ use Rattle.meaning.proofs.Opens.{opens}
 use Rattle.meaning.proofs.Cases.{plain}
 use Rattle.print.specs.Lines.{linesOf, refusedLines}
 use Rattle.print.proofs.Joined.{written-out}
-use Rattle.plan.specs.Replies.{JobReplied, Replied, a-job, longer, mostInput, ourPicks, ourSlices}
+use Rattle.plan.specs.Replies.{Replied, a-job, longer, mostInput, ourPicks, ourSlices}
 
 -- ---- too few picks, whoever lends them
 
+-- three tests, of which the last fails
 last-fails : (a b : Bool) → (a && b && false) ≡ false
 last-fails true true = refl
 last-fails true false = refl
@@ -63,6 +64,7 @@ refused-for-picks k j before after a of-kind few solved =
 
 -- ---- the program's
 
+-- more labels than our picks
 few-of-ours : (n : ℕ) → ourPicks < n → length (ourSlices .picks) < n
 unfolding ourSlices lentOf
 few-of-ours n more = omega (arith, length-replicate {A = ℕ} ourPicks 0)
@@ -87,6 +89,7 @@ a-pick-each j (a-knapsack free) = refl
 a-pick-each j behind-a-total = refl
 a-pick-each j for-a-share = refl
 
+-- so what is printed is a refusal with the lowest of 3 to 5 that applies, or else with 6
 pub more-labels-than-picks : {input before after : List ℕ} {size : ℕ} {k : Kind} (j : Job) → PicksLabels k → length input ≤ mostInput
     → readJob input ≡ readable j → kindOf (j .kind-number) ≡ some k → ourPicks < labels j → Replied input before after size
     → take size after ≡ refusedLines (jobRefusal (rulesOf k) j 6)
