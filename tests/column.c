@@ -48,11 +48,17 @@ static void draw_column(const struct column *column, struct draw *draw) {
     job.q = column->q;
 }
 
+/* Kind 9 has its share of the best, which a table of kind 1 tells. What is expected is gone after it. */
+static void has_its_share(const struct plain_answer *answer) {
+    enum best_by by;
+    is_below_best(&bytes, answer, &by);
+    same("how the best was found", BY_TABLE, by);
+}
+
 static void try_column(const struct column *column, uint64_t number) {
     struct draw draw = {COLUMN + number};
     struct plain_room lengths[PLAIN_WAYS];
     const struct plain_answer *answer;
-    enum best_by by = NO_BEST;
     about("column", number);
     draw_column(column, &draw);
     lengths[LIGHT_WAY] = room_of(&job, LIGHT_WAY);
@@ -60,10 +66,9 @@ static void try_column(const struct column *column, uint64_t number) {
     put_job(&bytes, &job);
     answer = try_both_ways(&bytes, lengths, number).of[LIGHT_WAY];
     same("the second program's refusal", 0, answer->refused);
-    holds("that so many labels are kept", labels_kept(answer) >= column->kept);
+    if (plain_kind(job.kind)->picks) holds("that so many labels are kept", labels_kept(answer) >= column->kept);
     all_kept += labels_kept(answer);
-    if (job.kind == KIND_STATED_SHARE) is_below_best(&bytes, answer, &by); /* after which the answer is gone */
-    same("how the best of kind 1 was found", job.kind == KIND_STATED_SHARE ? BY_TABLE : NO_BEST, by);
+    if (job.kind == KIND_STATED_SHARE) has_its_share(answer);
 }
 
 void part_column(void) {

@@ -16,7 +16,7 @@ use Rattle.meaning.specs.declared.Written.{Written}
 use Rattle.meaning.specs.Lists.{at}
 use Rattle.meaning.specs.Slices.{Holds}
 use Rattle.meaning.specs.Job.{Job, Kind, Knapsack, kindOf, allKinds}
-use Rattle.meaning.specs.Lent.{Lent, roomBy}
+use Rattle.meaning.specs.Lent.{Lent, Room, roomBy}
 use Rattle.meaning.specs.Refusals.{kindRefusal}
 use Rattle.meaning.specs.Bytes.{readJob, readable, unreadable}
 use Rattle.meaning.specs.Answers.{answerNumbers}
@@ -78,6 +78,13 @@ pub kind-solved : {way : Way} (j : Job) (before : Lent) (k : Kind) (r : ℕ) (a 
     → SolvedBy way j before a after → Outcome r (roomBy way k j) (TableBy way k j) k j before (answerNumbers a) after
 unfolding SolvedLists SolvedAs
 kind-solved j before k r a after e f h = rw (e, f) at (h .kept)
+
+-- a job that has a refusal number is answered by it
+pub answers-its-number : (room : Room) (table : Lent → Type 0) (k : Kind) (j : Job) (before after : Lent) (a : Answer) (r : ℕ)
+    → Outcome r room table k j before (answerNumbers a) after → ¬ (r ≡ 0) → a ≡ Says.Refused r
+unfolding Outcome
+answers-its-number room table k j before after a zero x some-number = absurd (some-number refl)
+answers-its-number room table k j before after a (suc r) x some-number = answer-numbers-unique (x .numbers)
 
 -- ---- job bytes
 

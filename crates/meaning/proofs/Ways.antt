@@ -21,6 +21,7 @@ use Rattle.meaning.specs.Answers.{answerNumbers}
 use Rattle.meaning.specs.Solved.{Outcome, SolvedAs, SolvedBy, SolvedBytesBy, SolvedLists, SolvedRead, TableBy, TurnedDown}
 use Rattle.meaning.specs.Agreement.{SameAnswer}
 use Rattle.meaning.proofs.EachKind.{gives-unique, not-once, one-way}
+use Rattle.meaning.proofs.Laws.{answers-its-number}
 use Rattle.meaning.proofs.Unique.{answer-numbers-unique}
 
 -- ---- a kind that isn't kind 1 goes one way
@@ -105,10 +106,7 @@ module _ (k : Kind) (j : Job) (before after before′ after′ : Lent) (a a′ :
 -- a call whose number is 6 answers it
 answers-6 : (room : Room) (table : Lent → Type 0) (k : Kind) (j : Job) (before after : Lent) (a : Answer) (r : ℕ)
     → Outcome r room table k j before (answerNumbers a) after → r ≡ 6 → a ≡ Says.Refused 6
-unfolding Outcome
-answers-6 room table k j before after a zero x e = absurd (omega (arith, e))
-answers-6 room table k j before after a (suc r) x e =
-    answer-numbers-unique (x .numbers ∙ ap (λ (n : ℕ). answerNumbers (Says.Refused n)) e)
+answers-6 room table k j before after a r x e = answers-its-number room table k j before after a r x (λ none. absurd (omega (arith, e))) ∙ ap Says.Refused e
 
 -- ---- so the two ways agree
 

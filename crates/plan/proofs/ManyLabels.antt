@@ -3,7 +3,7 @@
 -- Assumes nothing.
 use mathlib.Core.Path.{_∙_, _≡_, ap, refl}
 use mathlib.Core.Option.{some}
-use Prim.Native.Nat.{ℕ, zero, suc, _≤_, _<_}
+use Prim.Native.Nat.{ℕ, suc, _≤_, _<_}
 use native.Mathlib.Omega.{arith}
 use mathlib.Core.Bool.{Bool, true, false, _&&_}
 use mathlib.Core.List.{List, [], _∷_, map}
@@ -17,10 +17,8 @@ use Rattle.meaning.specs.Job.{Job, Kind, Knapsack, once, limited, free, packing
 use Rattle.meaning.specs.Lent.{Lent, Room, lentOf, onceRoom, roomBy, roomFor, roomOf}
 use Rattle.meaning.specs.Refusals.{jobRefusal, kindRefusal, roomFits, rulesOf}
 use Rattle.meaning.specs.Bytes.{readJob, readable}
-use Rattle.meaning.specs.Answers.{answerNumbers}
-use Rattle.meaning.specs.Solved.{Outcome, Solved, TableHolds}
-use Rattle.meaning.proofs.Laws.{bytes-solved, kind-solved}
-use Rattle.meaning.proofs.Unique.{answer-numbers-unique}
+use Rattle.meaning.specs.Solved.{Solved, TableHolds}
+use Rattle.meaning.proofs.Laws.{answers-its-number, bytes-solved, kind-solved}
 use Rattle.meaning.proofs.Valid.{has-passed}
 use Rattle.meaning.proofs.Opens.{opens}
 use Rattle.meaning.proofs.Cases.{plain}
@@ -53,14 +51,11 @@ six-or-less k j room lent few = rw (few-picks room lent few) refl
 -- so whoever solves it answers that
 refused-for-picks : (k : Kind) (j : Job) (before after : Lent) (a : Answer) → kindOf (j .kind-number) ≡ some k
     → length (before .picks) < roomFor k j .picks → Solved j before a after → a ≡ Says.Refused (jobRefusal (rulesOf k) j 6)
-unfolding Outcome
 refused-for-picks k j before after a of-kind few solved =
-    go (jobRefusal (rulesOf k) j 6) (λ none. absurd (omega (arith, has-passed (rulesOf k) j 6 none .later-none)))
-    (kind-solved j before k (jobRefusal (rulesOf k) j 6) a after of-kind (six-or-less k j (roomFor k j) before few) solved)
-  where
-    go : (r : ℕ) → ¬ (r ≡ 0) → Outcome r (roomFor k j) (TableHolds k j) k j before (answerNumbers a) after → a ≡ Says.Refused r
-    go zero some-number o = absurd (some-number refl)
-    go (suc r) some-number o = answer-numbers-unique (o .numbers)
+    let r = jobRefusal (rulesOf k) j 6 in
+    answers-its-number (roomFor k j) (TableHolds k j) k j before after a r
+    (kind-solved j before k r a after of-kind (six-or-less k j (roomFor k j) before few) solved)
+    (λ none. absurd (omega (arith, has-passed (rulesOf k) j 6 none .later-none)))
 
 -- ---- the program's
 

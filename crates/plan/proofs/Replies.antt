@@ -4,11 +4,11 @@ use mathlib.Core.Path.{_∙_, _≡_, ap}
 use Prim.Native.Nat.{ℕ, _+_, _≤_, _<_}
 use native.Mathlib.Omega.{arith}
 use mathlib.Core.List.{List, []}
-use lib.ListN.{length, length-append, length-take, take, drop}
+use lib.ListN.{length, length-append, length-take, replicate, take, drop}
 use lib.Seq.{take-all}
 use Rattle.meaning.specs.declared.Answer.{Answer}
 use Rattle.meaning.specs.Slices.{Holds}
-use Rattle.meaning.specs.Lent.{Lent}
+use Rattle.meaning.specs.Lent.{Lent, lentOf}
 use Rattle.meaning.specs.Bytes.{readJob}
 use Rattle.meaning.specs.Told.{ToldBytes, kindRead, labelsRead}
 use Rattle.meaning.proofs.Unique.{no-second-choice-bytes}
@@ -17,9 +17,16 @@ use Rattle.print.proofs.Cases.{refusal}
 use Rattle.print.proofs.Joined.{text-unique, written-out}
 use Rattle.print.specs.Puts.{PutFirst}
 use Rattle.plan.specs.Picks.{picksWritten}
-use Rattle.plan.specs.Replies.{JobReplied, Replied, a-job, longer, mostInput, ourSlices}
+use Rattle.plan.specs.Replies.{JobReplied, Replied, a-job, longer, mostInput, ourCells, ourWords, ourPicks, ourSlices}
 
 -- ---- to a job
+
+-- what was told on slices as long as ours was told on ours
+pub told-on-ours : {bytes : List ℕ} {kind n : ℕ} {a : Answer} {left : Lent} (cells words picks : ℕ) → cells ≡ ourCells → words ≡ ourWords
+    → picks ≡ ourPicks → ToldBytes bytes (lentOf (replicate cells 0) (replicate words 0) (replicate picks 0)) kind n a left
+    → ToldBytes bytes ourSlices kind n a left
+unfolding ourSlices
+told-on-ours cells words picks e f g told = rw (e, f, g) at told
 
 -- the picks of a job are the first that the answer has written
 pub replied : (bytes before after : List ℕ) (size kind n written : ℕ) (a : Answer) (left : Lent) → ToldBytes bytes ourSlices kind n a left

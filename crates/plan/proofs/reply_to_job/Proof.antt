@@ -1,15 +1,14 @@
 -- `plan::reply_to_job` meets its contract: what the planner tells of the bytes, as its lines. The picks that are printed stand within those lent.
 -- Assumes nothing.
-use mathlib.Core.Path.{sym}
+use mathlib.Core.Path.{refl, sym}
 use Prim.Native.Nat.{_≤_}
 use native.Mathlib.Omega.{arith}
 use lib.ListN.{length, take}
 use lib.Seq.{length-take-le}
 use Rattle.meaning.specs.Lent.{lentOf}
 use Rattle.print.proofs.Lengths.{lines-room}
-use Rattle.plan.specs.Replies.{ourSlices}
 use Rattle.plan.proofs.Room.{picks-room}
-use Rattle.plan.proofs.Replies.{replied}
+use Rattle.plan.proofs.Replies.{replied, told-on-ours}
 use borrow.Author.Needs.{needs}
 use Rattle.plan.proofs.reply_to_job.Statement.{statement}
 use Rattle.plan.proofs.reply_to_job.Tie as tie
@@ -68,11 +67,12 @@ same-length : tie.Need-same-length
 same-length c = search needs
 
 returns : tie.Need-returns
-unfolding ourSlices lentOf
+unfolding lentOf
 returns c =
     let printed = c .before .before in
     let counted = printed .before .before .before in
-    replied _ _ _ _ _ _ _ _ _ (told counted .solve-told .ensures) (counted .picks-written .ensures) (printed .text .ensures)
+    let on-ours = told-on-ours 8_192 1_024 1_024 refl refl refl (told counted .solve-told .ensures) in
+    replied _ _ _ _ _ _ _ _ _ on-ours (counted .picks-written .ensures) (printed .text .ensures)
 
 pub reply-to-job-spec : {M : Type 1} → statement M
 reply-to-job-spec =
