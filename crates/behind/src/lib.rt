@@ -1,6 +1,8 @@
 // Kind 8: the labels behind a total. Cell t of a row shows how many of the first labels it takes to reach t, and so the label that reached
 // it first; the picks are read off by going from each total to what its label leaves.
 // The weights come as numbers or as a part of the job bytes (`list_from`), so they have two slices.
+#![tactic(auto)]
+
 ghost use Rattle.std.specs.Prelude.{◌≡◌, [], ◌∷◌, ◌-◌, ◌≤◌, ◌<◌, length};
 ghost use Rattle.meaning.specs.Lists.{at};
 ghost use Rattle.meaning.specs.Job.{labels-behind};

@@ -1,5 +1,7 @@
 // Kinds 5 and 6: the fewest blocks that sum to an amount, and the ways to make it.
 // Sizes come as numbers or as a part of the job bytes (`list_from`), so they have two slices.
+#![tactic(auto)]
+
 ghost use Rattle.std.specs.Prelude.{◌≡◌, [], ◌∷◌, ◌+◌, ◌-◌, ◌≤◌, ◌<◌, length};
 ghost use Rattle.meaning.specs.Lists.{at};
 ghost use Rattle.meaning.specs.Job.{fewest-blocks, block-ways};

@@ -1,5 +1,7 @@
 // Certificates: the checker, which judges a keep list with a table of claims, whoever made them; and the writer, which puts picks and
 // cells into bytes.
+#![tactic(auto)]
+
 ghost use Rattle.std.specs.Prelude.{◌≡◌, ◌<◌, [], ◌∷◌};
 ghost use Rattle.meaning.specs.declared.Verdict.TheVariants.{Refused};
 ghost use Rattle.meaning.specs.Job.{job_of};

@@ -3,6 +3,8 @@
 // Few counts are passed two at a time, in vectors. For many, a row is cut into blocks of copies+1 weights. From a cell to one that is some
 // copies up, a step stays within its block or leads into the next. Within a block the greatest of the row before is carried up. Across
 // the border the least claim is carried up, against the cell that is all copies down.
+#![tactic(auto)]
+
 ghost use Rattle.std.specs.Prelude.{◌≡◌, ℕ, ◌+◌, ◌-◌, ◌*◌, ◌<◌, ◌≤◌, min, max, ◌||◌, length, nat_lt};
 ghost use Rattle.meaning.specs.Lists.{at, if};
 ghost use Rattle.meaning.specs.Bytes.{numbers_in};

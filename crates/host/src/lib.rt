@@ -1,4 +1,6 @@
 // The C entries, all of them. A slice is a pointer and a length in elements; include/quabnester.h says each promise in words.
+#![tactic(auto)]
+
 ghost use Rattle.std.specs.Prelude.{◌≡◌};
 ghost use Rattle.meaning.specs.Lent.{lent_of};
 ghost use Rattle.meaning.specs.Answers.{answer_numbers};

@@ -1,5 +1,7 @@
 // Kinds 1 to 3: the table of best values within a budget, and the picks that it leads to; kind 1 the full way.
 // A list comes as numbers or as a part of the job bytes (`list_from`), so each has two slices.
+#![tactic(auto)]
+
 ghost use Rattle.std.specs.Prelude.{◌≡◌, [], ◌∷◌, ℕ, suc, ◌+◌, ◌-◌, ◌*◌, ◌<◌, length};
 ghost use Rattle.meaning.specs.Lists.{at};
 ghost use Rattle.meaning.specs.declared.Way.TheVariants.{Full};

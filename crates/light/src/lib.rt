@@ -1,5 +1,7 @@
 // Kind 1 the light way: one row in place, and for each label a bit for each budget, set where the label raises the row.
 // A list comes as numbers or as a part of the job bytes (`list_from`), so each has two slices.
+#![tactic(auto)]
+
 ghost use Rattle.std.specs.Prelude.{◌≡◌, [], ◌∷◌, ℕ, ◌+◌, ◌-◌, ◌*◌, ◌/◌, ◌%◌, ◌^◌, ◌≤◌, ◌<◌, max, length};
 ghost use Rattle.meaning.specs.Lists.{at};
 ghost use Rattle.meaning.specs.Job.{job_of, once, packing};

@@ -1,5 +1,7 @@
 // What the operations answer, which way kind 1 goes, and what reading a section finds. The document's numbers for each case of the first four
 // are in specs/Answers.antt; the sections are in specs/Bytes.antt.
+#![tactic(auto)]
+
 
 // What a planner answers: a refusal number, or the numbers of the job's kind.
 #[derive(Drop)]

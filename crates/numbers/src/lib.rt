@@ -1,4 +1,6 @@
 // Numbers of 32 bits: the product of two; and in bytes, lowest byte first, one number, a list of them, and the sections that they stand in.
+#![tactic(auto)]
+
 ghost use Rattle.std.specs.Prelude.{◌≡◌, ◌+◌, ◌*◌, ◌≤◌, ◌<◌, length};
 ghost use Rattle.meaning.specs.Lists.{at};
 ghost use Rattle.meaning.specs.Bytes.{number_at, numbers_in, is_needed, read_section, bytes_of, section_bytes};

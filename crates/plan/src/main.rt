@@ -1,4 +1,6 @@
 // The program: one job from standard input, and its answer as the lines of document 01.
+#![tactic(auto)]
+
 ghost use Rattle.std.specs.Prelude.{◌≡◌, ◌≤◌, length};
 ghost use Rattle.plan.specs.Picks.{picks_written};
 ghost use Rattle.plan.specs.Replies.{JobReplied, Replied, lines_room};

@@ -1,5 +1,7 @@
 // The planner: any request is answered or refused. A job comes as lists of numbers or as job bytes; both go to one place, where the kind
 // decides, and from there to the crate of that kind.
+#![tactic(auto)]
+
 ghost use Rattle.std.specs.Prelude.{[], ◌∷◌, ◌≡◌, Bool, true, false, ◌&&◌, leb, ℕ, ◌≤◌};
 ghost use Rattle.meaning.specs.declared.Way.TheVariants.{Light, Full};
 ghost use Rattle.meaning.specs.Lists.{if};

@@ -1,5 +1,7 @@
 // An answer as the lines of document 01, made in a slice, with a statement that gives each byte. Whoever prints them writes the slice out
 // in one call. Each answer has a function; a new kind's is one more, or `put_number_and_picks` with another name, and one more arm of `text`.
+#![tactic(auto)]
+
 ghost use Rattle.std.specs.Prelude.{◌+◌, ◌≤◌, length};
 ghost use Rattle.numbers.specs.Placed.{WrittenAt};
 ghost use Rattle.print.specs.Lines.{after_blank, line_of, picks_line, head_lines};

@@ -1,6 +1,8 @@
 // What is asked of a request before it is answered: job bytes are read (refusal 1), a job is held to the rules of its kind (3 to 5), q to its
 // bounds (5 too), and claims need a sum (9). The rules, and the room that 6 asks for, are those of `rules`; which kinds there are, and so
 // refusal 2, is for the planner, the checker and the writer to say.
+#![tactic(auto)]
+
 ghost use Rattle.std.specs.Prelude.{[], ◌∷◌, ◌≡◌, ℕ, Bool, ◌&&◌, ltb, leb, eqb};
 ghost use Rattle.meaning.specs.Lists.{sum, if};
 ghost use Rattle.meaning.specs.Bounds.{least_q, most_q};

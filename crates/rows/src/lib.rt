@@ -1,5 +1,7 @@
 // Cells alone, for several kinds: first contents, a row by budget, what one label of weight w and value v makes of it, and what it says of a
 // label's count. Nothing here knows of jobs.
+#![tactic(auto)]
+
 ghost use Rattle.std.specs.Prelude.{◌≡◌, ℕ, ◌+◌, ◌-◌, ◌*◌, ◌/◌, ◌≤◌, ◌<◌, max, min, eqb, length};
 ghost use Rattle.meaning.specs.Lists.{at};
 ghost use Rattle.meaning.specs.Cells.{no_way};

@@ -1,5 +1,7 @@
 // The rules of each kind, with their bounds, each in one place, and the room that each kind needs. What a job is asked by them, and in which
 // order, is for `requests` and the crates above it to say.
+#![tactic(auto)]
+
 ghost use Rattle.std.specs.Prelude.{◌≡◌, ℕ, ◌≤◌, min, Bool, true, false};
 ghost use Rattle.std.proofs.Math.Option.{some};
 ghost use Rattle.meaning.specs.declared.Way.TheVariants.{Full};

@@ -1,5 +1,7 @@
 // Kind 7: the budget shared by claims. Each share starts as its whole part, and the spare units go to the labels at a border or before it.
 // The claims come as numbers or as a part of the job bytes (`list_from`), so they have two slices.
+#![tactic(auto)]
+
 ghost use Rattle.std.specs.Prelude.{◌≡◌, [], ◌∷◌, ◌+◌, ◌/◌, ◌%◌, ◌≤◌, ◌<◌, max, min, length, ltb};
 ghost use Rattle.meaning.specs.Lists.{sum, if};
 ghost use Rattle.meaning.specs.Job.{sharing};

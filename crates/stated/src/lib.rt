@@ -1,6 +1,8 @@
 // Kind 9: a stated share of the best. Values are cut by a common divisor; cell t of a row is the least weight for total t of cut values, and the
 // picks are read off by going back through the rows.
 // A list comes as numbers or as a part of the job bytes (`list_from`), so each has two slices.
+#![tactic(auto)]
+
 ghost use Rattle.std.specs.Prelude.{◌≡◌, [], ℕ, ◌+◌, ◌-◌, ◌*◌, ◌/◌, ◌≤◌, ◌<◌, max, leb, length};
 ghost use Rattle.meaning.specs.Lists.{at, if, sum, total};
 ghost use Rattle.meaning.specs.Cells.{no_way};

@@ -1,5 +1,7 @@
 // Kind 4: the totals that some labels weigh exactly, as bits of words. Bit t is set exactly if t is such a total.
 // The weights come as numbers or as a part of the job bytes (`list_from`), so they have two slices.
+#![tactic(auto)]
+
 ghost use Rattle.std.specs.Prelude.{◌≡◌, [], ◌∷◌, ◌+◌, ◌*◌, ◌/◌, ◌≤◌, ◌<◌, length};
 ghost use Rattle.meaning.specs.Lists.{up_to, tally};
 ghost use Rattle.meaning.specs.Job.{subset-sums};

@@ -2,6 +2,8 @@
 // is `>`, with what comes at the bound and one past it. Each job is answered as lists and as bytes, on slices that held something else before; a job
 // whose mark is `~` gets a quick answer, which there is for lists alone. Lines with no mark are words for who reads the list. The gate holds the print
 // to the file stdout.
+#![tactic(auto)]
+
 mod doors;
 mod lines;
 mod quickly;

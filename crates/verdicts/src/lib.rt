@@ -1,5 +1,7 @@
 // Claims, whoever made them: a keep list and a table of cells are judged, with refusals 12 to 15 or the picks' value. Reading the job and the
 // certificate, and refusals 1 to 11, come before, in `certificate`; whether a row of claims is at fault is told by `faults`.
+#![tactic(auto)]
+
 ghost use Rattle.std.specs.Prelude.{◌≡◌, ℕ, ◌+◌, ◌-◌, ◌<◌, ◌≤◌, min, length};
 ghost use Rattle.meaning.specs.declared.Verdict.TheVariants.{Refused};
 ghost use Rattle.meaning.specs.Lists.{if, total};

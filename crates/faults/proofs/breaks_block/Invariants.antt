@@ -1,0 +1,12 @@
+-- `faults::breaks_block` meets its contract, column by column.
+use Rattle.std.proofs.Common.{◌-◌, arith, rules}
+use Rattle.meaning.specs.Bytes.{numbers_in}
+use Rattle.faults.proofs.Finding.{finds_low, finds_high}
+use Rattle.faults.proofs.Blocks.{ColumnsKept, columns_start, columns_next, columns_all}
+use Rattle.faults.proofs.breaks_block.Given as goal
+
+abbrev pub invariant-loop-b : goal.invariant-loop-b
+invariant-loop-b l = ColumnsKept (numbers_in l.cells) l.prior l.row l.width l.w l.v l.copies l.base l.b
+
+abbrev pub decreases-loop-b : goal.decreases-loop-b
+decreases-loop-b l = l.stop - l.b

@@ -1,0 +1,19 @@
+-- `numbers::write_section` meets its contract. The loop's invariant: after the count, the slice holds the numbers passed, and elsewhere
+-- what it held when the loop began. The measure is how many numbers are left.
+use Prim.Native.Nat.{◌+◌, ◌*◌, ◌-◌, ◌≤◌}
+use mathlib.Core.Path.{◌≡◌, refl, ◌∙◌}
+use native.Mathlib.Omega.{arith}
+use borrow.Author.Rules.{rules}
+use lib.ListN.{length, take}
+use Rattle.meaning.specs.Bytes.{bytes_of_all, section_bytes}
+use Rattle.meaning.proofs.Numbers.{section_long}
+use Rattle.numbers.specs.Placed.{HoldsAt}
+use Rattle.numbers.proofs.Placed.{nothing}
+use Rattle.numbers.proofs.Sections.{turn, whole}
+use Rattle.numbers.proofs.write_section.Given as goal
+
+abbrev pub invariant-loop-i : goal.invariant-loop-i
+invariant-loop-i l = (l.i ≤ length l.numbers) × (length l.out ≡ length l.initial.out) × HoldsAt l.start (bytes_of_all (take l.i l.numbers)) l.initial.out l.out
+
+abbrev pub decreases-loop-i : goal.decreases-loop-i
+decreases-loop-i l = length l.numbers - l.i

@@ -1,0 +1,23 @@
+-- `rows::add_parts` meets its contract: a row with up to m of the label holds up to m and a part of it, once the part is raised (`greatest_part`).
+use mathlib.Core.Path.{◌≡◌, refl, ◌∙◌}
+use Prim.Native.Nat.{ℕ, ◌-◌, ◌*◌, ◌%◌, ◌≤◌, min}
+use native.Mathlib.Nat.{mod-eq_of_lt}
+use native.Mathlib.Omega.{arith}
+use lib.ListN.{length}
+use borrow.Author.Rules.{rules}
+use Rattle.meaning.specs.Lists.{at}
+use Rattle.meaning.specs.Bounds.{most_value, most_budget}
+use Rattle.rows.specs.Rows.{GreatestRow, Repeated, Capped}
+use Rattle.rows.proofs.Counts.{greatest_part, PartFits, part_fits, raised_capped}
+use Rattle.rows.proofs.add_parts.Given as goal
+
+abbrev pub invariant-loop-m : goal.invariant-loop-m
+invariant-loop-m l = (min 1 l.most ≤ l.m)
+    × (l.m ≤ l.most)
+    × (length l.row ≡ length l.initial.row)
+    × Capped (at l.row) (length l.initial.row)
+    × ((f : ℕ → ℕ) → GreatestRow (λ x. x ≤ min 1 l.most) f l.w l.v (length l.initial.row) (at l.initial.row)
+    → GreatestRow (λ x. x ≤ l.m) f l.w l.v (length l.initial.row) (at l.row))
+
+abbrev pub decreases-loop-m : goal.decreases-loop-m
+decreases-loop-m l = l.most - l.m

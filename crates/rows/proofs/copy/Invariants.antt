@@ -1,0 +1,14 @@
+-- `rows::copy` meets its contract: the cells so far are stored, and the row that is read lies before them, as it was.
+use mathlib.Core.Path.{refl}
+use Prim.Native.Nat.{◌+◌, ◌-◌}
+use native.Mathlib.Omega.{arith}
+use borrow.Author.Rules.{rules}
+use Rattle.meaning.specs.Lists.{at}
+use Rattle.rows.proofs.Stores.{Storing, storing_none, storing_more, storing_all}
+use Rattle.rows.proofs.copy.Given as goal
+
+abbrev pub invariant-loop-c : goal.invariant-loop-c
+invariant-loop-c l = Storing l.initial.cells l.to 0 l.count (λ k. at l.initial.cells (l.from + k)) l.c l.cells
+
+abbrev pub decreases-loop-c : goal.decreases-loop-c
+decreases-loop-c l = l.count - l.c

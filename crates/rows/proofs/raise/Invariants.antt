@@ -1,0 +1,19 @@
+-- `rows::raise` meets its contract: each cell so far is made of two of the row before, which lies before all stores and is as it was.
+use mathlib.Core.Path.{◌≡◌, refl, ap, ◌∙◌}
+use Prim.Native.Nat.{ℕ, ◌+◌, ◌-◌, max}
+use native.Mathlib.Omega.{arith}
+use mathlib.Core.List.{List}
+use borrow.Author.Rules.{rules}
+use Rattle.meaning.specs.Lists.{at}
+use Rattle.rows.proofs.Stores.{Storing, storing_none, storing_more, storing_all}
+use Rattle.rows.proofs.raise.Given as goal
+
+-- the better of none of the label and one
+abbrev pub better : List ℕ → ℕ → ℕ → ℕ → ℕ → ℕ
+better cells from w v k = max (at cells (from + k)) (at cells (from + (k - w)) + v)
+
+abbrev pub invariant-loop-c : goal.invariant-loop-c
+invariant-loop-c l = Storing l.initial.cells l.to l.w l.width (better l.initial.cells l.from l.w l.v) l.c l.cells
+
+abbrev pub decreases-loop-c : goal.decreases-loop-c
+decreases-loop-c l = l.width - l.c

@@ -1,0 +1,37 @@
+-- `rows::raise_stretch` meets its contract: the cells so far are swept by the new ones w places before them, and the row stays capped.
+use Prim.Native.Nat.{◌-◌}
+use native.Mathlib.Omega.{arith}
+use lib.ListN.{length}
+use borrow.Author.Rules.{rules}
+use Rattle.meaning.specs.Lists.{at}
+use Rattle.meaning.specs.Bounds.{most_budget, most_value}
+use Rattle.rows.specs.Rows.{raised_by, Capped}
+use Rattle.rows.proofs.Stores.{Sweeping, sweeping_none, sweeping_more, sweeping_all, capped_raised}
+use Rattle.rows.proofs.raise_stretch.Goals as goal
+
+pub loop-c-init : goal.loop-c-init
+loop-c-init c =
+    let a = c.args in
+    (sweeping_none (raised_by a.v) a.row.now a.w a.from a.to, c.requires.v_bound.1.1)
+
+pub overflow_add-with : goal.overflow_add-with
+unfolding Capped most_budget most_value
+overflow_add-with c =
+    let l = c.loop-c in
+    omega (arith, l.invariant.1 (l.c - c.args.w) (omega arith))
+
+pub loop-c-preserved : goal.loop-c-preserved
+loop-c-preserved c =
+    let a = c.args in
+    let l = c.loop-c in (
+      sweeping_more (raised_by a.v) a.row.now a.w a.from a.to c.requires.le_w.0 c.requires.le_w.1.0
+          l.c l.row c.loop-c-test.true l.invariant.0 c.greater.result c.requires.le_w.1.1.1 c.greater.ensures,
+      capped_raised l.row l.c c.greater.result a.w a.v (length a.row.now)
+          (omega arith) (omega arith) (omega arith) c.requires.v_bound.0 l.invariant.1 c.greater.ensures,
+    )
+
+pub returns : goal.returns
+returns c =
+    let a = c.args in
+    let l = c.loop-c in
+    (sweeping_all (raised_by a.v) a.row.now a.w a.from a.to l.c l.row (omega arith) l.invariant.0, l.invariant.1)
