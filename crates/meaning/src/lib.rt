@@ -4,7 +4,7 @@
 
 
 // What a planner answers: a refusal number, or the numbers of the job's kind.
-#[derive(Drop)]
+#[derive(Clone, Copy)]
 pub enum Answer {
     Refused(u32),
     Knapsack { value: u32, weight: u32 },
@@ -16,21 +16,21 @@ pub enum Answer {
 }
 
 // What the checker answers: the value, or a refusal number and the place that it names (0 where it names none).
-#[derive(Drop)]
+#[derive(Clone, Copy)]
 pub enum Verdict {
     Accepted(u32),
     Refused { number: u32, place: u64 },
 }
 
 // What the certificate writer answers: how many bytes it wrote, or a refusal number.
-#[derive(Drop)]
+#[derive(Clone, Copy)]
 pub enum Written {
     Bytes(u64),
     Refused(u32),
 }
 
 // What the quick answer for kind 1 says: a refusal number, or which of its two lists is the worthier, and what that is worth.
-#[derive(Drop)]
+#[derive(Clone, Copy)]
 pub enum Quick {
     Refused(u32),
     First(u64),
@@ -38,7 +38,7 @@ pub enum Quick {
 }
 
 // The way that kind 1 goes: the light table, a row of cells and a bit for each label and budget, or the full one. The other kinds have one way.
-#[derive(Drop)]
+#[derive(Clone, Copy)]
 pub enum Way {
     Light,
     Full,
@@ -46,14 +46,14 @@ pub enum Way {
 
 // A section of job or certificate bytes: where its numbers start, how many there are, and the place after them;
 // or the place where reading broke.
-#[derive(Drop)]
+#[derive(Clone, Copy)]
 pub enum Section {
     Part(usize, usize, usize),
     Broken(usize),
 }
 
 // The count that a section needs to have.
-#[derive(Drop)]
+#[derive(Clone, Copy)]
 pub enum Needed {
     Any,
     Exactly(u32),

@@ -541,7 +541,7 @@ pub fn solve_full(
 }
 
 // What a program needs to print: the number of the kind, how many labels there are, and the answer.
-#[derive(Drop)]
+#[derive(Clone, Copy)]
 pub struct Told {
     pub kind: u32,
     pub labels: usize,

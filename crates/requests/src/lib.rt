@@ -19,7 +19,7 @@ use rules::{Rules, WeightRule};
 // ---- refusal 1
 
 // Where the numbers of a list stand in the job bytes: from a place up to another.
-#[derive(Drop)]
+#[derive(Clone, Copy)]
 pub struct Part {
     pub start: usize,
     pub end: usize,
@@ -27,7 +27,7 @@ pub struct Part {
 
 // What job bytes that can be read tell: the kind, the budget, q, and where the numbers of each list stand. Where the kind has no q, its number
 // stands for nothing.
-#[derive(Drop)]
+#[derive(Clone, Copy)]
 pub struct Parts {
     pub kind: u32,
     pub budget: u32,
@@ -38,7 +38,7 @@ pub struct Parts {
 }
 
 // What job bytes are read as: their parts, or the place where reading broke.
-#[derive(Drop)]
+#[derive(Clone, Copy)]
 pub enum Request {
     Read(Parts),
     Broken(usize),

@@ -46,7 +46,7 @@ pub fn budget_count(kind: u32) -> u32
 }
 
 // What a kind asks of its weights.
-#[derive(Drop)]
+#[derive(Clone, Copy)]
 pub enum WeightRule {
     Positive,
     Ascending,
@@ -54,7 +54,7 @@ pub enum WeightRule {
 }
 
 // Whether a kind uses values, and copies; its bounds on n and on C; its rule on weights; its least value.
-#[derive(Drop)]
+#[derive(Clone, Copy)]
 pub struct Rules {
     pub valued: bool,
     pub copied: bool,
@@ -116,7 +116,7 @@ pub fn shares_rules() -> Rules
 }
 
 // The least and the greatest number that a list may hold.
-#[derive(Drop)]
+#[derive(Clone, Copy)]
 pub struct Bounds {
     pub least: u32,
     pub most: u32,
@@ -162,7 +162,7 @@ pub fn most_of_one() -> u32
 // ---- the room
 
 // How many places of each lent slice a job needs.
-#[derive(Drop)]
+#[derive(Clone, Copy)]
 pub struct Room {
     pub cells: usize,
     pub words: usize,

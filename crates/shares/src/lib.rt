@@ -63,7 +63,7 @@ fn greater(a: u64, b: u64) -> u64
 }
 
 // What the starts leave: the spare, and the least and the greatest remainder.
-#[derive(Drop)]
+#[derive(Clone, Copy)]
 struct Leavings {
     spare: u32,
     least: u64,
@@ -176,7 +176,7 @@ fn raised(greatest: u64, rest: u64, high: u64) -> u64
 }
 
 // The least and the greatest remainder of some labels.
-#[derive(Drop)]
+#[derive(Clone, Copy)]
 struct Reach {
     least: u64,
     greatest: u64,
@@ -209,7 +209,7 @@ fn reach_between(
 }
 
 // Where the units run out: each label at the border or before it gets one, and so many are left for the labels next behind it.
-#[derive(Drop)]
+#[derive(Clone, Copy)]
 struct Border {
     remainder: u64,
     left: usize,

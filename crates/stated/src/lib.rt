@@ -112,7 +112,7 @@ fn cut_sum(
 }
 
 // A job's divisor, the width of a row, and how many cells the table needs.
-#[derive(Drop)]
+#[derive(Clone, Copy)]
 struct Measures {
     divisor: u32,
     width: usize,

@@ -17,7 +17,7 @@ use meaning::Verdict;
 const STRETCH: usize = 2_048;
 
 // What a search finds: the first place, or none.
-#[derive(Drop)]
+#[derive(Clone, Copy)]
 enum Found {
     At(usize),
     Nowhere,

@@ -1,0 +1,18 @@
+-- `behind::fill` meets its contract: total 0 alone with no labels, and then a label more each turn.
+use mathlib.Core.Path.{◌≡◌, ◌∙◌}
+use Prim.Native.Nat.{◌-◌, ◌<◌}
+use native.Mathlib.Numerals.{add-one}
+use native.Mathlib.Omega.{arith}
+use lib.ListN.{length}
+use borrow.Author.Rules.{rules}
+use Rattle.meaning.specs.Bounds.{most_labels}
+use Rattle.numbers.specs.TwoSlices.{list_from}
+use Rattle.rows.proofs.Rounds.{rounds_none, rounds_more, rounds_all}
+use Rattle.behind.proofs.Growing.{Growing}
+use Rattle.behind.proofs.fill.Given as goal
+
+abbrev pub invariant-loop-i : goal.invariant-loop-i
+invariant-loop-i l = Growing (list_from l.weights l.wbytes) l.n (length l.initial.row) l.i l.row
+
+abbrev pub decreases-loop-i : goal.decreases-loop-i
+decreases-loop-i l = l.n - l.i

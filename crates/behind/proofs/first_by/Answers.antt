@@ -1,0 +1,20 @@
+-- `behind::first_by` meets its contract: its test is the definition's.
+use mathlib.Core.Path.{◌≡◌}
+use Prim.Native.Nat.{ℕ}
+use mathlib.Core.Bool.{Bool, true, false, not, ◌&&◌}
+use lib.Dec.{eqb}
+use borrow.Author.Rules.{rules}
+use Rattle.meaning.specs.Lists.{if}
+use Rattle.meaning.specs.Cells.{no_way}
+use Rattle.behind.specs.Firsts.{first_by}
+use Rattle.behind.proofs.first_by.Goals as goal
+
+pub returns-then-is_marked : goal.returns-then-is_marked
+returns-then-is_marked c =
+    let a = c.args in
+    newly a.i a.without a.rest c.is_marked.ensures c.is_marked-2.ensures c.if-is_marked.true
+
+pub returns-else-is_marked : goal.returns-else-is_marked
+returns-else-is_marked c =
+    let a = c.args in
+    as_before a.i a.without a.rest c.is_marked.ensures c.is_marked-2.ensures c.if-is_marked.false

@@ -1,0 +1,34 @@
+-- `blocks::fill_ways` meets its contract: the row so far is grown size by size, from one in which amount 0 alone has a way.
+use mathlib.Core.Path.{◌≡◌, ◌∙◌}
+use Prim.Native.Nat.{ℕ, ◌-◌, ◌<◌}
+use native.Mathlib.Omega.{arith}
+use mathlib.Core.List.{List}
+use lib.ListN.{length}
+use Rattle.numbers.specs.TwoSlices.{list_from}
+use Rattle.rows.proofs.Rounds.{rounds_none, rounds_more, rounds_all}
+use Rattle.blocks.specs.Sizes.{ways_of}
+use Rattle.blocks.proofs.Growing.{Growing}
+use borrow.Author.Rules.{rules}
+use Rattle.blocks.proofs.fill_ways.Goals as goal
+
+pub loop-i-init : goal.loop-i-init
+loop-i-init c = let words = c.first_alone in rounds_none (rw words.auto.words words.ensures)
+
+pub item-requires : goal.item-requires
+item-requires c =
+    let inside : c.loop-i.i < length (list_from c.args.weights.now c.args.wbytes.now) = omega (arith, c.list_length-n.ensures) in
+    inside
+
+pub count-requires : goal.count-requires
+count-requires c =
+    let inside : c.loop-i.i < length (list_from c.args.weights.now c.args.wbytes.now) = omega (arith, c.list_length-n.ensures) in
+    rw c.item.ensures (c.requires.whole c.loop-i.i inside)
+
+pub loop-i-preserved : goal.loop-i-preserved
+loop-i-preserved c =
+    rounds_more c.loop-i.invariant c.loop-i-test.true c.count.auto.words (rw c.item.ensures at c.count.ensures)
+
+pub returns : goal.returns
+returns c =
+    let long : length c.loop-i.words ≡ length c.args.words.now = c.loop-i.invariant.long ∙ c.first_alone.auto.words in
+    rounds_all _ _ c.loop-i.invariant (omega arith) c.list_length-n.ensures long

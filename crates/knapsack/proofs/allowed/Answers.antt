@@ -1,0 +1,17 @@
+-- `knapsack::allowed` meets its contract: once in kind 1, and otherwise as often as the copies say.
+use borrow.Author.Tests.{eq-eqb, ne_eqb}
+use mathlib.Core.Path.{◌∙◌}
+use Rattle.meaning.specs.Lists.{if}
+use Rattle.knapsack.specs.Tables.{limit_of}
+use Rattle.knapsack.proofs.allowed.Goals as goal
+
+pub returns-then-kind-eq1 : goal.returns-then-kind-eq1
+unfolding if limit_of
+returns-then-kind-eq1 c = rw (eq-eqb c.args.kind 1 c.if-kind-eq1.true)
+
+pub item-requires : goal.item-requires
+item-requires c = c.requires c.if-kind-eq1.false
+
+pub returns : goal.returns
+unfolding if limit_of
+returns c = c.item.ensures ∙ rw (ne_eqb c.args.kind 1 c.if-kind-eq1.false)

@@ -1,0 +1,22 @@
+-- `knapsack::fill` meets its contract: the rows so far are filled, and the last of them is capped, which the next asks (`filled_capped`).
+use mathlib.Core.Path.{◌≡◌, refl, ◌∙◌}
+use Prim.Native.Nat.{ℕ, ◌+◌, ◌-◌, ◌*◌, ◌≤◌, ◌<◌}
+use native.Mathlib.Nat.{zero-mul}
+use native.Mathlib.Omega.{arith}
+use mathlib.Core.List.{List}
+use lib.ListN.{length}
+use borrow.Author.Rules.{rules}
+use Rattle.numbers.specs.TwoSlices.{list_from}
+use Rattle.knapsack.specs.Tables.{limit_of, Filled}
+use Rattle.rows.proofs.AnyRows.{one_row_more}
+use Rattle.knapsack.proofs.FullRows.{rows_within, filled_none, filled_more, filled_capped}
+use Rattle.knapsack.proofs.fill.Given as goal
+
+abbrev pub invariant-loop-i : goal.invariant-loop-i
+invariant-loop-i l = (l.i ≤ l.n)
+    × (l.from ≡ l.i * l.width)
+    × (length l.cells ≡ length l.initial.cells)
+    × Filled (list_from l.weights l.wbytes) (list_from l.values l.vbytes) (limit_of l.kind (list_from l.copies l.cbytes)) l.width l.i l.cells
+
+abbrev pub decreases-loop-i : goal.decreases-loop-i
+decreases-loop-i l = l.n - l.i

@@ -1,0 +1,9 @@
+-- `light::exchange` meets its contract, which says what it does.
+use mathlib.Core.Path.{refl}
+use Rattle.light.specs.Bits.{unequal, exchanged}
+use borrow.Author.Rules.{rules}
+use Rattle.light.proofs.exchange.Goals as goal
+
+pub returns : goal.returns
+unfolding exchanged unequal
+returns c = refl

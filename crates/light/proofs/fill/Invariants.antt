@@ -1,0 +1,17 @@
+-- `light::fill` meets its contract: one label more (`lighting_more`), and each still fits 32 bits (`row_fits`).
+use mathlib.Core.Path.{◌≡◌, refl, ap, ◌∙◌}
+use Prim.Native.Nat.{ℕ, ◌+◌, ◌-◌, ◌*◌, ◌≤◌, ◌<◌}
+use native.Mathlib.Omega.{arith}
+use mathlib.Core.List.{List}
+use lib.ListN.{length}
+use borrow.Author.Rules.{rules}
+use Rattle.numbers.specs.TwoSlices.{list_from}
+use Rattle.rows.proofs.Parts.{part_long}
+use Rattle.light.proofs.Labels.{Lighting, row_fits, lighting_none, lighting_room, lighting_more}
+use Rattle.light.proofs.fill.Given as goal
+
+abbrev pub invariant-loop-i : goal.invariant-loop-i
+invariant-loop-i l = Lighting (list_from l.weights l.wbytes) (list_from l.values l.vbytes) l.n l.width l.per (length l.initial.words) l.i l.from l.row l.words
+
+abbrev pub decreases-loop-i : goal.decreases-loop-i
+decreases-loop-i l = l.n - l.i

@@ -1,0 +1,19 @@
+-- `light::raise_word` meets its contract: first the sums of the old row (`summing_more`), then cell by cell what they raise (`raising_more`).
+use mathlib.Core.Path.{refl}
+use Prim.Native.Nat.{◌+◌, ◌-◌}
+use native.Mathlib.Omega.{arith}
+use borrow.Author.Rules.{rules}
+use Rattle.light.proofs.Rising.{Summing, summing_none, summing_more, Raising, raising_none, raising_more, raising_few, raising_all}
+use Rattle.light.proofs.raise_word.Given as goal
+
+abbrev pub invariant-loop-k : goal.invariant-loop-k
+invariant-loop-k l = Summing l.row l.c l.w l.v l.k l.sums
+
+abbrev pub decreases-loop-k : goal.decreases-loop-k
+decreases-loop-k l = 64 - l.k
+
+abbrev pub invariant-loop-i : goal.invariant-loop-i
+invariant-loop-i l = Raising l.initial.row l.c l.w l.v l.i l.row l.bits
+
+abbrev pub decreases-loop-i : goal.decreases-loop-i
+decreases-loop-i l = 64 - l.i

@@ -1,0 +1,264 @@
+-- `light::solve` meets its contract: `pack` leaves the row, the bits and the picks, and what is left of the budget (`packs_light`).
+use mathlib.Core.Path.{◌≡◌, sym, ap, ◌∙◌}
+use Prim.Native.Nat.{ℕ, ◌+◌, ◌*◌, ◌/◌, ◌≤◌, ◌<◌}
+use native.Mathlib.Omega.{arith}
+use mathlib.Core.List.{List, [], ◌∷◌}
+use lib.ListN.{get_or-append, length, drop, take}
+use lib.Seq.{length-take-le}
+use borrow.Author.Rules.{rules}
+use Rattle.meaning.specs.Job.{Job, job_of, labels}
+use Rattle.meaning.specs.Bounds.{most_budget}
+use Rattle.numbers.specs.TwoSlices.{list_from}
+use Rattle.rows.proofs.Parts.{front_room}
+use Rattle.rows.specs.Bounded.{Bounded}
+use Rattle.light.specs.Packed.{PackedLight}
+use Rattle.light.proofs.LightDoor.{few_words, ready, packs_light, within}
+use Rattle.light.proofs.solve.Goals as goal
+
+record Kept : Type 0 where
+  bounds : Bounded (s.args.budget + 1) weights values
+  cells_room : s.args.budget + 1 ≤ length s.args.cells.now
+  words_room : needed ≤ length s.args.words.now
+  picks_room : length weights ≤ length s.args.picks.now
+  words_64 : needed < 18_446_744_073_709_551_616
+
+picks_lent : (c : goal.After-pack-arg-3-1) → length (take c.list_length-n.result c.args.picks.now) ≡ length (weights)
+unfolding job_of labels
+picks_lent c =
+    let weights : List ℕ = list_from c.args.weights.now c.args.wbytes.now in
+    let labelled : c.list_length-n.result ≡ length (weights) = c.list_length-n.ensures in
+    let values : List ℕ = list_from c.args.values.now c.args.vbytes.now in
+    let job : Job = job_of 1 (c.args.budget ∷ []) weights values [] in
+    let ok : Kept = let r = ready job c.args.cells.now c.args.words.now c.args.picks.now c.requires in
+    record {
+      bounds = r.bounds;
+      cells_room = r.cells_room;
+      words_room = r.words_room;
+      picks_room = r.picks_room;
+      words_64 = few_words (length weights) c.args.budget r.few (omega (arith, r.bounds.narrow));
+    } in
+    length-take-le _ _ (omega (arith, labelled, (ok).picks_room)) ∙ labelled
+
+row_long : (c : goal.After-slice_known-7-1) → length c.pack-left.new.row ≡ c.args.budget + 1
+unfolding job_of labels
+row_long c =
+    let values : List ℕ = list_from c.args.values.now c.args.vbytes.now in
+    let weights : List ℕ = list_from c.args.weights.now c.args.wbytes.now in
+    let job : Job = job_of 1 (c.args.budget ∷ []) weights values [] in
+    let ok : Kept = let r = ready job c.args.cells.now c.args.words.now c.args.picks.now c.requires in
+    record {
+      bounds = r.bounds;
+      cells_room = r.cells_room;
+      words_room = r.words_room;
+      picks_room = r.picks_room;
+      words_64 = few_words (length weights) c.args.budget r.few (omega (arith, r.bounds.narrow));
+    } in
+    let row_lent : length (take (c.args.budget + 1) c.args.cells.now) ≡ c.args.budget + 1 = length-take-le _ _ (ok).cells_room in
+    c.pack-left.auto.row ∙ row_lent
+
+bits_long : (c : goal.After-slice_known-7-1) → length c.pack-left.new.words ≡ needed
+unfolding job_of labels
+bits_long c =
+    let weights : List ℕ = list_from c.args.weights.now c.args.wbytes.now in
+    let needed : ℕ = length weights * (c.args.budget / 64 + 1) in
+    let labelled : c.list_length-n.result ≡ length (weights) = c.list_length-n.ensures in
+    let counted : c.list_length-n.result * (c.args.budget / 64 + 1) ≡ needed = ap (λ (n : ℕ). n * (c.args.budget / 64 + 1)) labelled in
+    let values : List ℕ = list_from c.args.values.now c.args.vbytes.now in
+    let job : Job = job_of 1 (c.args.budget ∷ []) weights values [] in
+    let ok : Kept = let r = ready job c.args.cells.now c.args.words.now c.args.picks.now c.requires in
+    record {
+      bounds = r.bounds;
+      cells_room = r.cells_room;
+      words_room = r.words_room;
+      picks_room = r.picks_room;
+      words_64 = few_words (length weights) c.args.budget r.few (omega (arith, r.bounds.narrow));
+    } in
+    let words_lent : length (take (c.list_length-n.result * (c.args.budget / 64 + 1)) c.args.words.now) ≡ needed = length-take-le _ _ (omega (arith, counted, (ok).words_room)) ∙ counted in
+    c.pack-left.auto.words ∙ words_lent
+
+packed : (c : goal.After-slice_known-7-1) → PackedLight (job) c.pack-left.new.row c.pack-left.new.words c.pack-left.new.picks c.pack-left.result
+packed c =
+    let values : List ℕ = list_from c.args.values.now c.args.vbytes.now in
+    let weights : List ℕ = list_from c.args.weights.now c.args.wbytes.now in
+    let job : Job = job_of 1 (c.args.budget ∷ []) weights values [] in
+    c.pack-left.ensures
+
+left_within : (c : goal.After-slice_known-7-1) → c.pack-left.result ≤ c.args.budget
+unfolding job_of labels
+left_within c =
+    let values : List ℕ = list_from c.args.values.now c.args.vbytes.now in
+    let weights : List ℕ = list_from c.args.weights.now c.args.wbytes.now in
+    let job : Job = job_of 1 (c.args.budget ∷ []) weights values [] in
+    within (job) c.args.cells.now c.args.words.now c.args.picks.now c.pack-left.new.row c.pack-left.new.words c.pack-left.new.picks c.pack-left.result c.requires
+    (row_long c) (bits_long c) (packed c)
+
+pub slice_bounds-pack-end : goal.slice_bounds-pack-end
+unfolding job_of labels
+slice_bounds-pack-end c =
+    let values : List ℕ = list_from c.args.values.now c.args.vbytes.now in
+    let weights : List ℕ = list_from c.args.weights.now c.args.wbytes.now in
+    let job : Job = job_of 1 (c.args.budget ∷ []) weights values [] in
+    let ok : Kept = let r = ready job c.args.cells.now c.args.words.now c.args.picks.now c.requires in
+    record {
+      bounds = r.bounds;
+      cells_room = r.cells_room;
+      words_room = r.words_room;
+      picks_room = r.picks_room;
+      words_64 = few_words (length weights) c.args.budget r.few (omega (arith, r.bounds.narrow));
+    } in
+    ok.cells_room
+
+pub slice_bounds-pack-end-2 : goal.slice_bounds-pack-end-2
+unfolding job_of labels
+slice_bounds-pack-end-2 c =
+    let values : List ℕ = list_from c.args.values.now c.args.vbytes.now in
+    let weights : List ℕ = list_from c.args.weights.now c.args.wbytes.now in
+    let job : Job = job_of 1 (c.args.budget ∷ []) weights values [] in
+    let ok : Kept = let r = ready job c.args.cells.now c.args.words.now c.args.picks.now c.requires in
+    record {
+      bounds = r.bounds;
+      cells_room = r.cells_room;
+      words_room = r.words_room;
+      picks_room = r.picks_room;
+      words_64 = few_words (length weights) c.args.budget r.few (omega (arith, r.bounds.narrow));
+    } in
+    let row_lent : length (take (c.args.budget + 1) c.args.cells.now) ≡ c.args.budget + 1 = length-take-le _ _ ok.cells_room in
+    sym row_lent
+
+pub overflow_mul-n : goal.overflow_mul-n
+unfolding job_of labels
+overflow_mul-n c =
+    let weights : List ℕ = list_from c.args.weights.now c.args.wbytes.now in
+    let labelled : c.list_length-n.result ≡ length weights = c.list_length-n.ensures in
+    let needed : ℕ = length weights * (c.args.budget / 64 + 1) in
+    let counted : c.list_length-n.result * (c.args.budget / 64 + 1) ≡ needed = ap (λ (n : ℕ). n * (c.args.budget / 64 + 1)) labelled in
+    let values : List ℕ = list_from c.args.values.now c.args.vbytes.now in
+    let job : Job = job_of 1 (c.args.budget ∷ []) weights values [] in
+    let ok : Kept = let r = ready job c.args.cells.now c.args.words.now c.args.picks.now c.requires in
+    record {
+      bounds = r.bounds;
+      cells_room = r.cells_room;
+      words_room = r.words_room;
+      picks_room = r.picks_room;
+      words_64 = few_words (length weights) c.args.budget r.few (omega (arith, r.bounds.narrow));
+    } in
+    omega (arith, counted, ok.words_64)
+
+pub slice_bounds-pack-end-3 : goal.slice_bounds-pack-end-3
+unfolding job_of labels
+slice_bounds-pack-end-3 c =
+    let weights : List ℕ = list_from c.args.weights.now c.args.wbytes.now in
+    let labelled : c.list_length-n.result ≡ length weights = c.list_length-n.ensures in
+    let needed : ℕ = length weights * (c.args.budget / 64 + 1) in
+    let counted : c.list_length-n.result * (c.args.budget / 64 + 1) ≡ needed = ap (λ (n : ℕ). n * (c.args.budget / 64 + 1)) labelled in
+    let values : List ℕ = list_from c.args.values.now c.args.vbytes.now in
+    let job : Job = job_of 1 (c.args.budget ∷ []) weights values [] in
+    let ok : Kept = let r = ready job c.args.cells.now c.args.words.now c.args.picks.now c.requires in
+    record {
+      bounds = r.bounds;
+      cells_room = r.cells_room;
+      words_room = r.words_room;
+      picks_room = r.picks_room;
+      words_64 = few_words (length weights) c.args.budget r.few (omega (arith, r.bounds.narrow));
+    } in
+    omega (arith, counted, ok.words_room)
+
+pub slice_bounds-pack-end-4 : goal.slice_bounds-pack-end-4
+unfolding job_of labels
+slice_bounds-pack-end-4 c =
+    let weights : List ℕ = list_from c.args.weights.now c.args.wbytes.now in
+    let labelled : c.list_length-n.result ≡ length weights = c.list_length-n.ensures in
+    let needed : ℕ = length weights * (c.args.budget / 64 + 1) in
+    let counted : c.list_length-n.result * (c.args.budget / 64 + 1) ≡ needed = ap (λ (n : ℕ). n * (c.args.budget / 64 + 1)) labelled in
+    let values : List ℕ = list_from c.args.values.now c.args.vbytes.now in
+    let job : Job = job_of 1 (c.args.budget ∷ []) weights values [] in
+    let ok : Kept = let r = ready job c.args.cells.now c.args.words.now c.args.picks.now c.requires in
+    record {
+      bounds = r.bounds;
+      cells_room = r.cells_room;
+      words_room = r.words_room;
+      picks_room = r.picks_room;
+      words_64 = few_words (length weights) c.args.budget r.few (omega (arith, r.bounds.narrow));
+    } in
+    let words_lent : length (take (c.list_length-n.result * (c.args.budget / 64 + 1)) c.args.words.now) ≡ needed = length-take-le _ _ (omega (arith, counted, ok.words_room)) ∙ counted in
+    counted ∙ sym words_lent
+
+pub slice_bounds-pack-end-5 : goal.slice_bounds-pack-end-5
+unfolding job_of labels
+slice_bounds-pack-end-5 c =
+    let weights : List ℕ = list_from c.args.weights.now c.args.wbytes.now in
+    let labelled : c.list_length-n.result ≡ length weights = c.list_length-n.ensures in
+    let values : List ℕ = list_from c.args.values.now c.args.vbytes.now in
+    let job : Job = job_of 1 (c.args.budget ∷ []) weights values [] in
+    let ok : Kept = let r = ready job c.args.cells.now c.args.words.now c.args.picks.now c.requires in
+    record {
+      bounds = r.bounds;
+      cells_room = r.cells_room;
+      words_room = r.words_room;
+      picks_room = r.picks_room;
+      words_64 = few_words (length weights) c.args.budget r.few (omega (arith, r.bounds.narrow));
+    } in
+    omega (arith, labelled, ok.picks_room)
+
+pub slice_bounds-pack-end-6 : goal.slice_bounds-pack-end-6
+slice_bounds-pack-end-6 c =
+    let weights : List ℕ = list_from c.args.weights.now c.args.wbytes.now in
+    let labelled : c.list_length-n.result ≡ length weights = c.list_length-n.ensures in
+    labelled ∙ sym (picks_lent c)
+
+pub pack-left-requires : goal.pack-left-requires
+unfolding job_of labels
+pack-left-requires c =
+    let values : List ℕ = list_from c.args.values.now c.args.vbytes.now in
+    let weights : List ℕ = list_from c.args.weights.now c.args.wbytes.now in
+    let job : Job = job_of 1 (c.args.budget ∷ []) weights values [] in
+    let ok : Kept = let r = ready job c.args.cells.now c.args.words.now c.args.picks.now c.requires in
+    record {
+      bounds = r.bounds;
+      cells_room = r.cells_room;
+      words_room = r.words_room;
+      picks_room = r.picks_room;
+      words_64 = few_words (length weights) c.args.budget r.few (omega (arith, r.bounds.narrow));
+    } in
+    let row_lent : length (take (c.args.budget + 1) c.args.cells.now) ≡ c.args.budget + 1 = length-take-le _ _ ok.cells_room in
+    let labelled : c.list_length-n.result ≡ length weights = c.list_length-n.ensures in
+    let needed : ℕ = length weights * (c.args.budget / 64 + 1) in
+    let counted : c.list_length-n.result * (c.args.budget / 64 + 1) ≡ needed = ap (λ (n : ℕ). n * (c.args.budget / 64 + 1)) labelled in
+    let words_lent : length (take (c.list_length-n.result * (c.args.budget / 64 + 1)) c.args.words.now) ≡ needed = length-take-le _ _ (omega (arith, counted, ok.words_room)) ∙ counted in
+    record { bounded = ok.bounds; row_len = (row_lent, (sym words_lent, sym (picks_lent c))) }
+
+pub bounds-cells-most : goal.bounds-cells-most
+bounds-cells-most c = omega (arith, front_room c.pack-left.new.row c.args.cells.now (c.args.budget + 1) (row_long c))
+
+pub overflow_cast-result : goal.overflow_cast-result
+unfolding job_of labels most_budget
+overflow_cast-result c =
+    let values : List ℕ = list_from c.args.values.now c.args.vbytes.now in
+    let weights : List ℕ = list_from c.args.weights.now c.args.wbytes.now in
+    let job : Job = job_of 1 (c.args.budget ∷ []) weights values [] in
+    let ok : Kept = let r = ready job c.args.cells.now c.args.words.now c.args.picks.now c.requires in
+    record {
+      bounds = r.bounds;
+      cells_room = r.cells_room;
+      words_room = r.words_room;
+      picks_room = r.picks_room;
+      words_64 = few_words (length weights) c.args.budget r.few (omega (arith, r.bounds.narrow));
+    } in
+    omega (arith, left_within c, ok.bounds.narrow)
+
+pub overflow_sub-result : goal.overflow_sub-result
+overflow_sub-result c = left_within c
+
+pub returns : goal.returns
+unfolding job_of labels
+returns c =
+    let weights : List ℕ = list_from c.args.weights.now c.args.wbytes.now in
+    let labelled : c.list_length-n.result ≡ length weights = c.list_length-n.ensures in
+    let needed : ℕ = length weights * (c.args.budget / 64 + 1) in
+    let counted : c.list_length-n.result * (c.args.budget / 64 + 1) ≡ needed = ap (λ (n : ℕ). n * (c.args.budget / 64 + 1)) labelled in
+    let values : List ℕ = list_from c.args.values.now c.args.vbytes.now in
+    let job : Job = job_of 1 (c.args.budget ∷ []) weights values [] in
+    let a = c.args in
+    packs_light job a.cells.now a.words.now a.picks.now c.pack-left.new.row c.pack-left.new.words c.pack-left.new.picks c.pack-left.result c.requires
+    (row_long c) (bits_long c) (packed c) _ _ _ counted labelled
+    (get_or-append c.pack-left.new.row (drop (a.budget + 1) a.cells.now) 0 a.budget (omega (arith, row_long c)))

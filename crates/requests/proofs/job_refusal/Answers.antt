@@ -1,0 +1,50 @@
+-- `requests::job_refusal` meets its contract: the tests in their order, and the number of the first that fails.
+use mathlib.Core.List.{[], ◌∷◌}
+use mathlib.Core.Path.{◌≡◌, sym, ◌∙◌}
+use mathlib.Core.Bool.{Bool, true}
+use Prim.Native.Nat.{ℕ}
+use borrow.Author.Tests.{not-true, not-false}
+use borrow.Author.Rules.{rules}
+use Rattle.meaning.specs.Job.{Job, job_of, labels}
+use Rattle.meaning.specs.Refusals as meaning
+use Rattle.meaning.specs.Refusals.{lists_fit, bounds_fit}
+use Rattle.numbers.specs.TwoSlices.{job_from}
+use Rattle.rules.specs.Ruling.{rules_from}
+use Rattle.requests.proofs.Judging.{lists_as, bounds_as, refused_3, refused_4, refused_5, not_yet}
+use Rattle.requests.proofs.job_refusal.Goals as goal
+
+pub returns-then-not-listed : goal.returns-then-not-listed
+returns-then-not-listed c kind needs_sum =
+    let job : ℕ → Job = λ kind. let a = c.args in
+    job_from kind (a.budget ∷ []) a.weights.now a.wbytes.now a.values.now a.vbytes.now a.copies.now a.cbytes.now in
+    let rules : Bool → meaning.Rules = λ needs_sum. rules_from c.args.rules needs_sum in
+    refused_3 (rules needs_sum) (job kind) 0 (sym (listed c kind needs_sum) ∙ not-true _ c.if-not-listed.true-raw)
+
+pub returns-then-not-bounded : goal.returns-then-not-bounded
+returns-then-not-bounded c kind needs_sum =
+    let job : ℕ → Job = λ kind. let a = c.args in
+    job_from kind (a.budget ∷ []) a.weights.now a.wbytes.now a.values.now a.vbytes.now a.copies.now a.cbytes.now in
+    let rules : Bool → meaning.Rules = λ needs_sum. rules_from c.args.rules needs_sum in
+    let lists_right : (kind : ℕ) (needs_sum : Bool) → lists_fit (rules needs_sum) (job kind) ≡ true = λ kind needs_sum. sym (listed c kind needs_sum) ∙ not-false _ c.if-not-listed.false-raw in
+    refused_4 (rules needs_sum) (job kind) 0 (lists_right kind needs_sum)
+    (sym (bounded c kind needs_sum) ∙ not-true _ c.if-not-bounded.true-raw)
+
+pub returns-then-not-numbers_fit : goal.returns-then-not-numbers_fit
+returns-then-not-numbers_fit c kind needs_sum =
+    let job : ℕ → Job = λ kind. let a = c.args in
+    job_from kind (a.budget ∷ []) a.weights.now a.wbytes.now a.values.now a.vbytes.now a.copies.now a.cbytes.now in
+    let rules : Bool → meaning.Rules = λ needs_sum. rules_from c.args.rules needs_sum in
+    let bounds_right : (kind : ℕ) (needs_sum : Bool) → bounds_fit (rules needs_sum) (job kind) ≡ true = λ kind needs_sum. sym (bounded c kind needs_sum) ∙ not-false _ c.if-not-bounded.false-raw in
+    let lists_right : (kind : ℕ) (needs_sum : Bool) → lists_fit (rules needs_sum) (job kind) ≡ true = λ kind needs_sum. sym (listed c kind needs_sum) ∙ not-false _ c.if-not-listed.false-raw in
+    refused_5 (rules needs_sum) (job kind) 0 (lists_right kind needs_sum) (bounds_right kind needs_sum)
+    (sym (c.numbers_fit.ensures kind c.args.budget needs_sum) ∙ not-true _ c.if-not-numbers_fit.true-raw)
+
+pub returns : goal.returns
+returns c kind needs_sum =
+    let job : ℕ → Job = λ kind. let a = c.args in
+    job_from kind (a.budget ∷ []) a.weights.now a.wbytes.now a.values.now a.vbytes.now a.copies.now a.cbytes.now in
+    let rules : Bool → meaning.Rules = λ needs_sum. rules_from c.args.rules needs_sum in
+    let bounds_right : (kind : ℕ) (needs_sum : Bool) → bounds_fit (rules needs_sum) (job kind) ≡ true = λ kind needs_sum. sym (bounded c kind needs_sum) ∙ not-false _ c.if-not-bounded.false-raw in
+    let lists_right : (kind : ℕ) (needs_sum : Bool) → lists_fit (rules needs_sum) (job kind) ≡ true = λ kind needs_sum. sym (listed c kind needs_sum) ∙ not-false _ c.if-not-listed.false-raw in
+    not_yet (rules needs_sum) (job kind) 0 (lists_right kind needs_sum) (bounds_right kind needs_sum)
+    (sym (c.numbers_fit.ensures kind c.args.budget needs_sum) ∙ not-false _ c.if-not-numbers_fit.false-raw)

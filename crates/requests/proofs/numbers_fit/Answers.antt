@@ -1,0 +1,34 @@
+-- `requests::numbers_fit` meets its contract: weights, values and copies, list by list.
+use mathlib.Core.List.{[], ◌∷◌}
+use mathlib.Core.Path.{◌≡◌, sym, ◌∙◌}
+use mathlib.Core.Bool.{true}
+use Prim.Native.Nat.{ℕ}
+use borrow.Author.Tests.{not-true, not-false}
+use borrow.Author.Rules.{rules}
+use Rattle.meaning.specs.Job.{Job, job_of}
+use Rattle.meaning.specs.Bounds.{most_value}
+use Rattle.meaning.specs.Refusals.{each_within}
+use Rattle.numbers.specs.TwoSlices.{list_from, job_from}
+use Rattle.rules.specs.Ruling.{rule_from}
+use Rattle.requests.proofs.Judging.{within_as, weights_wrong, values_wrong, rest_copies}
+use Rattle.requests.proofs.numbers_fit.Goals as goal
+
+pub returns-then-not-keeps : goal.returns-then-not-keeps
+unfolding job_of
+returns-then-not-keeps c kind budget needs_sum =
+    weights_wrong c.args.rules needs_sum (job kind budget c) (sym c.keeps.ensures ∙ not-true _ c.if-not-keeps.true-raw)
+
+pub returns-then-not-each_within : goal.returns-then-not-each_within
+unfolding job_of
+returns-then-not-each_within c kind budget needs_sum =
+    let kept : let a = c.args in rule_from a.rules.weights (list_from a.weights.now a.wbytes.now) ≡ true = sym c.keeps.ensures ∙ not-false _ c.if-not-keeps.false-raw in
+    let valued : let a = c.args in c.each_within.result ≡ each_within a.rules.floor most_value (list_from a.values.now a.vbytes.now) = within_as c.value_bounds-worth.ensures.0 c.value_bounds-worth.ensures.1 c.each_within.ensures in
+    values_wrong c.args.rules needs_sum (job kind budget c) kept (sym valued ∙ not-true _ c.if-not-each_within.true-raw)
+
+pub returns : goal.returns
+unfolding job_of
+returns c kind budget needs_sum =
+    let kept : let a = c.args in rule_from a.rules.weights (list_from a.weights.now a.wbytes.now) ≡ true = sym c.keeps.ensures ∙ not-false _ c.if-not-keeps.false-raw in
+    let valued : let a = c.args in c.each_within.result ≡ each_within a.rules.floor most_value (list_from a.values.now a.vbytes.now) = within_as c.value_bounds-worth.ensures.0 c.value_bounds-worth.ensures.1 c.each_within.ensures in
+    within_as c.copies_bounds-counts.ensures.0 c.copies_bounds-counts.ensures.1 c.each_within-2.ensures
+    ∙ rest_copies c.args.rules needs_sum (job kind budget c) kept (sym valued ∙ not-false _ c.if-not-each_within.false-raw)

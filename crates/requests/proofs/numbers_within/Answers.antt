@@ -1,0 +1,20 @@
+-- `requests::numbers_within` meets its contract: what was tested so far is the promise of the part that was passed.
+use Prim.Native.Nat.{◌-◌}
+use native.Mathlib.Omega.{arith}
+use lib.ListN.{length, take}
+use borrow.Author.Rules.{rules}
+use Rattle.requests.specs.Judging.{EachWithin}
+use Rattle.requests.proofs.Judging.{none_tested, one_tested, all_tested}
+use Rattle.requests.proofs.numbers_within.Goals as goal
+
+pub loop-i-init : goal.loop-i-init
+loop-i-init c = none_tested _ _
+
+pub loop-i-preserved : goal.loop-i-preserved
+loop-i-preserved c =
+    let l = c.loop-i in
+    let xs = c.args.numbers.now in
+    one_tested _ _ xs l.i l.within (omega arith) (omega (arith, c.type_inv.numbers l.i)) l.invariant
+
+pub returns : goal.returns
+returns c = all_tested _ _ c.args.numbers.now c.loop-i.i _ (omega arith) c.loop-i.invariant

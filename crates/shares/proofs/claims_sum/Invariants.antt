@@ -1,0 +1,18 @@
+-- `claims_sum` gives S, the sum of the claims.
+use mathlib.Core.Path.{◌≡◌}
+use Prim.Native.Nat.{ℕ, ◌*◌, ◌-◌, ◌≤◌}
+use native.Mathlib.Omega.{arith}
+use mathlib.Core.List.{List}
+use lib.ListN.{take}
+use borrow.Author.Rules.{rules}
+use Rattle.meaning.specs.Lists.{sum}
+use Rattle.meaning.specs.Bounds.{most_claims}
+use Rattle.meaning.proofs.Loops.{sum_step, sum_done}
+use Rattle.numbers.specs.TwoSlices.{list_from}
+use Rattle.shares.proofs.claims_sum.Given as goal
+
+abbrev pub invariant-loop-i : goal.invariant-loop-i
+invariant-loop-i l = (l.i ≤ l.n) × (l.sum ≡ sum (take l.i (list_from l.weights l.wbytes))) × (l.sum ≤ l.i * 4_294_967_295)
+
+abbrev pub decreases-loop-i : goal.decreases-loop-i
+decreases-loop-i l = l.n - l.i

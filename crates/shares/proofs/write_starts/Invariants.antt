@@ -1,0 +1,26 @@
+-- `write_starts` keeps every start, and gives the spare and how far the remainders reach.
+use mathlib.Core.Path.{◌≡◌, refl, ◌∙◌}
+use Prim.Native.Nat.{◌+◌, ◌-◌, ◌/◌, ◌%◌, ◌≤◌, ◌<◌}
+use native.Mathlib.Nat.{mod-lt}
+use native.Mathlib.Omega.{arith}
+use lib.ListN.{length, take, length-set}
+use borrow.Author.Rules.{rules}
+use Rattle.meaning.specs.Lists.{sum}
+use Rattle.meaning.specs.Job.{Job, job_of, labels}
+use Rattle.meaning.specs.Shares.{start_of, remainder_of}
+use Rattle.numbers.specs.TwoSlices.{list_from}
+use Rattle.rows.specs.Rows.{Stored}
+use Rattle.rows.proofs.Stores.{stored_each, stored_none, stored_up}
+use Rattle.shares.specs.Borders.{claims_job, Reaches}
+use Rattle.shares.proofs.Starts.{starts, member_within, start_within, over_claimed, spare_step, spare_done, reaches_none, reaches_all}
+use Rattle.shares.proofs.write_starts.Given as goal
+
+abbrev pub invariant-loop-i : goal.invariant-loop-i
+invariant-loop-i l = (l.i ≤ length l.initial.shares)
+    × (length l.shares ≡ length l.initial.shares)
+    × Stored l.initial.shares l.shares 0 0 l.i (start_of (claims_job l.budget l.weights l.wbytes))
+    × (l.spare + sum (take l.i (starts (claims_job l.budget l.weights l.wbytes))) ≡ l.budget)
+    × Reaches (claims_job l.budget l.weights l.wbytes) l.i 0 l.claimed l.least l.greatest
+
+abbrev pub decreases-loop-i : goal.decreases-loop-i
+decreases-loop-i l = length l.initial.shares - l.i

@@ -1,0 +1,19 @@
+-- `stated::greatest_value` meets its contract: the greater of p and of the greatest value from label i on stays the same.
+use mathlib.Core.Path.{◌≡◌, ap}
+use Prim.Native.Nat.{ℕ, ◌-◌, ◌≤◌, ◌<◌, max}
+use native.Mathlib.Omega.{arith}
+use mathlib.Core.List.{List}
+use lib.ListN.{length, drop}
+use borrow.Author.Rules.{rules}
+use Rattle.numbers.specs.TwoSlices.{list_from}
+use Rattle.meaning.specs.Cuts.{that_fit, greatest_of}
+use Rattle.stated.proofs.Measuring.{none_on, greatest_on}
+use Rattle.stated.proofs.greatest_value.Given as goal
+
+abbrev pub invariant-loop-i : goal.invariant-loop-i
+invariant-loop-i l = (l.i ≤ l.n)
+    × (max l.p (greatest_of (that_fit l.budget (drop l.i (list_from l.weights l.wbytes)) (drop l.i (list_from l.values l.vbytes))))
+    ≡ greatest_of (that_fit l.budget (list_from l.weights l.wbytes) (list_from l.values l.vbytes)))
+
+abbrev pub decreases-loop-i : goal.decreases-loop-i
+decreases-loop-i l = l.n - l.i

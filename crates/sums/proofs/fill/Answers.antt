@@ -1,0 +1,25 @@
+-- `sums::fill` meets its contract: total 0 alone with no labels, and then a label more each turn.
+use mathlib.Core.Path.{◌≡◌, ◌∙◌}
+use Prim.Native.Nat.{◌-◌}
+use native.Mathlib.Omega.{arith}
+use lib.ListN.{length}
+use borrow.Author.Rules.{rules}
+use Rattle.numbers.specs.TwoSlices.{list_from}
+use Rattle.meaning.specs.Lists.{at}
+use Rattle.rows.specs.Rows.{FirstAlone}
+use Rattle.rows.proofs.Rounds.{Rounds, rounds_none, rounds_more, rounds_all}
+use Rattle.sums.specs.Words.{Added}
+use Rattle.sums.proofs.fill.Goals as goal
+
+pub loop-i-init : goal.loop-i-init
+loop-i-init c = let words = c.first_alone in rounds_none (rw words.auto.words words.ensures)
+
+pub loop-i-preserved : goal.loop-i-preserved
+loop-i-preserved c =
+    rounds_more c.loop-i.invariant c.loop-i-test.true c.add_label.auto.words
+    (rw c.item.ensures at c.add_label.ensures)
+
+pub returns : goal.returns
+returns c =
+    let long : length c.loop-i.words ≡ length c.args.words.now = c.loop-i.invariant.long ∙ c.first_alone.auto.words in
+    rounds_all _ _ c.loop-i.invariant (omega arith) c.list_length-n.ensures long
