@@ -14,11 +14,12 @@ use Rattle.shares.proofs.Borders.{next_lowest, not_at_least, none_found, some_sp
 use Rattle.shares.proofs.Borders.{low_up, high_down, still_some, none_between, just_enough}
 use Rattle.shares.proofs.find_border.Goals as goal
 
-near : (c : goal.After-struct_known-then-close-1) → let l = c.loop-found in
+near : (c : goal.After-struct_known-then-close-1) →
+    let job : Job = claims_job c.args.budget c.args.weights.now c.args.wbytes.now in
+    let l = c.loop-found in
     let reach = c.reach_between-reach.result in
     Reaches (job) (labels (job)) l.low l.high reach.least reach.greatest
 near c =
-    let job : Job = claims_job c.args.budget c.args.weights.now c.args.wbytes.now in
     rw c.requires.leaves.started.long at c.reach_between-reach.ensures
 
 still : (c : goal.After-struct_known-then-close-1) → c.reach_between-reach.result.least < c.reach_between-reach.result.greatest + 1
