@@ -9,13 +9,13 @@ use Rattle.host.proofs.answer_refusal.Goals as goal
 -- every other case
 others : (a : Answer) → ((x : ℕ) → a ≡ Says.Refused x → ⊥) → 0 ≡ (answer_numbers a).refusal
 unfolding answer_numbers
-others (Says.Refused r) no = absurd (no r refl)
-others (Says.Knapsack v w) no = refl
-others (Says.Sums y n) no = refl
-others (Says.Blocks b) no = refl
-others (Says.Ways w) no = refl
-others (Says.Shares x) no = refl
-others (Says.Weight w) no = refl
+others (Says.Refused r) other = absurd (other r refl)
+others (Says.Knapsack v w) other = refl
+others (Says.Sums y n) other = refl
+others (Says.Blocks b) other = refl
+others (Says.Ways w) other = refl
+others (Says.Shares x) other = refl
+others (Says.Weight w) other = refl
 
 pub returns-in-Refused : goal.returns-in-Refused
 unfolding answer_numbers

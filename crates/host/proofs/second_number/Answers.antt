@@ -13,13 +13,13 @@ use Rattle.host.proofs.second_number.Goals as goal
 others : (a : Answer) → ((v w : ℕ) → a ≡ Says.Knapsack v w → ⊥) → ((y : Bool) (n : ℕ) → a ≡ Says.Sums y n → ⊥)
     → 0 ≡ second_number (answer_numbers a)
 unfolding second_number answer_numbers
-others (Says.Refused r) no none = refl
-others (Says.Knapsack v w) no none = absurd (no v w refl)
-others (Says.Sums y n) no none = absurd (none y n refl)
-others (Says.Blocks b) no none = refl
-others (Says.Ways w) no none = refl
-others (Says.Shares x) no none = refl
-others (Says.Weight w) no none = refl
+others (Says.Refused r) other neither = refl
+others (Says.Knapsack v w) other neither = absurd (other v w refl)
+others (Says.Sums y n) other neither = absurd (neither y n refl)
+others (Says.Blocks b) other neither = refl
+others (Says.Ways w) other neither = refl
+others (Says.Shares x) other neither = refl
+others (Says.Weight w) other neither = refl
 
 pub returns-in-Knapsack : goal.returns-in-Knapsack
 unfolding answer_numbers second_number
