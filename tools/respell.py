@@ -16,7 +16,9 @@ import sys
 TOKEN = re.compile(r"[\w'◌-]+")
 DECLARED = re.compile(
     r"^(\s*)((?:(?:abbrev|unfoldable|pub|data|record)\s+)*)([^\s:(){}=.«»]+)(\s+[({].*)?\s*:(\s|$)")
-NEED = re.compile(r":\s*tie\.(Need|invariant|decreases)-")
+# several constructors or fields on one line
+SEVERAL = re.compile(r"^\s+(?:pub )?((?:[\w'-]+ )+[\w'-]+) : [^=]*$")
+NEED = re.compile(r":\s*(tie\.(Need|invariant|decreases)-|goal\.)")
 
 # a name that would fall together with another: the lemma gets `_lem`, as the guide says of a lemma with its function's name
 OTHER = {
@@ -69,6 +71,10 @@ def declared(path, text):
     for i, line in enumerate(lines):
         if line.lstrip().startswith("--"):
             continue
+        m = SEVERAL.match(line)
+        if m and not function:
+            found |= {n for n in m.group(1).split() if n not in ("use", "let", "in", "where")}
+            continue
         m = DECLARED.match(line)
         if not m:
             m = re.match(r"^(\s*)((?:(?:abbrev|unfoldable|pub)\s+)*)([^\s:(){}=.«»]+)\s*:$", line)
@@ -93,6 +99,12 @@ def main():
     for p, t in texts.items():
         if p.endswith(".antt"):
             own |= declared(p, t)
+    # a second run takes what a first one gave for done
+    done = {}
+    if os.path.exists("tools/respelled.txt"):
+        with open("tools/respelled.txt", encoding="utf-8") as f:
+            done = dict(line.split() for line in f)
+    own -= set(done.values())
     new = {n: snake(n) for n in own if (wants(n) or n in OTHER) and snake(n) != n}
 
     def turned(line, comment):
@@ -137,6 +149,7 @@ def main():
         t = open(p, encoding="utf-8").read()
         with open(p, "w", encoding="utf-8") as f:
             f.write("\n".join(turned(line, True) for line in t.split("\n")))
+    new.update(done)
     with open("tools/respelled.txt", "w", encoding="utf-8") as f:
         f.writelines(f"{a} {b}\n" for a, b in sorted(new.items()))
     print(len(new), "names")

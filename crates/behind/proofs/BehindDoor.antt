@@ -11,7 +11,7 @@ use Rattle.meaning.specs.declared.Answer.TheVariants as Says
 use Rattle.meaning.specs.Lists.{at}
 use Rattle.meaning.specs.Slices.{Holds}
 use Rattle.meaning.specs.Cells.{LeastShown, no_way}
-use Rattle.meaning.specs.Job.{Job, labels-behind, labels}
+use Rattle.meaning.specs.Job.{Job, labels_behind, labels}
 use Rattle.meaning.specs.Lent.{lent_of, room_by, room_of}
 use Rattle.meaning.specs.Bounds.{most_labels}
 use Rattle.meaning.specs.Refusals.{rules_of, weight_rules}
@@ -31,10 +31,10 @@ pub record Kept (j : Job) (cells picks : List ℕ) : Type 0 where
   pub cells_room : j.budget + 1 ≤ length cells
   pub picks_room : labels j ≤ length picks
 
-pub keeps : (j : Job) (cells picks : List ℕ) → Unrefused labels-behind j (lent_of cells [] picks) → Kept j cells picks
+pub keeps : (j : Job) (cells picks : List ℕ) → Unrefused labels_behind j (lent_of cells [] picks) → Kept j cells picks
 unfolding room_by room_of lent_of rules_of weight_rules
 keeps j cells picks ok =
-    let job = kept labels-behind j (lent_of cells [] picks) ok in
+    let job = kept labels_behind j (lent_of cells [] picks) ok in
     record { few = job.few; cells_room = job.cells_room; picks_room = job.picks_room }
 
 -- so no number of labels is the mark
@@ -42,7 +42,7 @@ below_mark : (n : ℕ) → n ≤ most_labels → n < no_way
 unfolding most_labels no_way
 below_mark n h = omega arith
 
-module _ (j : Job) (cells picks row : List ℕ) (ok : Unrefused labels-behind j (lent_of cells [] picks))
+module _ (j : Job) (cells picks row : List ℕ) (ok : Unrefused labels_behind j (lent_of cells [] picks))
     (long : length row ≡ j.budget + 1) (made : FirstsGrown j.weights (j.budget + 1) row) where
   few : labels j < no_way
   few = below_mark (labels j) (keeps j cells picks ok).few
@@ -51,11 +51,11 @@ module _ (j : Job) (cells picks row : List ℕ) (ok : Unrefused labels-behind j 
   shows t h = grown_firsts j (j.budget + 1) few row made t (omega arith)
 
   -- the table is complete, whatever is written over the picks
-  leaves : (a : Answer) (found picks-after : List ℕ) → Gives labels-behind j (answer_numbers a) found → Holds found picks picks-after
+  leaves : (a : Answer) (found picks-after : List ℕ) → Gives labels_behind j (answer_numbers a) found → Holds found picks picks-after
       → SolvedInCells j cells picks a (row ++ drop (j.budget + 1) cells) picks-after
   unfolding TableBy FirstRow room_by room_of lent_of
   leaves a found picks-after gives in_picks =
-      solved_in_cells labels-behind j a cells picks (row ++ drop (j.budget + 1) cells) picks-after row found ok refl gives shows long
+      solved_in_cells labels_behind j a cells picks (row ++ drop (j.budget + 1) cells) picks-after row found ok refl gives shows long
       (holds_front row cells (j.budget + 1) long) in_picks
 
   -- where the last cell shows the mark, there is no such sum: the picks are unchanged

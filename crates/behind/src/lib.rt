@@ -5,7 +5,7 @@
 
 ghost use Rattle.std.specs.Prelude.{◌≡◌, [], ◌∷◌, ◌-◌, ◌≤◌, ◌<◌, length};
 ghost use Rattle.meaning.specs.Lists.{at};
-ghost use Rattle.meaning.specs.Job.{labels-behind};
+ghost use Rattle.meaning.specs.Job.{labels_behind};
 ghost use Rattle.meaning.specs.Lent.{lent_of};
 ghost use Rattle.meaning.specs.Bounds.{most_labels};
 ghost use Rattle.meaning.specs.Solved.{Unrefused};
@@ -86,7 +86,7 @@ pub fn solve(
     cells: &mut [u32],
     picks: &mut [u32],
 ) -> Answer
-    requires { Unrefused labels-behind (weights_from 8 (budget ∷ []) weights.now wbytes.now) (lent_of cells.old [] picks.old) }
+    requires { Unrefused labels_behind (weights_from 8 (budget ∷ []) weights.now wbytes.now) (lent_of cells.old [] picks.old) }
     ensures { SolvedInCells (weights_from 8 (budget ∷ []) weights.now wbytes.now)
         cells.old picks.old result cells.new picks.new }
 {

@@ -11,7 +11,7 @@ use Rattle.meaning.specs.declared.Answer.TheVariants as Says
 use Rattle.meaning.specs.Lists.{at, sum, if}
 use Rattle.meaning.specs.Slices.{Holds}
 use Rattle.meaning.specs.Cells.{LeastShown, no_way}
-use Rattle.meaning.specs.Job.{Job, Kind, fewest-blocks, block-ways, labels, job_of}
+use Rattle.meaning.specs.Job.{Job, Kind, fewest_blocks, block_ways, labels, job_of}
 use Rattle.meaning.specs.Lent.{Lent, lent_of, room_by, room_of}
 use Rattle.meaning.specs.Bounds.{most_budget}
 use Rattle.meaning.specs.Refusals.{rules_of, weight_rules}
@@ -31,15 +31,15 @@ use Rattle.blocks.proofs.Laying.{fewest_row, down_laid}
 
 -- ---- what a job keeps: both kinds have one set of rules
 
-pub bounded : (k : Kind) (j : Job) (lent : Lent) → rules_of k ≡ rules_of fewest-blocks → Kept k j lent → Bounded (j.budget + 1) j.weights
+pub bounded : (k : Kind) (j : Job) (lent : Lent) → rules_of k ≡ rules_of fewest_blocks → Kept k j lent → Bounded (j.budget + 1) j.weights
 unfolding rules_of weight_rules
 bounded k j lent same keeps =
-    let small : j.budget ≤ (rules_of fewest-blocks).budget_bound = rw same at keeps.small in
+    let small : j.budget ≤ (rules_of fewest_blocks).budget_bound = rw same at keeps.small in
     record { wide = omega arith; narrow = omega arith; whole = λ i h. size_rule 1 j.weights i h (rw same at keeps.weights_right) }
 
 -- ---- kind 5
 
-module _ (j : Job) (cells picks row : List ℕ) (ok : Unrefused fewest-blocks j (lent_of cells [] picks)) (bounds : Bounded (j.budget + 1) j.weights)
+module _ (j : Job) (cells picks row : List ℕ) (ok : Unrefused fewest_blocks j (lent_of cells [] picks)) (bounds : Bounded (j.budget + 1) j.weights)
     (long : length row ≡ j.budget + 1) (made : FewestGrown j.weights (j.budget + 1) row) where
   shows : (a : ℕ) → a ≤ j.budget → LeastShown (MadeOf j (labels j) a) (at row a)
   unfolding labels
@@ -54,11 +54,11 @@ module _ (j : Job) (cells picks row : List ℕ) (ok : Unrefused fewest-blocks j 
   marked a h = at_most_mark (λ x d. below a x h d) (shows a h)
 
   -- the table is complete, whatever is written over the picks
-  leaves : (a : Answer) (found picks-after : List ℕ) → Gives fewest-blocks j (answer_numbers a) found → Holds found picks picks-after
+  leaves : (a : Answer) (found picks-after : List ℕ) → Gives fewest_blocks j (answer_numbers a) found → Holds found picks picks-after
       → SolvedInCells j cells picks a (row ++ drop (j.budget + 1) cells) picks-after
   unfolding TableBy FewestRow room_by room_of lent_of
   leaves a found picks-after gives in_picks =
-      solved_in_cells fewest-blocks j a cells picks (row ++ drop (j.budget + 1) cells) picks-after row found ok refl gives shows long
+      solved_in_cells fewest_blocks j a cells picks (row ++ drop (j.budget + 1) cells) picks-after row found ok refl gives shows long
       (holds_front row cells (j.budget + 1) long) in_picks
 
   -- where the last cell shows the mark, there is no such sum: the picks are unchanged
@@ -85,7 +85,7 @@ module _ (j : Job) (cells picks row : List ℕ) (ok : Unrefused fewest-blocks j 
 
 -- ---- kind 6
 
-module _ (j : Job) (words row : List ℕ) (ok : Unrefused block-ways j (lent_of [] words [])) (bounds : Bounded (j.budget + 1) j.weights)
+module _ (j : Job) (words row : List ℕ) (ok : Unrefused block_ways j (lent_of [] words [])) (bounds : Bounded (j.budget + 1) j.weights)
     (long : length row ≡ j.budget + 1) (made : WaysGrown j.weights (j.budget + 1) row) where
   ways_shown : (a : ℕ) → a ≤ j.budget → WaysShown j (labels j) a (at row a)
   unfolding labels
@@ -97,7 +97,7 @@ module _ (j : Job) (words row : List ℕ) (ok : Unrefused block-ways j (lent_of 
   unfolding Gives TableBy WaysRow room_by room_of lent_of
   leaves_ways a right =
       let d = ways_shown j.budget (omega arith) in
-      solved_in_words block-ways j a words (row ++ drop (j.budget + 1) words) row ok refl refl
+      solved_in_words block_ways j a words (row ++ drop (j.budget + 1) words) row ok refl refl
       (record { ways = d.many; how_many = d.how_many; numbers = ap answer_numbers (right d.many d.lesser); none_written = refl })
       ways_shown long (holds_front row words (j.budget + 1) long)
 
@@ -119,24 +119,24 @@ module _ (j : Job) (words row : List ℕ) (ok : Unrefused block-ways j (lent_of 
 
 -- a job of kind 5 asks for blocks
 pub asks_blocks : (budget kind : ℕ) (ws cells words picks : List ℕ) → kind ≡ 5 → LetIn (job_of kind (budget ∷ []) ws [] []) (lent_of cells words picks)
-    → Unrefused fewest-blocks (job_of 5 (budget ∷ []) ws [] []) (lent_of cells [] picks)
+    → Unrefused fewest_blocks (job_of 5 (budget ∷ []) ws [] []) (lent_of cells [] picks)
 unfolding job_of number_of room_by room_of lent_of
 asks_blocks budget kind ws cells words picks e (blocks_asked ok) =
-    subst (λ (k : ℕ). Unrefused fewest-blocks (job_of k (budget ∷ []) ws [] []) (lent_of cells [] picks)) e
-    (still_unrefused fewest-blocks (job_of kind (budget ∷ []) ws [] []) (lent_of cells words picks) (lent_of cells [] picks)
+    subst (λ (k : ℕ). Unrefused fewest_blocks (job_of k (budget ∷ []) ws [] []) (lent_of cells [] picks)) e
+    (still_unrefused fewest_blocks (job_of kind (budget ∷ []) ws [] []) (lent_of cells words picks) (lent_of cells [] picks)
     (as_long refl) (not_needed refl) (as_long refl) ok)
-asks_blocks budget kind ws cells words picks e (ways_asked ok) = absurd (omega (arith, kind_number kind block-ways ok.of_kind))
+asks_blocks budget kind ws cells words picks e (ways_asked ok) = absurd (omega (arith, kind_number kind block_ways ok.of_kind))
 
 -- and another for ways
 pub asks_ways : (budget kind : ℕ) (ws cells words picks : List ℕ) → ¬ (kind ≡ 5)
     → LetIn (job_of kind (budget ∷ []) ws [] []) (lent_of cells words picks)
-    → (kind ≡ 6) × Unrefused block-ways (job_of 6 (budget ∷ []) ws [] []) (lent_of [] words [])
+    → (kind ≡ 6) × Unrefused block_ways (job_of 6 (budget ∷ []) ws [] []) (lent_of [] words [])
 unfolding job_of number_of room_by room_of lent_of
-asks_ways budget kind ws cells words picks other (blocks_asked ok) = absurd (other (kind_number kind fewest-blocks ok.of_kind))
+asks_ways budget kind ws cells words picks other (blocks_asked ok) = absurd (other (kind_number kind fewest_blocks ok.of_kind))
 asks_ways budget kind ws cells words picks other (ways_asked ok) =
-    let six : kind ≡ 6 = kind_number kind block-ways ok.of_kind in (
+    let six : kind ≡ 6 = kind_number kind block_ways ok.of_kind in (
       six,
-      subst (λ (k : ℕ). Unrefused block-ways (job_of k (budget ∷ []) ws [] []) (lent_of [] words [])) six
-          (still_unrefused block-ways (job_of kind (budget ∷ []) ws [] []) (lent_of cells words picks) (lent_of [] words [])
+      subst (λ (k : ℕ). Unrefused block_ways (job_of k (budget ∷ []) ws [] []) (lent_of [] words [])) six
+          (still_unrefused block_ways (job_of kind (budget ∷ []) ws [] []) (lent_of cells words picks) (lent_of [] words [])
           (not_needed refl) (as_long refl) (not_needed refl) ok),
     )

@@ -13,7 +13,7 @@ use mir.Facts.{ltb_yes, yes_ltb}
 use Rattle.meaning.specs.Lists.{at, sum}
 use Rattle.meaning.specs.Cells.{LeastShown, no_way}
 use Rattle.meaning.specs.Job.{Job, labels}
-use Rattle.meaning.specs.Orders.{last-most}
+use Rattle.meaning.specs.Orders.{last_most}
 use Rattle.meaning.specs.Blocks.{Makes, Fewest, Laid, block_order, MadeOf}
 use Rattle.meaning.proofs.Totals.{one_more, one_fewer, more_sum, fewer_sum}
 use Rattle.meaning.proofs.Making.{makes_more, makes_less}
@@ -40,7 +40,7 @@ down_light row sizes m a on = (fewer_true row (at sizes m) a on).0
 
 -- the trace with i sizes still to be settled
 abbrev pub DownTo : (ℕ → ℕ) → List ℕ → ℕ → ℕ → ℕ → List ℕ → Type 0
-DownTo row sizes amount i a picks = Trace last-most (leads_down row sizes) sizes (length sizes) amount (length sizes - i) a picks
+DownTo row sizes amount i a picks = Trace last_most (leads_down row sizes) sizes (length sizes) amount (length sizes - i) a picks
 
 -- it begins with counts of 0
 pub down_begins : (row : ℕ → ℕ) (sizes : List ℕ) (amount i : ℕ) (picks : List ℕ) → length picks ≡ length sizes → i ≡ length sizes
@@ -56,7 +56,7 @@ down_few row sizes amount i a picks trace = trace_few last_is (leads_down row si
 -- its steps
 module _ (row : ℕ → ℕ) (sizes : List ℕ) (amount i a : ℕ) (picks : List ℕ) (some_left : 0 < i) (inside : i ≤ length sizes)
     (trace : DownTo row sizes amount i a picks) where
-  turn_now : turn_of last-most (length sizes) (length sizes - i) ≡ i - 1
+  turn_now : turn_of last_most (length sizes) (length sizes - i) ≡ i - 1
   unfolding turn_of
   turn_now = omega arith
 

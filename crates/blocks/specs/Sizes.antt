@@ -4,7 +4,7 @@ use Rattle.std.specs.Prelude.{ℕ, suc, ◌+◌, ◌-◌, ◌≤◌, ◌<◌, mi
 use Rattle.meaning.specs.Lists.{at}
 use Rattle.meaning.specs.Cells.{no_way}
 use Rattle.meaning.specs.Bounds.{most_budget}
-use Rattle.meaning.specs.Orders.{last-most}
+use Rattle.meaning.specs.Orders.{last_most}
 use Rattle.meaning.specs.Blocks.{too_many}
 use Rattle.rows.specs.Rows.{Swept, FirstAlone}
 use Rattle.rows.specs.Rounds.{LabelByLabel}
@@ -48,4 +48,4 @@ leads_down row sizes m a = leaves_fewer row (at sizes m) a
 -- kind 5: the trace down the sizes, from the last one at the whole amount, with all counts settled
 pub record TraceDown (row : ℕ → ℕ) (sizes : List ℕ) (amount : ℕ) (picks : List ℕ) : Type 0 where
   pub left : ℕ
-  pub trace : Trace last-most (leads_down row sizes) sizes (length sizes) amount (length sizes) left picks
+  pub trace : Trace last_most (leads_down row sizes) sizes (length sizes) amount (length sizes) left picks

@@ -4,7 +4,7 @@
 
 ghost use Rattle.std.specs.Prelude.{◌≡◌, [], ◌∷◌, ◌+◌, ◌-◌, ◌≤◌, ◌<◌, length};
 ghost use Rattle.meaning.specs.Lists.{at};
-ghost use Rattle.meaning.specs.Job.{fewest-blocks, block-ways};
+ghost use Rattle.meaning.specs.Job.{fewest_blocks, block_ways};
 ghost use Rattle.meaning.specs.Lent.{lent_of};
 ghost use Rattle.meaning.specs.Solved.{Solved, Unrefused};
 ghost use Rattle.meaning.specs.SolvedIn.{SolvedInCells, SolvedInWords};
@@ -120,7 +120,7 @@ fn fewest(
     cells: &mut [u32],
     picks: &mut [u32],
 ) -> Answer
-    requires { Unrefused fewest-blocks (weights_from 5 (budget ∷ []) weights.now wbytes.now) (lent_of cells.old [] picks.old) }
+    requires { Unrefused fewest_blocks (weights_from 5 (budget ∷ []) weights.now wbytes.now) (lent_of cells.old [] picks.old) }
     ensures { SolvedInCells (weights_from 5 (budget ∷ []) weights.now wbytes.now)
         cells.old picks.old result cells.new picks.new }
 {
@@ -180,7 +180,7 @@ fn fill_ways(weights: &[u32], wbytes: &[u8], words: &mut [u64])
 
 // Kind 6: the row, and the ways for the whole budget or that they are too many to count. No other amount has a say in that.
 fn ways(budget: u32, weights: &[u32], wbytes: &[u8], words: &mut [u64]) -> Answer
-    requires { Unrefused block-ways (weights_from 6 (budget ∷ []) weights.now wbytes.now) (lent_of [] words.old []) }
+    requires { Unrefused block_ways (weights_from 6 (budget ∷ []) weights.now wbytes.now) (lent_of [] words.old []) }
     ensures { SolvedInWords (weights_from 6 (budget ∷ []) weights.now wbytes.now)
         words.old result words.new }
 {

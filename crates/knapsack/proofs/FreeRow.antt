@@ -10,7 +10,7 @@ use lib.ListN.{length}
 use Rattle.meaning.specs.Lists.{at, total}
 use Rattle.meaning.specs.Job.{Job, labels, free}
 use Rattle.meaning.specs.Bounds.{most_value}
-use Rattle.meaning.specs.Orders.{first-most}
+use Rattle.meaning.specs.Orders.{first_most}
 use Rattle.meaning.specs.Knapsacks.{MayPick, Fits, Best, BestValue, BestPicks, order_of}
 use Rattle.meaning.proofs.Totals.{one_more, one_fewer, more_total, fewer_total}
 use Rattle.meaning.proofs.Steps.{best_none, none_better}
@@ -67,7 +67,7 @@ along_light row ws vs m c on = (leads_true row (at ws m) (at vs m) c on).0
 
 -- the trace with the counts of k labels settled
 abbrev pub AlongTo : (ℕ → ℕ) → List ℕ → List ℕ → ℕ → ℕ → ℕ → List ℕ → Type 0
-AlongTo row ws vs budget k c picks = Trace first-most (leads_along row ws vs) ws (length ws) budget k c picks
+AlongTo row ws vs budget k c picks = Trace first_most (leads_along row ws vs) ws (length ws) budget k c picks
 
 -- it begins with counts of 0
 pub along_begins : (row : ℕ → ℕ) (ws vs : List ℕ) (budget : ℕ) (picks : List ℕ) → length picks ≡ length ws

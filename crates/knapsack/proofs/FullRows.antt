@@ -8,7 +8,7 @@ use mathlib.Core.List.{List, ◌++◌}
 use lib.ListN.{length}
 use Rattle.meaning.specs.Lists.{at, total}
 use Rattle.meaning.specs.Job.{Job, Knapsack, labels}
-use Rattle.meaning.specs.Orders.{last-least}
+use Rattle.meaning.specs.Orders.{last_least}
 use Rattle.meaning.specs.Bounds.{most_value}
 use Rattle.meaning.specs.Knapsacks.{MayPick, BestValue, BestPicks, order_of}
 use Rattle.rows.specs.Rows.{SomeCount, GreatestRow, Stored, NextRow, Capped}
@@ -93,7 +93,7 @@ module _ (k : Knapsack) (j : Job) (limit : ℕ → ℕ) (width : ℕ) (cells : L
   some_back = count_back k j width row d.first row_greatest
 
   -- the trace back finds the chosen picks
-  pub back_picks : order_of k ≡ last-least → (budget : ℕ) → budget < width → {i c : ℕ} {found : List ℕ}
+  pub back_picks : order_of k ≡ last_least → (budget : ℕ) → budget < width → {i c : ℕ} {found : List ℕ}
       → TraceBack row j.weights j.values (labels j) budget i c found → (p : List ℕ) → BestPicks k j i c p
       → BestPicks k j (labels j) budget (p ++ found)
   back_picks least budget wide = picks_back k j width row d.first row_greatest least budget wide

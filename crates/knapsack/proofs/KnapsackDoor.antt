@@ -12,7 +12,7 @@ use Rattle.meaning.specs.Slices.{Holds}
 use Rattle.meaning.specs.Job.{Job, Knapsack, once, limited, free, packing, labels, job_of}
 use Rattle.meaning.specs.Lent.{Lent, Room, lent_of, room_by, once_room, room_of, cell_count}
 use Rattle.meaning.specs.Refusals.{has_copies}
-use Rattle.meaning.specs.Orders.{last-least}
+use Rattle.meaning.specs.Orders.{last_least}
 use Rattle.meaning.specs.Knapsacks.{MayPick, BestValue, BestPicks, order_of, ValueTable, FullTable, OneRow, cell_number}
 use Rattle.meaning.specs.Solved.{Gives, UnrefusedBy}
 use Rattle.meaning.specs.SolvedIn.{SolvedInCellsBy}
@@ -91,7 +91,7 @@ unfolding number_of has_copies if
 copies_long once_is j ok other = absurd (other refl)
 copies_long limited_is j ok other = ok.copied
 
-order_back : {k : Knapsack} → Rowed k → order_of k ≡ last-least
+order_back : {k : Knapsack} → Rowed k → order_of k ≡ last_least
 unfolding order_of
 order_back once_is = refl
 order_back limited_is = refl

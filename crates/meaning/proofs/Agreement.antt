@@ -15,7 +15,7 @@ use Rattle.meaning.specs.Lists.{at, if, total}
 use Rattle.meaning.specs.Counting.{Counted}
 use Rattle.meaning.specs.Cells.{LeastShown, no_way}
 use Rattle.meaning.specs.Bounds.{most_labels}
-use Rattle.meaning.specs.Job.{Job, Kind, all_kinds, job_of, kind_of, labels, labels-behind, subset-sums}
+use Rattle.meaning.specs.Job.{Job, Kind, all_kinds, job_of, kind_of, labels, labels_behind, subset_sums}
 use Rattle.meaning.specs.Lent.{Lent, room_by, room_for, room_of}
 use Rattle.meaning.specs.Refusals.{bounds_fit, claims_fit, job_refusal, kind_refusal, lists_fit, numbers_fit, room_fits, rules_of, weight_rules}
 use Rattle.meaning.specs.Bytes.{read_job, readable}
@@ -121,17 +121,17 @@ module _ (j j' : Job) (words cells : List ℕ) (same : j.weights ≡ j'.weights)
 
 -- kind 4's answer to one job and kind 8's to the other
 module _ (j j' : Job) (before after before' after' : Lent) (four eight : Answer) (same : j.weights ≡ j'.weights) (C : j.budget ≡ j'.budget)
-    (ok : Unrefused subset-sums j before) (ok' : Unrefused labels-behind j' before')
+    (ok : Unrefused subset_sums j before) (ok' : Unrefused labels_behind j' before')
     (solved : Solved j before four after) (solved' : Solved j' before' eight after') where
-  abbrev x : Answered (room_for subset-sums j) (TableHolds subset-sums j) subset-sums j before (answer_numbers four) after
-  x = unrefused_answered subset-sums j before after four ok solved
+  abbrev x : Answered (room_for subset_sums j) (TableHolds subset_sums j) subset_sums j before (answer_numbers four) after
+  x = unrefused_answered subset_sums j before after four ok solved
 
-  abbrev y : Answered (room_for labels-behind j') (TableHolds labels-behind j') labels-behind j' before' (answer_numbers eight) after'
-  y = unrefused_answered labels-behind j' before' after' eight ok' solved'
+  abbrev y : Answered (room_for labels_behind j') (TableHolds labels_behind j') labels_behind j' before' (answer_numbers eight) after'
+  y = unrefused_answered labels_behind j' before' after' eight ok' solved'
 
   few : labels j' < no_way
   unfolding rules_of weight_rules most_labels no_way
-  few = omega (arith, (kept labels-behind j' before' ok').few)
+  few = omega (arith, (kept labels_behind j' before' ok').few)
 
   -- each bit, and each cell, as the calls left them
   bits_left : (t : ℕ) → t ≤ j.budget → Tells (ReachedWithin j (labels j) t) (bit after.words t)
@@ -154,7 +154,7 @@ module _ (j j' : Job) (before after before' after' : Lent) (four eight : Answer)
   yes_reached false (is_so r e) = absurd (omega arith)
   yes_reached false (is_not none e) = (λ t. absurd (let c : ◌≡◌ {A = ℕ} 0 1 = ap (λ (b : Bool). if b 1 0) t in omega arith), λ r. absurd (none r))
 
-  not_7_reached : (p : List ℕ) → Gives labels-behind j' (answer_numbers eight) p → (¬ (eight ≡ Says.Refused 7)) ↔ Reached j (labels j) j.budget
+  not_7_reached : (p : List ℕ) → Gives labels_behind j' (answer_numbers eight) p → (¬ (eight ≡ Says.Refused 7)) ↔ Reached j (labels j) j.budget
   unfolding Gives Weighed refusals answer_numbers
   not_7_reached p (a_sum weighs behind e) = (
     λ other.
@@ -197,8 +197,8 @@ module _ (C : ℕ) (weights values copies values' copies' : List ℕ) (before af
   unfolding job_of kind_of all_kinds claims_fit rules_of weight_rules
   kinds_agree solved past solved' past' =
       agree as_four as_eight before after before' after' four eight refl refl
-      (past_6 subset-sums as_four before after four refl refl solved past)
-      (past_6 labels-behind as_eight before' after' eight refl refl solved' past') solved solved'
+      (past_6 subset_sums as_four before after four refl refl solved past)
+      (past_6 labels_behind as_eight before' after' eight refl refl solved' past') solved solved'
 
   -- and where the jobs come as bytes
   pub kinds_agree_bytes : (fourB eightB : List ℕ) → read_job fourB ≡ readable as_four → read_job eightB ≡ readable as_eight

@@ -12,8 +12,8 @@ use Rattle.meaning.specs.declared.Answer.TheVariants.{Knapsack, Sums, Blocks, Wa
 use Rattle.meaning.specs.declared.Way.{Way}
 use Rattle.meaning.specs.declared.Way.TheVariants.{Light, Full}
 use Rattle.meaning.specs.Lists.{at}
-use Rattle.meaning.specs.Job.{Job, Kind, block-ways, fewest-blocks, free, job_of, limited, once, packing, sharing, subset-sums}
-use Rattle.meaning.specs.Job.{labels-behind, stated-share, kind_of}
+use Rattle.meaning.specs.Job.{Job, Kind, block_ways, fewest_blocks, free, job_of, limited, once, packing, sharing, subset_sums}
+use Rattle.meaning.specs.Job.{labels_behind, stated_share, kind_of}
 use Rattle.meaning.specs.Lent.{Lent, lent_of, room_by}
 use Rattle.meaning.specs.Refusals.{kind_refusal}
 use Rattle.meaning.specs.Bytes.{job_bytes, read_job, readable}
@@ -62,12 +62,12 @@ abbrev pub tried : Kind → Tried
 tried (packing once) = record { job = case_a; answer = Knapsack 9 7; picks = 1 ∷ 1 ∷ 0 ∷ [] }
 tried (packing limited) = record { job = plain 2 7 (2 ∷ 3 ∷ []) (3 ∷ 5 ∷ []) (2 ∷ 1 ∷ []); answer = Knapsack 11 7; picks = 2 ∷ 1 ∷ [] }
 tried (packing free) = record { job = plain 3 10 (3 ∷ 4 ∷ []) (4 ∷ 6 ∷ []) []; answer = Knapsack 14 10; picks = 2 ∷ 1 ∷ [] }
-tried subset-sums = record { job = plain 4 8 (3 ∷ 5 ∷ 9 ∷ []) [] []; answer = Sums true 4; picks = [] }
-tried fewest-blocks = record { job = plain 5 6 (1 ∷ 3 ∷ 4 ∷ []) [] []; answer = Blocks 2; picks = 0 ∷ 2 ∷ 0 ∷ [] }
-tried block-ways = record { job = plain 6 5 (1 ∷ 2 ∷ 5 ∷ []) [] []; answer = Ways 4; picks = [] }
+tried subset_sums = record { job = plain 4 8 (3 ∷ 5 ∷ 9 ∷ []) [] []; answer = Sums true 4; picks = [] }
+tried fewest_blocks = record { job = plain 5 6 (1 ∷ 3 ∷ 4 ∷ []) [] []; answer = Blocks 2; picks = 0 ∷ 2 ∷ 0 ∷ [] }
+tried block_ways = record { job = plain 6 5 (1 ∷ 2 ∷ 5 ∷ []) [] []; answer = Ways 4; picks = [] }
 tried sharing = record { job = plain 7 10 (1 ∷ 1 ∷ 1 ∷ []) [] []; answer = Shares 1; picks = 4 ∷ 3 ∷ 3 ∷ [] }
-tried labels-behind = record { job = plain 8 8 (3 ∷ 5 ∷ 9 ∷ []) [] []; answer = Weight 8; picks = 1 ∷ 1 ∷ 0 ∷ [] }
-tried stated-share = record { job = share_job; answer = Knapsack 8 2; picks = 0 ∷ 1 ∷ [] }
+tried labels_behind = record { job = plain 8 8 (3 ∷ 5 ∷ 9 ∷ []) [] []; answer = Weight 8; picks = 1 ∷ 1 ∷ 0 ∷ [] }
+tried stated_share = record { job = share_job; answer = Knapsack 8 2; picks = 0 ∷ 1 ∷ [] }
 
 -- ---- what is shown of the trial of each kind
 
@@ -110,14 +110,14 @@ facts_by : {k : Kind} → Goes (solve (tried k).job (tried k).answer (tried k).p
 facts_by g b r n u f = record { goes = g; back = b; no_refusal = r; not_0 = n; unrefused = u; first_filled = f }
 
 -- F as kind 8
-behind_case_f : Goes (solve (tried labels-behind).job (tried labels-behind).answer (tried labels-behind).picks)
+behind_case_f : Goes (solve (tried labels_behind).job (tried labels_behind).answer (tried labels_behind).picks)
 unfolding opens Goes just_enough Gives Weighed is_behind
-behind_case_f = goes labels-behind refl refl (a_sum (behind_weighs _ _ tt) (behind_out _ _ tt) refl)
+behind_case_f = goes labels_behind refl refl (a_sum (behind_weighs _ _ tt) (behind_out _ _ tt) refl)
 
 -- the job of kind 9
-stated_goes : Goes (solve (tried stated-share).job (tried stated-share).answer (tried stated-share).picks)
+stated_goes : Goes (solve (tried stated_share).job (tried stated_share).answer (tried stated_share).picks)
 unfolding opens Goes just_enough Gives is_stated
-stated_goes = goes stated-share refl refl (record { picked = stated_out _ _ tt; numbers = refl })
+stated_goes = goes stated_share refl refl (record { picked = stated_out _ _ tt; numbers = refl })
 
 -- kind 1's, by either way
 once_unrefused : (way : Way) (x : ℕ) → UnrefusedBy way (packing once) (tried (packing once)).job (filled way x (packing once))
@@ -135,9 +135,9 @@ unfolding opens trials GoesAt refusals first_number filled table_of
 trial_facts (packing once) = facts_by (goes_at 0 sixteen) refl refl (lit≤ tt) once_unrefused (λ has. once_filled)
 trial_facts (packing limited) = facts_by (goes_at 3 sixteen) refl refl (lit≤ tt) (λ way x. unrefused_by refl refl) (λ has way x. refl)
 trial_facts (packing free) = facts_by (goes_at 4 sixteen) refl refl (lit≤ tt) (λ way x. unrefused_by refl refl) (λ has way x. refl)
-trial_facts subset-sums = facts_by (goes_at 6 sixteen) refl refl (lit≤ tt) (λ way x. unrefused_by refl refl) (λ has way x. refl)
-trial_facts fewest-blocks = facts_by (goes_at 8 sixteen) refl refl (lit≤ tt) (λ way x. unrefused_by refl refl) (λ has way x. refl)
-trial_facts block-ways = facts_by (goes_at 10 sixteen) refl refl (lit≤ tt) (λ way x. unrefused_by refl refl) (λ has way x. refl)
+trial_facts subset_sums = facts_by (goes_at 6 sixteen) refl refl (lit≤ tt) (λ way x. unrefused_by refl refl) (λ has way x. refl)
+trial_facts fewest_blocks = facts_by (goes_at 8 sixteen) refl refl (lit≤ tt) (λ way x. unrefused_by refl refl) (λ has way x. refl)
+trial_facts block_ways = facts_by (goes_at 10 sixteen) refl refl (lit≤ tt) (λ way x. unrefused_by refl refl) (λ has way x. refl)
 trial_facts sharing = facts_by (goes_at 12 sixteen) refl refl (lit≤ tt) (λ way x. unrefused_by refl refl) (λ has way x. absurd (has refl))
-trial_facts labels-behind = facts_by behind_case_f refl refl (lit≤ tt) (λ way x. unrefused_by refl refl) (λ has way x. refl)
-trial_facts stated-share = facts_by stated_goes refl refl (lit≤ tt) (λ way x. unrefused_by refl refl) (λ has way x. refl)
+trial_facts labels_behind = facts_by behind_case_f refl refl (lit≤ tt) (λ way x. unrefused_by refl refl) (λ has way x. refl)
+trial_facts stated_share = facts_by stated_goes refl refl (lit≤ tt) (λ way x. unrefused_by refl refl) (λ has way x. refl)

@@ -8,22 +8,22 @@ use Rattle.meaning.specs.declared.Answer.{Answer}
 use Rattle.meaning.specs.declared.Answer.TheVariants as Says
 use Rattle.meaning.specs.declared.Verdict.TheVariants.{Accepted, Refused}
 use Rattle.meaning.specs.declared.Written.TheVariants as Reports
-use Rattle.meaning.specs.Answers.{is-blocks, is-knapsack, is-refusal, is-shares, is-sums}
-use Rattle.meaning.specs.Answers.{is-ways, is-weight, verdict_numbers, answer_numbers, written_numbers}
+use Rattle.meaning.specs.Answers.{is_blocks, is_knapsack, is_refusal, is_shares, is_sums}
+use Rattle.meaning.specs.Answers.{is_ways, is_weight, verdict_numbers, answer_numbers, written_numbers}
 use Rattle.meaning.specs.Solved.{ways_answer}
 use Rattle.meaning.specs.Host.{first_number, refusal_number, second_number, value_or_place}
 use Rattle.meaning.proofs.Opens.{opens}
 use Rattle.meaning.proofs.Computing.{Computes, ◌gives◌}
 
 answer_numbers_lem : Computes answer_numbers (
-    Says.Refused 5 gives record { case = is-refusal; refusal = 5; value = 0; weight = 0; yes = 0; totals = 0; blocks = 0; ways = 0; spare = 0; exact = 0 }
-    ∷ Says.Knapsack 9 7 gives record { case = is-knapsack; refusal = 0; value = 9; weight = 7; yes = 0; totals = 0; blocks = 0; ways = 0; spare = 0; exact = 0 }
-    ∷ Says.Sums true 4 gives record { case = is-sums; refusal = 0; value = 0; weight = 0; yes = 1; totals = 4; blocks = 0; ways = 0; spare = 0; exact = 0 }
-    ∷ Says.Sums false 3 gives record { case = is-sums; refusal = 0; value = 0; weight = 0; yes = 0; totals = 3; blocks = 0; ways = 0; spare = 0; exact = 0 }
-    ∷ Says.Blocks 2 gives record { case = is-blocks; refusal = 0; value = 0; weight = 0; yes = 0; totals = 0; blocks = 2; ways = 0; spare = 0; exact = 0 }
-    ∷ Says.Ways 4 gives record { case = is-ways; refusal = 0; value = 0; weight = 0; yes = 0; totals = 0; blocks = 0; ways = 4; spare = 0; exact = 0 }
-    ∷ Says.Shares 1 gives record { case = is-shares; refusal = 0; value = 0; weight = 0; yes = 0; totals = 0; blocks = 0; ways = 0; spare = 1; exact = 0 }
-    ∷ Says.Weight 8 gives record { case = is-weight; refusal = 0; value = 0; weight = 0; yes = 0; totals = 0; blocks = 0; ways = 0; spare = 0; exact = 8 }
+    Says.Refused 5 gives record { case = is_refusal; refusal = 5; value = 0; weight = 0; yes = 0; totals = 0; blocks = 0; ways = 0; spare = 0; exact = 0 }
+    ∷ Says.Knapsack 9 7 gives record { case = is_knapsack; refusal = 0; value = 9; weight = 7; yes = 0; totals = 0; blocks = 0; ways = 0; spare = 0; exact = 0 }
+    ∷ Says.Sums true 4 gives record { case = is_sums; refusal = 0; value = 0; weight = 0; yes = 1; totals = 4; blocks = 0; ways = 0; spare = 0; exact = 0 }
+    ∷ Says.Sums false 3 gives record { case = is_sums; refusal = 0; value = 0; weight = 0; yes = 0; totals = 3; blocks = 0; ways = 0; spare = 0; exact = 0 }
+    ∷ Says.Blocks 2 gives record { case = is_blocks; refusal = 0; value = 0; weight = 0; yes = 0; totals = 0; blocks = 2; ways = 0; spare = 0; exact = 0 }
+    ∷ Says.Ways 4 gives record { case = is_ways; refusal = 0; value = 0; weight = 0; yes = 0; totals = 0; blocks = 0; ways = 4; spare = 0; exact = 0 }
+    ∷ Says.Shares 1 gives record { case = is_shares; refusal = 0; value = 0; weight = 0; yes = 0; totals = 0; blocks = 0; ways = 0; spare = 1; exact = 0 }
+    ∷ Says.Weight 8 gives record { case = is_weight; refusal = 0; value = 0; weight = 0; yes = 0; totals = 0; blocks = 0; ways = 0; spare = 0; exact = 8 }
     ∷ []
     )
 unfolding opens

@@ -6,7 +6,7 @@ use mathlib.Core.List.{List, [], ◌∷◌, ◌++◌}
 use lib.ListN.{replicate, take}
 use Rattle.meaning.specs.declared.Answer.TheVariants as Says
 use Rattle.meaning.specs.Bounds.{least_q, most_budget, most_labels, most_q, most_value}
-use Rattle.meaning.specs.Job.{Job, job_of, stated-share}
+use Rattle.meaning.specs.Job.{Job, job_of, stated_share}
 use Rattle.meaning.specs.Cuts.{cut_sum, cut_values, divisor, greatest_value, remain, stated_cells}
 use Rattle.meaning.specs.Lent.{lent_of}
 use Rattle.meaning.specs.Bytes.{job_bytes, read_job, readable, section_bytes, unreadable}
@@ -217,7 +217,7 @@ call₉ : Solved share_job (lent_of (replicate 27 9 ++ (7 ∷ [])) (8 ∷ []) (6
     (lent_of (cells₉ ++ (7 ∷ [])) (8 ∷ []) (0 ∷ 1 ∷ 6 ∷ []))
 unfolding call
 call₉ =
-    leaves stated-share share_job (lent_of cells₉ [] (0 ∷ 1 ∷ []))
+    leaves stated_share share_job (lent_of cells₉ [] (0 ∷ 1 ∷ []))
     (record { picked = not_the_best; numbers = refl }) table₉ refl refl refl refl refl refl refl
 
 -- the same from bytes
@@ -230,5 +230,5 @@ call_none : Solved (stated 1 2 (2 ∷ 3 ∷ []) (9 ∷ 9 ∷ [])) (lent_of (9 �
     (lent_of (0 ∷ 7 ∷ []) [] (0 ∷ 0 ∷ []))
 unfolding call is_stated_table
 call_none =
-    leaves stated-share (stated 1 2 (2 ∷ 3 ∷ []) (9 ∷ 9 ∷ [])) (lent_of (0 ∷ []) [] (0 ∷ 0 ∷ []))
+    leaves stated_share (stated 1 2 (2 ∷ 3 ∷ []) (9 ∷ 9 ∷ [])) (lent_of (0 ∷ []) [] (0 ∷ 0 ∷ []))
     (record { picked = none_remains; numbers = refl }) (stated_table_out _ (0 ∷ []) tt) refl refl refl refl refl refl refl

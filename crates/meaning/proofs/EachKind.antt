@@ -19,8 +19,8 @@ use Rattle.meaning.specs.declared.Way.TheVariants.{Light, Full}
 use Rattle.meaning.specs.Lists.{at, if, sum, total}
 use Rattle.meaning.specs.Slices.{Holds}
 use Rattle.meaning.specs.Cells.{LeastShown}
-use Rattle.meaning.specs.Job.{Job, Kind, Knapsack, all_kinds, block-ways, fewest-blocks, free}
-use Rattle.meaning.specs.Job.{kind_of, labels, labels-behind, limited, once, packing, sharing, stated-share, subset-sums}
+use Rattle.meaning.specs.Job.{Job, Kind, Knapsack, all_kinds, block_ways, fewest_blocks, free}
+use Rattle.meaning.specs.Job.{kind_of, labels, labels_behind, limited, once, packing, sharing, stated_share, subset_sums}
 use Rattle.meaning.specs.Cuts.{cut_sum, remain, stated_cells}
 use Rattle.meaning.specs.Lent.{Lent, Room, cell_count, once_room, room_by, room_of}
 use Rattle.meaning.specs.Knapsacks.{FullTable, ValueTable}
@@ -28,7 +28,7 @@ use Rattle.meaning.specs.Sums.{Weighs}
 use Rattle.meaning.specs.Behind.{FirstRow}
 use Rattle.meaning.specs.Blocks.{FewestRow, Makes, WaysFor, WaysRow, too_many}
 use Rattle.meaning.specs.Shares.{spare_of}
-use Rattle.meaning.specs.Answers.{AnswerNumbers, Which, is-blocks, is-knapsack, is-refusal, is-shares, is-sums, is-ways, is-weight}
+use Rattle.meaning.specs.Answers.{AnswerNumbers, Which, is_blocks, is_knapsack, is_refusal, is_shares, is_sums, is_ways, is_weight}
 use Rattle.meaning.specs.Answers.{answer_numbers}
 use Rattle.meaning.specs.Certificates.{certificate_cells}
 use Rattle.meaning.specs.Solved.{Answered, Built, Gives, OnceTable, TableBy, Weighed, a_sum, no_such_sum, ways_answer}
@@ -44,12 +44,12 @@ unfoldable pub number_of : Kind → ℕ
 number_of (packing once) = 1
 number_of (packing limited) = 2
 number_of (packing free) = 3
-number_of subset-sums = 4
-number_of fewest-blocks = 5
-number_of block-ways = 6
+number_of subset_sums = 4
+number_of fewest_blocks = 5
+number_of block_ways = 6
 number_of sharing = 7
-number_of labels-behind = 8
-number_of stated-share = 9
+number_of labels_behind = 8
+number_of stated_share = 9
 
 -- the kinds of a list have the numbers m, m + 1, ..
 unfoldable in_order : ℕ → List Kind → Bool
@@ -120,15 +120,15 @@ unfolding TableBy ValueTable FewestRow WaysRow FirstRow room_by room_of
 same_places way (packing once) j s t a b = once_places way j s t a b
 same_places way (packing limited) j s t a b = full_places limited j (labels j) s t a b
 same_places way (packing free) j s t a b = record { cells = row_unique free j s.cells t.cells a b; words = none_needed s.words t.words }
-same_places way subset-sums j s t a b = record { cells = none_needed s.cells t.cells; words = bits_table_unique j s.words t.words a b }
-same_places way fewest-blocks j s t a b = shown_places j.budget (labels j) s t a b
-same_places way block-ways j s t a b = record {
+same_places way subset_sums j s t a b = record { cells = none_needed s.cells t.cells; words = bits_table_unique j s.words t.words a b }
+same_places way fewest_blocks j s t a b = shown_places j.budget (labels j) s t a b
+same_places way block_ways j s t a b = record {
   cells = none_needed s.cells t.cells;
   words = λ m h. ways_shown_unique (a m (omega arith)) (b m (omega arith));
 }
 same_places way sharing j s t a b = record { cells = none_needed s.cells t.cells; words = none_needed s.words t.words }
-same_places way labels-behind j s t a b = shown_places j.budget (labels j) s t a b
-same_places way stated-share j s t a b = record {
+same_places way labels_behind j s t a b = shown_places j.budget (labels j) s t a b
+same_places way stated_share j s t a b = record {
   cells = stated_cells_unique j s.cells t.cells a b;
   words = none_needed s.words t.words;
 }
@@ -147,12 +147,12 @@ table_unique way k j s t a b u v =
 -- where the table of kind k stands; kind 7 has none
 unfoldable pub table_of : Kind → Lent → List ℕ
 table_of (packing s) lent = lent.cells
-table_of subset-sums lent = lent.words
-table_of fewest-blocks lent = lent.cells
-table_of block-ways lent = lent.words
+table_of subset_sums lent = lent.words
+table_of fewest_blocks lent = lent.cells
+table_of block_ways lent = lent.words
 table_of sharing lent = []
-table_of labels-behind lent = lent.cells
-table_of stated-share lent = lent.cells
+table_of labels_behind lent = lent.cells
+table_of stated_share lent = lent.cells
 
 -- the places that are needed for the table hold it, and there is one at least
 pub record TableLeft (k : Kind) (content before after : Lent) : Type 0 where
@@ -174,12 +174,12 @@ unfolding table_of Holds room_by room_of cell_count
 table_left way (packing once) {j} x = record { held = x.cells_hold; needed = λ has. omega (arith, x.cells_needed, once_cells way j) }
 table_left way (packing limited) x = record { held = x.cells_hold; needed = λ has. omega (arith, x.cells_needed) }
 table_left way (packing free) x = record { held = x.cells_hold; needed = λ has. omega (arith, x.cells_needed) }
-table_left way subset-sums x = record { held = x.words_hold; needed = λ has. omega (arith, x.words_needed) }
-table_left way fewest-blocks x = record { held = x.cells_hold; needed = λ has. omega (arith, x.cells_needed) }
-table_left way block-ways x = record { held = x.words_hold; needed = λ has. omega (arith, x.words_needed) }
+table_left way subset_sums x = record { held = x.words_hold; needed = λ has. omega (arith, x.words_needed) }
+table_left way fewest_blocks x = record { held = x.cells_hold; needed = λ has. omega (arith, x.cells_needed) }
+table_left way block_ways x = record { held = x.words_hold; needed = λ has. omega (arith, x.words_needed) }
 table_left way sharing x = record { held = refl; needed = λ has. absurd (has refl) }
-table_left way labels-behind x = record { held = x.cells_hold; needed = λ has. omega (arith, x.cells_needed) }
-table_left way stated-share {j} x = record { held = x.cells_hold; needed = λ has. omega (arith, x.cells_needed, stated_some j) }
+table_left way labels_behind x = record { held = x.cells_hold; needed = λ has. omega (arith, x.cells_needed) }
+table_left way stated_share {j} x = record { held = x.cells_hold; needed = λ has. omega (arith, x.cells_needed, stated_some j) }
 
 -- ---- the two ways
 
@@ -198,12 +198,12 @@ unfolding room_by TableBy
 one_way way other (packing once) j not-1 = absurd (not-1 refl)
 one_way way other (packing limited) j not-1 = record { room = refl; table = refl }
 one_way way other (packing free) j not-1 = record { room = refl; table = refl }
-one_way way other subset-sums j not-1 = record { room = refl; table = refl }
-one_way way other fewest-blocks j not-1 = record { room = refl; table = refl }
-one_way way other block-ways j not-1 = record { room = refl; table = refl }
+one_way way other subset_sums j not-1 = record { room = refl; table = refl }
+one_way way other fewest_blocks j not-1 = record { room = refl; table = refl }
+one_way way other block_ways j not-1 = record { room = refl; table = refl }
 one_way way other sharing j not-1 = record { room = refl; table = refl }
-one_way way other labels-behind j not-1 = record { room = refl; table = refl }
-one_way way other stated-share j not-1 = record { room = refl; table = refl }
+one_way way other labels_behind j not-1 = record { room = refl; table = refl }
+one_way way other stated_share j not-1 = record { room = refl; table = refl }
 
 -- by such a way the table of a knapsack is what its certificate needs, and holds the values
 pub record ClaimTable (way : Way) (k : Knapsack) (j : Job) : Type 1 where
@@ -223,34 +223,34 @@ full_claims free j = record { room = refl; table = refl }
 pub gives_unique : (k : Kind) (j : Job) (s s' : AnswerNumbers) (p p' : List ℕ) → Gives k j s p → Gives k j s' p' → (p ≡ p') × (s ≡ s')
 unfolding Gives Built Weighed
 gives_unique (packing k) j s s' p p' a b = packed_unique (best_unique k j (labels j) j.budget) a b
-gives_unique subset-sums j s s' p p' a b = summed_unique a b
-gives_unique fewest-blocks j s s' p p' a b = sum_or_none_unique (laid_unique j j.budget) a b
-gives_unique block-ways j s s' p p' a b = ways_given_unique a b
+gives_unique subset_sums j s s' p p' a b = summed_unique a b
+gives_unique fewest_blocks j s s' p p' a b = sum_or_none_unique (laid_unique j j.budget) a b
+gives_unique block_ways j s s' p p' a b = ways_given_unique a b
 gives_unique sharing j s s' p p' a b = (a.given ∙ sym b.given, a.numbers ∙ sym b.numbers)
-gives_unique labels-behind j s s' p p' a b = sum_or_none_unique (behind_unique j (labels j) j.budget) a b
-gives_unique stated-share j s s' p p' a b = packed_unique (stated_unique j) a b
+gives_unique labels_behind j s s' p p' a b = sum_or_none_unique (behind_unique j (labels j) j.budget) a b
+gives_unique stated_share j s s' p p' a b = packed_unique (stated_unique j) a b
 
 -- ---- a refusal, of a job that none of 2 to 6 and 9 meets: 'exactly when'
 
 -- 7 where no list of blocks, or of labels, sums to C, 8 where the ways are too many to count, and no other
 unfoldable pub Late : Kind → Job → ℕ → Type 0
 Late (packing s) j r = ⊥
-Late subset-sums j r = ⊥
-Late fewest-blocks j r = (r ≡ 7) × ((q : List ℕ) → ¬ Makes j (labels j) j.budget q)
-Late block-ways j r = (r ≡ 8) × ((w : ℕ) × WaysFor j (labels j) j.budget w × (too_many ≤ w))
+Late subset_sums j r = ⊥
+Late fewest_blocks j r = (r ≡ 7) × ((q : List ℕ) → ¬ Makes j (labels j) j.budget q)
+Late block_ways j r = (r ≡ 8) × ((w : ℕ) × WaysFor j (labels j) j.budget w × (too_many ≤ w))
 Late sharing j r = ⊥
-Late labels-behind j r = (r ≡ 7) × ((q : List ℕ) → ¬ Weighs j (labels j) j.budget q)
-Late stated-share j r = ⊥
+Late labels_behind j r = (r ≡ 7) × ((q : List ℕ) → ¬ Weighs j (labels j) j.budget q)
+Late stated_share j r = ⊥
 
 -- 1 for a refusal, 0 for any other case
 unfoldable pub refusals : Which → ℕ
-refusals is-refusal = 1
-refusals is-knapsack = 0
-refusals is-sums = 0
-refusals is-blocks = 0
-refusals is-ways = 0
-refusals is-shares = 0
-refusals is-weight = 0
+refusals is_refusal = 1
+refusals is_knapsack = 0
+refusals is_sums = 0
+refusals is_blocks = 0
+refusals is_ways = 0
+refusals is_shares = 0
+refusals is_weight = 0
 
 -- no other case says what a refusal says
 pub not_said : (r : ℕ) (a : Answer) → refusals (answer_numbers a).case ≡ 0 → ¬ (answer_numbers (Says.Refused r) ≡ answer_numbers a)
@@ -258,7 +258,7 @@ unfolding answer_numbers refusals
 not_said r a other e = let z : 1 ≡ refusals (answer_numbers a).case = ap (λ (s : AnswerNumbers). refusals s.case) e in omega arith
 
 late_ways : (j : Job) (w r : ℕ) → WaysFor j (labels j) j.budget w → (b : Bool) → ltb w too_many ≡ b
-    → answer_numbers (Says.Refused r) ≡ answer_numbers (if b (Says.Ways w) (Says.Refused 8)) → Late block-ways j r
+    → answer_numbers (Says.Refused r) ≡ answer_numbers (if b (Says.Ways w) (Says.Refused 8)) → Late block_ways j r
 unfolding if Late answer_numbers refusals
 late_ways j w r ways true h e = absurd (not_said r (Says.Ways w) refl e)
 late_ways j w r ways false h e = (ap (λ (s : AnswerNumbers). s.refusal) e, (w, ways, omega (arith, ltb-false, h)))
@@ -266,14 +266,14 @@ late_ways j w r ways false h e = (ap (λ (s : AnswerNumbers). s.refusal) e, (w, 
 pub late : (k : Kind) (j : Job) (r : ℕ) (p : List ℕ) → Gives k j (answer_numbers (Says.Refused r)) p → Late k j r
 unfolding Gives Built Weighed ways_answer Late answer_numbers refusals
 late (packing s) j r p g = not_said r (Says.Knapsack (total j.values p) (total j.weights p)) refl g.numbers
-late subset-sums j r p g = not_said r (Says.Sums g.yes g.totals) refl g.numbers
-late fewest-blocks j r p (a_sum makes laid e) = absurd (not_said r (Says.Blocks (sum p)) refl e)
-late fewest-blocks j r p (no_such_sum none e written) = (ap (λ (s : AnswerNumbers). s.refusal) e, none)
-late block-ways j r p g = late_ways j g.ways r g.how_many (ltb g.ways too_many) refl g.numbers
+late subset_sums j r p g = not_said r (Says.Sums g.yes g.totals) refl g.numbers
+late fewest_blocks j r p (a_sum makes laid e) = absurd (not_said r (Says.Blocks (sum p)) refl e)
+late fewest_blocks j r p (no_such_sum none e written) = (ap (λ (s : AnswerNumbers). s.refusal) e, none)
+late block_ways j r p g = late_ways j g.ways r g.how_many (ltb g.ways too_many) refl g.numbers
 late sharing j r p g = not_said r (Says.Shares (spare_of j)) refl g.numbers
-late labels-behind j r p (a_sum weighs behind e) = absurd (not_said r (Says.Weight (total j.weights p)) refl e)
-late labels-behind j r p (no_such_sum none e written) = (ap (λ (s : AnswerNumbers). s.refusal) e, none)
-late stated-share j r p g = not_said r (Says.Knapsack (total j.values p) (total j.weights p)) refl g.numbers
+late labels_behind j r p (a_sum weighs behind e) = absurd (not_said r (Says.Weight (total j.weights p)) refl e)
+late labels_behind j r p (no_such_sum none e written) = (ap (λ (s : AnswerNumbers). s.refusal) e, none)
+late stated_share j r p g = not_said r (Says.Knapsack (total j.values p) (total j.weights p)) refl g.numbers
 
 -- a refusal is told by its number
 pub numbered : (a : Answer) → ¬ ((answer_numbers a).refusal ≡ 0) → (r : ℕ) × (a ≡ Says.Refused r)

@@ -11,13 +11,13 @@ use native.Mathlib.Omega.{arith}
 use mathlib.Core.List.{List}
 use lib.ListN.{length}
 use Rattle.meaning.specs.Lists.{at}
-use Rattle.meaning.specs.Orders.{Order, first-most, last-most, Earlier, NoWorse, AgreeEarlier, Chosen}
+use Rattle.meaning.specs.Orders.{Order, first_most, last_most, Earlier, NoWorse, AgreeEarlier, Chosen}
 use Rattle.meaning.proofs.Totals.{at_fewer, at_fewer_other, at_more, at_more_other, one_fewer, one_more}
 
 -- the two orders by which counts are as great as they can be
 pub data Most : Order → Type 0 where
-  first_is : Most first-most
-  last_is : Most last-most
+  first_is : Most first_most
+  last_is : Most last_most
 
 no_worse_in : {o : Order} → Most o → (x y : ℕ) → y ≤ x → NoWorse o x y
 unfolding NoWorse

@@ -13,7 +13,7 @@ use Rattle.meaning.specs.declared.Answer.TheVariants as Says
 use Rattle.meaning.specs.declared.Way.{Way}
 use Rattle.meaning.specs.Lists.{at, if, total}
 use Rattle.meaning.specs.Slices.{Holds}
-use Rattle.meaning.specs.Job.{Job, Kind, Knapsack, block-ways, labels, labels-behind, once, packing, sharing, subset-sums}
+use Rattle.meaning.specs.Job.{Job, Kind, Knapsack, block_ways, labels, labels_behind, once, packing, sharing, subset_sums}
 use Rattle.meaning.specs.Lent.{Lent}
 use Rattle.meaning.specs.Bytes.{job_bytes, read_job, readable}
 use Rattle.meaning.specs.Knapsacks.{BestPicks, Fits, OneRow}
@@ -52,17 +52,17 @@ module _ {way : Way} (j : Job) (before after : Lent) where
       let value : v ≡ total j.values x.content.picks = ap (λ (s : AnswerNumbers). s.value) x.gives.numbers in
       rw value (x.gives.picked.one_of.greatest q fits)
 
-  pub totals_counted : (can : Bool) (n : ℕ) → UnrefusedBy way subset-sums j before → SolvedBy way j before (Says.Sums can n) after → TotalCount j n
+  pub totals_counted : (can : Bool) (n : ℕ) → UnrefusedBy way subset_sums j before → SolvedBy way j before (Says.Sums can n) after → TotalCount j n
   unfolding Gives answer_numbers
   totals_counted can n ok h =
-      let g = (unrefused_answered subset-sums j before after (Says.Sums can n) ok h).gives in
+      let g = (unrefused_answered subset_sums j before after (Says.Sums can n) ok h).gives in
       let same : n ≡ g.totals = ap (λ (s : AnswerNumbers). s.totals) g.numbers in
       rw same g.how_many
 
-  pub ways_counted : (n : ℕ) → UnrefusedBy way block-ways j before → SolvedBy way j before (Says.Ways n) after → WaysFor j (labels j) j.budget n
+  pub ways_counted : (n : ℕ) → UnrefusedBy way block_ways j before → SolvedBy way j before (Says.Ways n) after → WaysFor j (labels j) j.budget n
   unfolding Gives ways_answer
   ways_counted n ok h =
-      let g = (unrefused_answered block-ways j before after (Says.Ways n) ok h).gives in
+      let g = (unrefused_answered block_ways j before after (Says.Ways n) ok h).gives in
       let same : n ≡ g.ways = same_ways n g.ways (ltb g.ways too_many) g.numbers in
       rw same g.how_many
 
@@ -71,9 +71,9 @@ module _ {way : Way} (j : Job) (before after : Lent) where
   spare_left n ok h = ap (λ (s : AnswerNumbers). s.spare) (unrefused_answered sharing j before after (Says.Shares n) ok h).gives.numbers
 
   -- kind 8's weight is C
-  pub weight_is_c : (w : ℕ) → UnrefusedBy way labels-behind j before → SolvedBy way j before (Says.Weight w) after → w ≡ j.budget
+  pub weight_is_c : (w : ℕ) → UnrefusedBy way labels_behind j before → SolvedBy way j before (Says.Weight w) after → w ≡ j.budget
   unfolding Gives Weighed answer_numbers refusals
-  weight_is_c w ok h = go (unrefused_answered labels-behind j before after (Says.Weight w) ok h).gives
+  weight_is_c w ok h = go (unrefused_answered labels_behind j before after (Says.Weight w) ok h).gives
     where
       go : {p : List ℕ} → Weighed j (answer_numbers (Says.Weight w)) p → w ≡ j.budget
       go (a_sum weighs behind e) = ap (λ (s : AnswerNumbers). s.exact) e ∙ weighs.weight

@@ -16,7 +16,7 @@ use Rattle.meaning.specs.Lists.{at, if, total}
 use Rattle.meaning.specs.Cells.{LeastShown, none_shown, shown}
 use Rattle.meaning.specs.Job.{Job, Knapsack, labels}
 use Rattle.meaning.specs.Lent.{cell_count, bit_words}
-use Rattle.meaning.specs.Orders.{AgreeEarlier, Chosen, Earlier, NoWorse, Order, first-most, last-least, last-most}
+use Rattle.meaning.specs.Orders.{AgreeEarlier, Chosen, Earlier, NoWorse, Order, first_most, last_least, last_most}
 use Rattle.meaning.specs.Knapsacks.{BestValue, FullTable, OneRow, Best, BestPicks, order_of}
 use Rattle.meaning.specs.Sums.{Weighs, BitTable, Tells, bit, is_not, is_so, TotalCount, YesOrNo}
 use Rattle.meaning.specs.Light.{LightTable, label_bit}
@@ -38,21 +38,21 @@ same_list n s t ls lt h = ext_get_or 0 s t (ls ∙ sym lt) (λ m k. h m (omega a
 
 -- how many labels may be settled before label m
 rank : Order → ℕ → ℕ → ℕ
-rank last-least n m = n - suc m
-rank first-most n m = m
-rank last-most n m = n - suc m
+rank last_least n m = n - suc m
+rank first_most n m = m
+rank last_most n m = n - suc m
 
 rank_before : (o : Order) (n i m : ℕ) → i < n → m < n → Earlier o i m → rank o n i < rank o n m
 unfolding rank Earlier
-rank_before last-least n i m hi hm b = omega arith
-rank_before first-most n i m hi hm b = omega arith
-rank_before last-most n i m hi hm b = omega arith
+rank_before last_least n i m hi hm b = omega arith
+rank_before first_most n i m hi hm b = omega arith
+rank_before last_most n i m hi hm b = omega arith
 
 no_worse_both : (o : Order) (x y : ℕ) → NoWorse o x y → NoWorse o y x → x ≡ y
 unfolding NoWorse
-no_worse_both last-least x y a b = le_antisymm a b
-no_worse_both first-most x y a b = le_antisymm b a
-no_worse_both last-most x y a b = le_antisymm b a
+no_worse_both last_least x y a b = le_antisymm a b
+no_worse_both first_most x y a b = le_antisymm b a
+no_worse_both last_most x y a b = le_antisymm b a
 
 module _ (o : Order) (n : ℕ) (P : List ℕ → Type 0) (p q : List ℕ) (tp : Chosen o n P p) (tq : Chosen o n P q) where
   agree_upto : (f m : ℕ) → m < n → rank o n m < f → at p m ≡ at q m
@@ -71,9 +71,9 @@ module _ (o : Order) (n : ℕ) (P : List ℕ → Type 0) (p q : List ℕ) (tp : 
 
 no_worse_same : (o : Order) (x y : ℕ) → x ≡ y → NoWorse o x y
 unfolding NoWorse
-no_worse_same last-least x y e = le_of_eq e
-no_worse_same first-most x y e = le_of_eq (sym e)
-no_worse_same last-most x y e = le_of_eq (sym e)
+no_worse_same last_least x y e = le_of_eq e
+no_worse_same first_most x y e = le_of_eq (sym e)
+no_worse_same last_most x y e = le_of_eq (sym e)
 
 -- the only list with P is the chosen one
 pub only_choice : (o : Order) (n : ℕ) (P : List ℕ → Type 0) (p : List ℕ) → P p → ((q : List ℕ) → P q → q ≡ p) → Chosen o n P p

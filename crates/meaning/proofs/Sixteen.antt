@@ -7,7 +7,7 @@ use mathlib.Core.Bool.{false, true}
 use mathlib.Core.List.{List, [], ◌∷◌}
 use lib.Dec.{lit≤}
 use Rattle.meaning.specs.declared.Answer.{Answer}
-use Rattle.meaning.specs.Job.{Job, Kind, block-ways, fewest-blocks, free, job_of, kind_of, packing, limited, once, sharing, subset-sums}
+use Rattle.meaning.specs.Job.{Job, Kind, block_ways, fewest_blocks, free, job_of, kind_of, packing, limited, once, sharing, subset_sums}
 use Rattle.meaning.specs.Lent.{room_for}
 use Rattle.meaning.specs.Refusals.{kind_refusal}
 use Rattle.meaning.specs.Sums.{TotalCount, YesOrNo, is_not, is_so}
@@ -41,7 +41,7 @@ sixteen =
     and goes (packing limited) refl refl (record { picked = picked_out limited _ _ tt; numbers = refl })
     and goes (packing free) refl refl (record { picked = picked_out free _ _ tt; numbers = refl })
     and goes (packing free) refl refl (record { picked = picked_out free _ _ tt; numbers = refl })
-    and goes subset-sums refl refl (record {
+    and goes subset_sums refl refl (record {
       yes = true;
       totals = 4;
       tells = is_so (reached_by F₁ (1 ∷ 1 ∷ 0 ∷ []) 8 tt refl) refl;
@@ -49,7 +49,7 @@ sixteen =
       numbers = refl;
       none_written = refl;
     })
-    and goes subset-sums refl refl (record {
+    and goes subset_sums refl refl (record {
       yes = false;
       totals = 3;
       tells = is_not (λ r. misses_out F₂ 3 7 (lit≤ tt) tt _ r.weighs) refl;
@@ -57,15 +57,15 @@ sixteen =
       numbers = refl;
       none_written = refl;
     })
-    and goes fewest-blocks refl refl (a_sum (laid_makes _ _ tt) (laid_out _ _ tt) refl)
-    and goes fewest-blocks refl refl (a_sum (laid_makes _ _ tt) (laid_out _ _ tt) refl)
-    and goes block-ways refl refl (record {
+    and goes fewest_blocks refl refl (a_sum (laid_makes _ _ tt) (laid_out _ _ tt) refl)
+    and goes fewest_blocks refl refl (a_sum (laid_makes _ _ tt) (laid_out _ _ tt) refl)
+    and goes block_ways refl refl (record {
       ways = 4;
       how_many = counted_out _ ((5 ∷ 0 ∷ 0 ∷ []) ∷ (3 ∷ 1 ∷ 0 ∷ []) ∷ (1 ∷ 2 ∷ 0 ∷ []) ∷ (0 ∷ 0 ∷ 1 ∷ []) ∷ []) tt;
       numbers = refl;
       none_written = refl;
     })
-    and goes block-ways refl refl (record { ways = 0; how_many = counted_out _ [] tt; numbers = refl; none_written = refl })
+    and goes block_ways refl refl (record { ways = 0; how_many = counted_out _ [] tt; numbers = refl; none_written = refl })
     and goes sharing refl refl (record { given = refl; numbers = refl })
     and goes sharing refl refl (record { given = refl; numbers = refl })
     and refl

@@ -14,7 +14,7 @@ use mir.Facts.{and_yes, eqb_no, eqb_yes, leb_yes, yes_eqb, yes_leb}
 use Rattle.meaning.specs.Lists.{at, sum, total, every}
 use Rattle.meaning.specs.Counting.{Counted, Distinct}
 use Rattle.meaning.specs.Job.{Job, labels, Knapsack, once, limited, free}
-use Rattle.meaning.specs.Orders.{Order, last-least, first-most, last-most, Earlier, NoWorse, AgreeEarlier}
+use Rattle.meaning.specs.Orders.{Order, last_least, first_most, last_most, Earlier, NoWorse, AgreeEarlier}
 use Rattle.meaning.specs.Knapsacks.{MayPick, Selection, Fits, order_of, BestPicks}
 use Rattle.meaning.specs.Sums.{Weighs, Reached, ReachedWithin}
 use Rattle.meaning.specs.Behind.{Behind, total_order}
@@ -28,27 +28,27 @@ use Rattle.meaning.proofs.Reaching.{reached_as}
 
 -- `Earlier` as a test
 unfoldable pub is_earlier : Order → ℕ → ℕ → Bool
-is_earlier last-least i m = ltb m i
-is_earlier first-most i m = ltb i m
-is_earlier last-most i m = ltb m i
+is_earlier last_least i m = ltb m i
+is_earlier first_most i m = ltb i m
+is_earlier last_most i m = ltb m i
 
 -- `NoWorse` as a test
 unfoldable pub is_no_worse : Order → ℕ → ℕ → Bool
-is_no_worse last-least x y = leb x y
-is_no_worse first-most x y = leb y x
-is_no_worse last-most x y = leb y x
+is_no_worse last_least x y = leb x y
+is_no_worse first_most x y = leb y x
+is_no_worse last_most x y = leb y x
 
 earlier_out : (o : Order) (i m : ℕ) → T (is_earlier o i m) → Earlier o i m
 unfolding is_earlier Earlier
-earlier_out last-least i m t = ltb→lt m i t
-earlier_out first-most i m t = ltb→lt i m t
-earlier_out last-most i m t = ltb→lt m i t
+earlier_out last_least i m t = ltb→lt m i t
+earlier_out first_most i m t = ltb→lt i m t
+earlier_out last_most i m t = ltb→lt m i t
 
 no_worse_out : (o : Order) (x y : ℕ) → T (is_no_worse o x y) → NoWorse o x y
 unfolding is_no_worse NoWorse
-no_worse_out last-least x y t = leb→le x y t
-no_worse_out first-most x y t = leb→le y x t
-no_worse_out last-most x y t = leb→le y x t
+no_worse_out last_least x y t = leb→le x y t
+no_worse_out first_most x y t = leb→le y x t
+no_worse_out last_most x y t = leb→le y x t
 
 -- `AgreeEarlier` as a test
 unfoldable pub agrees : Order → ℕ → ℕ → List ℕ → List ℕ → Bool

@@ -11,7 +11,7 @@ use Rattle.meaning.specs.declared.Answer.{Answer}
 use Rattle.meaning.specs.declared.Answer.TheVariants as Says
 use Rattle.meaning.specs.declared.Way.{Way}
 use Rattle.meaning.specs.Lists.{at, sum, total, if}
-use Rattle.meaning.specs.Job.{Job, all_kinds, has_q, job_of, kind_of, labels, once, packing, stated-share}
+use Rattle.meaning.specs.Job.{Job, all_kinds, has_q, job_of, kind_of, labels, once, packing, stated_share}
 use Rattle.meaning.specs.Cuts.{cut_sum, cut_values, divisor, remain, remain_of, stated_cells, that_fit}
 use Rattle.meaning.specs.Lent.{Lent, room_by, room_of}
 use Rattle.meaning.specs.Knapsacks.{Best, BestPicks, Fits, MayPick}
@@ -47,10 +47,10 @@ module _ (way : Way) (C q : ℕ) (weights values copies : List ℕ) (before afte
   as_nine = job_of 9 (C ∷ q ∷ []) weights values copies
 
   module _ (solved : SolvedBy way as_nine before (Says.Knapsack v w) after) where
-    answered : Answered (room_by way stated-share as_nine) (TableBy way stated-share as_nine) stated-share as_nine before
+    answered : Answered (room_by way stated_share as_nine) (TableBy way stated_share as_nine) stated_share as_nine before
         (answer_numbers (Says.Knapsack v w)) after
     unfolding job_of kind_of all_kinds answer_numbers refusals
-    answered = some_answer stated-share as_nine before after (Says.Knapsack v w) refl refl solved
+    answered = some_answer stated_share as_nine before after (Says.Knapsack v w) refl refl solved
 
     abbrev p : List ℕ
     p = answered.content.picks

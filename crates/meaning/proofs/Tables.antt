@@ -12,8 +12,8 @@ use Rattle.meaning.specs.declared.Answer.{Answer}
 use Rattle.meaning.specs.declared.Answer.TheVariants as Says
 use Rattle.meaning.specs.declared.Way.{Way}
 use Rattle.meaning.specs.Slices.{Holds}
-use Rattle.meaning.specs.Job.{Job, Kind, all_kinds, block-ways, fewest-blocks, free, job_of, kind_of, labels, labels-behind}
-use Rattle.meaning.specs.Job.{limited, once, packing, sharing, subset-sums}
+use Rattle.meaning.specs.Job.{Job, Kind, all_kinds, block_ways, fewest_blocks, free, job_of, kind_of, labels, labels_behind}
+use Rattle.meaning.specs.Job.{limited, once, packing, sharing, subset_sums}
 use Rattle.meaning.specs.Lent.{Lent, lent_of, room_by}
 use Rattle.meaning.specs.Refusals.{kind_refusal}
 use Rattle.meaning.specs.Bytes.{job_bytes}
@@ -185,7 +185,7 @@ call₄ : Solved job₄
     (lent_of (8 ∷ []) (9_223_372_036_854_775_809 ∷ 1 ∷ 7 ∷ []) (6 ∷ []))
 unfolding call is_selection totalled YesOrNo TotalCount
 call₄ =
-    leaves subset-sums job₄ (lent_of [] (9_223_372_036_854_775_809 ∷ 1 ∷ []) [])
+    leaves subset_sums job₄ (lent_of [] (9_223_372_036_854_775_809 ∷ 1 ∷ []) [])
     (record {
       yes = true;
       totals = 3;
@@ -215,7 +215,7 @@ call₅ : Solved job₅
     (lent_of (0 ∷ 1 ∷ 2 ∷ 1 ∷ 1 ∷ 2 ∷ 2 ∷ 7 ∷ []) (8 ∷ []) (0 ∷ 2 ∷ 0 ∷ 6 ∷ []))
 unfolding call Built is_laid
 call₅ =
-    leaves fewest-blocks job₅ (lent_of (0 ∷ 1 ∷ 2 ∷ 1 ∷ 1 ∷ 2 ∷ 2 ∷ []) [] (0 ∷ 2 ∷ 0 ∷ []))
+    leaves fewest_blocks job₅ (lent_of (0 ∷ 1 ∷ 2 ∷ 1 ∷ 1 ∷ 2 ∷ 2 ∷ []) [] (0 ∷ 2 ∷ 0 ∷ []))
     (a_sum (laid_makes job₅ (0 ∷ 2 ∷ 0 ∷ []) tt) (laid_out job₅ (0 ∷ 2 ∷ 0 ∷ []) tt) refl) row₅ refl refl refl refl refl refl refl
 
 abbrev unmade₅ : Job
@@ -226,7 +226,7 @@ unmade_row : FewestRow unmade₅ (0 ∷ 4_294_967_295 ∷ 4_294_967_295 ∷ 4_29
 unfolding opens is_fewest_row
 unmade_row = fewest_row_out unmade₅ _ tt
 
-unmade_answer : Gives fewest-blocks unmade₅ (answer_numbers (Says.Refused 7)) []
+unmade_answer : Gives fewest_blocks unmade₅ (answer_numbers (Says.Refused 7)) []
 unfolding call Built unmade
 unmade_answer = no_such_sum (unmade_out unmade₅ 7 tt) refl refl
 
@@ -237,7 +237,7 @@ unmade_call : Solved unmade₅
     (lent_of (0 ∷ 4_294_967_295 ∷ 4_294_967_295 ∷ 4_294_967_295 ∷ 4_294_967_295 ∷ 1 ∷ 4_294_967_295 ∷ 4_294_967_295 ∷ 7 ∷ []) (8 ∷ []) (6 ∷ 6 ∷ []))
 unfolding call
 unmade_call =
-    leaves fewest-blocks unmade₅
+    leaves fewest_blocks unmade₅
     (lent_of (0 ∷ 4_294_967_295 ∷ 4_294_967_295 ∷ 4_294_967_295 ∷ 4_294_967_295 ∷ 1 ∷ 4_294_967_295 ∷ 4_294_967_295 ∷ []) [] [])
     unmade_answer unmade_row refl refl refl refl refl refl refl
 
@@ -267,7 +267,7 @@ call₆ : Solved job₆
     (lent_of (8 ∷ []) (1 ∷ 1 ∷ 2 ∷ 2 ∷ 3 ∷ 4 ∷ 7 ∷ []) (6 ∷ []))
 unfolding call is_counted
 call₆ =
-    leaves block-ways job₆ (lent_of [] (1 ∷ 1 ∷ 2 ∷ 2 ∷ 3 ∷ 4 ∷ []) [])
+    leaves block_ways job₆ (lent_of [] (1 ∷ 1 ∷ 2 ∷ 2 ∷ 3 ∷ 4 ∷ []) [])
     (record { ways = 4; how_many = counted_out job₆ (get_or ways₆ 5 []) tt; numbers = refl; none_written = refl })
     row₆ refl refl refl refl refl refl refl
 
@@ -287,12 +287,12 @@ module _ (j : Job) (i a : ℕ) where
 module _ (j : Job) where
   -- one less than 2^64 - 1 is answered
   one_less_answered : WaysFor j (labels j) j.budget 18_446_744_073_709_551_614
-      → Gives block-ways j (answer_numbers (Says.Ways 18_446_744_073_709_551_614)) []
+      → Gives block_ways j (answer_numbers (Says.Ways 18_446_744_073_709_551_614)) []
   unfolding call
   one_less_answered h = record { ways = 18_446_744_073_709_551_614; how_many = h; numbers = refl; none_written = refl }
 
   -- 2^64 - 1 is refused
-  full_refused : WaysFor j (labels j) j.budget 18_446_744_073_709_551_615 → Gives block-ways j (answer_numbers (Says.Refused 8)) []
+  full_refused : WaysFor j (labels j) j.budget 18_446_744_073_709_551_615 → Gives block_ways j (answer_numbers (Says.Refused 8)) []
   unfolding call
   full_refused h = record { ways = 18_446_744_073_709_551_615; how_many = h; numbers = refl; none_written = refl }
 
@@ -327,7 +327,7 @@ call₈ : Solved (three_behind 8)
     (lent_of (cells₈ ++ (7 ∷ [])) (8 ∷ []) (1 ∷ 1 ∷ 0 ∷ 6 ∷ []))
 unfolding call Weighed is_behind
 call₈ =
-    leaves labels-behind (three_behind 8) (lent_of cells₈ [] (1 ∷ 1 ∷ 0 ∷ []))
+    leaves labels_behind (three_behind 8) (lent_of cells₈ [] (1 ∷ 1 ∷ 0 ∷ []))
     (a_sum (behind_weighs (three_behind 8) (1 ∷ 1 ∷ 0 ∷ []) tt) (behind_out (three_behind 8) (1 ∷ 1 ∷ 0 ∷ []) tt) refl) row₈ refl refl refl refl refl refl refl
 
 -- the same without the last cell: the table is complete, and the picks are as they were
@@ -344,14 +344,14 @@ unreached_call : Solved (three_behind 7)
     (lent_of (unreached_cells ++ (7 ∷ [])) (8 ∷ []) (6 ∷ 6 ∷ 6 ∷ []))
 unfolding call Weighed misses
 unreached_call =
-    leaves labels-behind (three_behind 7) (lent_of unreached_cells [] [])
+    leaves labels_behind (three_behind 7) (lent_of unreached_cells [] [])
     (no_such_sum (misses_out (three_behind 7) 3 7 (lit≤ tt) tt) refl refl) unreached_row refl refl refl refl refl refl refl
 
 -- kind 4's call on the first of them, and what the two agree on
 bits_call : Solved (three_labels 8) (lent_of [] (9 ∷ 7 ∷ []) []) (Says.Sums true 4) (lent_of [] (297 ∷ 7 ∷ []) [])
 unfolding call is_selection totalled YesOrNo TotalCount
 bits_call =
-    leaves subset-sums (three_labels 8) (lent_of [] (297 ∷ []) [])
+    leaves subset_sums (three_labels 8) (lent_of [] (297 ∷ []) [])
     (record {
       yes = true;
       totals = 4;

@@ -10,7 +10,7 @@ use lib.ListN.{length, take, get_or-append}
 use lib.Seq.{get_or_at, get_or-take}
 use Rattle.meaning.specs.Lists.{at, total}
 use Rattle.meaning.specs.Job.{Job, Knapsack}
-use Rattle.meaning.specs.Orders.{Order, last-least, Earlier, NoWorse, AgreeEarlier, Chosen}
+use Rattle.meaning.specs.Orders.{Order, last_least, Earlier, NoWorse, AgreeEarlier, Chosen}
 use Rattle.meaning.specs.Knapsacks.{MayPick, Fits, Best, BestValue, order_of, BestPicks}
 use Rattle.meaning.proofs.Totals.{total_cut, total_with, empty_of}
 use Rattle.meaning.proofs.Steps.{fits_more, front_fits, none_better, best_none, best_by}
@@ -19,8 +19,8 @@ use Rattle.meaning.proofs.OneOfEach.{only_choice, best_value_unique}
 -- ---- one count more, the least that it can be
 
 -- of the lists with Q, the last count is x or more, and where it is x, those before it have P: then the chosen list of P, with x, is that of Q
-pub chosen_more : (i x : ℕ) (P Q : List ℕ → Type 0) (p : List ℕ) → length p ≡ i → Chosen last-least i P p → Q (p ++ (x ∷ []))
-    → ((q : List ℕ) → Q q → x ≤ at q i) → ((q : List ℕ) → Q q → at q i ≡ x → P (take i q)) → Chosen last-least (suc i) Q (p ++ (x ∷ []))
+pub chosen_more : (i x : ℕ) (P Q : List ℕ → Type 0) (p : List ℕ) → length p ≡ i → Chosen last_least i P p → Q (p ++ (x ∷ []))
+    → ((q : List ℕ) → Q q → x ≤ at q i) → ((q : List ℕ) → Q q → at q i ≡ x → P (take i q)) → Chosen last_least (suc i) Q (p ++ (x ∷ []))
 unfolding AgreeEarlier Earlier NoWorse
 chosen_more i x P Q p long chosen has least others = record { one_of = has; settled = settled }
   where
@@ -30,8 +30,8 @@ chosen_more i x P Q p long chosen has least others = record { one_of = has; sett
     in_p : (n : ℕ) → n < i → at (p ++ (x ∷ [])) n ≡ at p n
     in_p n h = get_or-append p (x ∷ []) 0 n (omega arith)
 
-    settled : (m : ℕ) → m < suc i → (q : List ℕ) → Q q → AgreeEarlier last-least (suc i) m q (p ++ (x ∷ []))
-        → NoWorse last-least (at (p ++ (x ∷ [])) m) (at q m)
+    settled : (m : ℕ) → m < suc i → (q : List ℕ) → Q q → AgreeEarlier last_least (suc i) m q (p ++ (x ∷ []))
+        → NoWorse last_least (at (p ++ (x ∷ [])) m) (at q m)
     settled m h q has-q agree =
         elim (dec_le i m) [
           | yes ge ↦
@@ -46,7 +46,7 @@ chosen_more i x P Q p long chosen has least others = record { one_of = has; sett
               omega (arith, in_p m m', in-q m m')
         ]
 
-module _ (k : Knapsack) (least : order_of k ≡ last-least) (j : Job) (i c : ℕ) where
+module _ (k : Knapsack) (least : order_of k ≡ last_least) (j : Job) (i c : ℕ) where
   abbrev w : ℕ
   w = at j.weights i
 

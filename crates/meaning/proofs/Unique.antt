@@ -20,7 +20,7 @@ use Rattle.meaning.specs.Job.{Job, Kind, Knapsack, kind_of}
 use Rattle.meaning.specs.Lent.{Lent, Room, room_by}
 use Rattle.meaning.specs.Refusals.{kind_refusal}
 use Rattle.meaning.specs.Bytes.{JobRead, read_job, readable, unreadable}
-use Rattle.meaning.specs.Answers.{Which, is-refusal, is-knapsack, is-sums, is-blocks, is-ways, is-shares, is-weight}
+use Rattle.meaning.specs.Answers.{Which, is_refusal, is_knapsack, is_sums, is_blocks, is_ways, is_shares, is_weight}
 use Rattle.meaning.specs.Answers.{AnswerNumbers, answer_numbers, VerdictNumbers, verdict_numbers, WrittenNumbers, written_numbers}
 use Rattle.meaning.specs.Solved.{Answered, Outcome, SolvedAs, SolvedBy, SolvedBytesBy, SolvedLists, SolvedRead, TableBy, TurnedDown}
 use Rattle.meaning.specs.Told.{ToldBy}
@@ -33,13 +33,13 @@ use Rattle.meaning.proofs.EachKind.{OneTable, Sized, gives_unique, table_unique}
 
 -- the answer of a case that says these numbers
 unsay : Which → AnswerNumbers → Answer
-unsay is-refusal s = Says.Refused s.refusal
-unsay is-knapsack s = Says.Knapsack s.value s.weight
-unsay is-sums s = Says.Sums (eqb s.yes 1) s.totals
-unsay is-blocks s = Says.Blocks s.blocks
-unsay is-ways s = Says.Ways s.ways
-unsay is-shares s = Says.Shares s.spare
-unsay is-weight s = Says.Weight s.exact
+unsay is_refusal s = Says.Refused s.refusal
+unsay is_knapsack s = Says.Knapsack s.value s.weight
+unsay is_sums s = Says.Sums (eqb s.yes 1) s.totals
+unsay is_blocks s = Says.Blocks s.blocks
+unsay is_ways s = Says.Ways s.ways
+unsay is_shares s = Says.Shares s.spare
+unsay is_weight s = Says.Weight s.exact
 
 unsaid : (a : Answer) → unsay (answer_numbers a).case (answer_numbers a) ≡ a
 unfolding unsay answer_numbers if

@@ -13,7 +13,7 @@ use Rattle.meaning.specs.declared.Way.{Way}
 use Rattle.meaning.specs.declared.Way.TheVariants.{Full}
 use Rattle.meaning.specs.Lists.{if}
 use Rattle.meaning.specs.Slices.{Holds}
-use Rattle.meaning.specs.Job.{Job, Kind, job_of, kind_of, subset-sums}
+use Rattle.meaning.specs.Job.{Job, Kind, job_of, kind_of, subset_sums}
 use Rattle.meaning.specs.Lent.{Lent, Room, room_by}
 use Rattle.meaning.specs.Refusals.{bounds_fit, job_refusal, kind_refusal, lists_fit, numbers_fit, room_fits, rules_of}
 use Rattle.meaning.specs.Bytes.{JobRead, read_job, readable, unreadable}
@@ -120,7 +120,7 @@ ways_agree {way} {other} j before after before' after' a a' x y not-6 not-6' = g
     go : (k : Option Kind) → SolvedAs (room_by way) (TableBy way) k j before (answer_numbers a) after
         → SolvedAs (room_by other) (TableBy other) k j before' (answer_numbers a') after'
         → SameAnswer a a' before.picks after.picks before'.picks after'.picks
-    go none u v = both_down subset-sums j before after before' after' a a' u v
+    go none u v = both_down subset_sums j before after before' after' a a' u v
     go (some k) u v =
         let room = room_by way k j in
         let room' = room_by other k j in
@@ -139,5 +139,5 @@ ways_agree_bytes {way} {other} bytes before after before' after' a a' x y not-6 
   where
     go : (r : JobRead) → SolvedRead (room_by way) (TableBy way) r before a after → SolvedRead (room_by other) (TableBy other) r before' a' after'
         → SameAnswer a a' before.picks after.picks before'.picks after'.picks
-    go (unreadable place) u v = both_down subset-sums (job_of 0 [] [] [] []) before after before' after' a a' u v
+    go (unreadable place) u v = both_down subset_sums (job_of 0 [] [] [] []) before after before' after' a a' u v
     go (readable j) u v = ways_agree {way = way} {other = other} j before after before' after' a a' (record { kept = u }) (record { kept = v }) not-6 not-6'

@@ -20,7 +20,7 @@ use Rattle.meaning.specs.declared.Verdict.TheVariants.{Accepted, Refused}
 use Rattle.meaning.specs.Lists.{at}
 use Rattle.meaning.specs.Slices.{Holds}
 use Rattle.meaning.specs.Cells.{LeastShown}
-use Rattle.meaning.specs.Job.{Job, Knapsack, stated-share}
+use Rattle.meaning.specs.Job.{Job, Knapsack, stated_share}
 use Rattle.meaning.specs.Lent.{Lent}
 use Rattle.meaning.specs.Bytes.{read_job, readable, unreadable}
 use Rattle.meaning.specs.Sums.{Weighs}
@@ -185,9 +185,9 @@ traced_last b =
 
 -- ---- kind 9: the best value, the value in cut values or the heavier of two labels with one cut value; a cell that isn't the least weight
 
-module _ {way : Way} (before after : Lent) (ok : UnrefusedBy way stated-share share_job before) where
+module _ {way : Way} (before after : Lent) (ok : UnrefusedBy way stated_share share_job before) where
   says_8 : (a : Answer) → SolvedBy way share_job before a after → (a ≡ Says.Knapsack 8 2) × Holds (0 ∷ 1 ∷ []) before.picks after.picks
-  says_8 a h = trial_says share_job (Says.Knapsack 8 2) (0 ∷ 1 ∷ []) (tried_goes stated-share) stated-share before after a ok h
+  says_8 a h = trial_says share_job (Says.Knapsack 8 2) (0 ∷ 1 ∷ []) (tried_goes stated_share) stated_share before after a ok h
 
   no_other_value : (v w : ℕ) → SolvedBy way share_job before (Says.Knapsack v w) after → (v ≡ 8) × (w ≡ 2)
   unfolding answer_numbers

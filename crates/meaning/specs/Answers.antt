@@ -17,7 +17,7 @@ use Rattle.meaning.specs.Lists.{if}
 
 -- which case it is
 pub data Which : Type 0 where
-  is-refusal is-knapsack is-sums is-blocks is-ways is-shares is-weight : Which
+  is_refusal is_knapsack is_sums is_blocks is_ways is_shares is_weight : Which
 
 -- what it says. `exact` is kind 8's weight, which has no value beside it and comes first from C
 pub record AnswerNumbers : Type 0 where
@@ -34,13 +34,13 @@ pub record AnswerNumbers : Type 0 where
 
 -- what each case says
 unfoldable pub answer_numbers : Answer → AnswerNumbers
-answer_numbers (Says.Refused r) = record { case = is-refusal; refusal = r; value = 0; weight = 0; yes = 0; totals = 0; blocks = 0; ways = 0; spare = 0; exact = 0 }
-answer_numbers (Says.Knapsack v w) = record { case = is-knapsack; refusal = 0; value = v; weight = w; yes = 0; totals = 0; blocks = 0; ways = 0; spare = 0; exact = 0 }
-answer_numbers (Says.Sums y n) = record { case = is-sums; refusal = 0; value = 0; weight = 0; yes = if y 1 0; totals = n; blocks = 0; ways = 0; spare = 0; exact = 0 }
-answer_numbers (Says.Blocks b) = record { case = is-blocks; refusal = 0; value = 0; weight = 0; yes = 0; totals = 0; blocks = b; ways = 0; spare = 0; exact = 0 }
-answer_numbers (Says.Ways w) = record { case = is-ways; refusal = 0; value = 0; weight = 0; yes = 0; totals = 0; blocks = 0; ways = w; spare = 0; exact = 0 }
-answer_numbers (Says.Shares s) = record { case = is-shares; refusal = 0; value = 0; weight = 0; yes = 0; totals = 0; blocks = 0; ways = 0; spare = s; exact = 0 }
-answer_numbers (Says.Weight w) = record { case = is-weight; refusal = 0; value = 0; weight = 0; yes = 0; totals = 0; blocks = 0; ways = 0; spare = 0; exact = w }
+answer_numbers (Says.Refused r) = record { case = is_refusal; refusal = r; value = 0; weight = 0; yes = 0; totals = 0; blocks = 0; ways = 0; spare = 0; exact = 0 }
+answer_numbers (Says.Knapsack v w) = record { case = is_knapsack; refusal = 0; value = v; weight = w; yes = 0; totals = 0; blocks = 0; ways = 0; spare = 0; exact = 0 }
+answer_numbers (Says.Sums y n) = record { case = is_sums; refusal = 0; value = 0; weight = 0; yes = if y 1 0; totals = n; blocks = 0; ways = 0; spare = 0; exact = 0 }
+answer_numbers (Says.Blocks b) = record { case = is_blocks; refusal = 0; value = 0; weight = 0; yes = 0; totals = 0; blocks = b; ways = 0; spare = 0; exact = 0 }
+answer_numbers (Says.Ways w) = record { case = is_ways; refusal = 0; value = 0; weight = 0; yes = 0; totals = 0; blocks = 0; ways = w; spare = 0; exact = 0 }
+answer_numbers (Says.Shares s) = record { case = is_shares; refusal = 0; value = 0; weight = 0; yes = 0; totals = 0; blocks = 0; ways = 0; spare = s; exact = 0 }
+answer_numbers (Says.Weight w) = record { case = is_weight; refusal = 0; value = 0; weight = 0; yes = 0; totals = 0; blocks = 0; ways = 0; spare = 0; exact = w }
 
 -- ---- the checker's verdict
 

@@ -4,7 +4,7 @@ use Rattle.std.specs.Prelude.{ℕ, ◌≤◌, List}
 use Rattle.meaning.specs.Lists.{at}
 use Rattle.meaning.specs.Cells.{LeastShown}
 use Rattle.meaning.specs.Job.{Job, labels}
-use Rattle.meaning.specs.Orders.{Order, last-least, Chosen}
+use Rattle.meaning.specs.Orders.{Order, last_least, Chosen}
 use Rattle.meaning.specs.Sums.{Weighs, Reached}
 
 -- of i labels, the first x reach t
@@ -18,7 +18,7 @@ FirstRow j cells = (t : ℕ) → t ≤ j.budget → LeastShown (ReachedBy j (lab
 
 -- smallest read from the last label to the first
 unfoldable pub total_order : Order
-total_order = last-least
+total_order = last_least
 
 -- the picks of the first i labels for total t: of the selections that weigh exactly t, the one that the order chooses
 unfoldable pub Behind : Job → ℕ → ℕ → List ℕ → Type 0

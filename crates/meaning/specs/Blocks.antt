@@ -5,7 +5,7 @@ use Rattle.meaning.specs.Lists.{at, sum, total}
 use Rattle.meaning.specs.Counting.{Counted}
 use Rattle.meaning.specs.Cells.{LeastShown}
 use Rattle.meaning.specs.Job.{Job, labels}
-use Rattle.meaning.specs.Orders.{Order, last-most, Chosen}
+use Rattle.meaning.specs.Orders.{Order, last_most, Chosen}
 
 -- a count for each of the first i block sizes, and the blocks sum to exactly a
 pub record Makes (j : Job) (i a : ℕ) (p : List ℕ) : Type 0 where
@@ -21,7 +21,7 @@ pub record Fewest (j : Job) (i a : ℕ) (p : List ℕ) : Type 0 where
 
 -- among lists with the fewest blocks, the last size's count is as great as it can be, then the one before it, and so on
 unfoldable pub block_order : Order
-block_order = last-most
+block_order = last_most
 
 -- the picks for amount a
 unfoldable pub Laid : Job → ℕ → List ℕ → Type 0

@@ -48,12 +48,12 @@ pub data Knapsack : Type 0 where
 -- 1 to 3 are knapsacks, 4 sums, 5 and 6 blocks (the fewest, the ways), 7 shares, 8 the labels behind a sum, 9 a stated share of the best
 pub data Kind : Type 0 where
   packing : Knapsack → Kind
-  subset-sums fewest-blocks block-ways sharing labels-behind stated-share : Kind
+  subset_sums fewest_blocks block_ways sharing labels_behind stated_share : Kind
 
 -- kinds 1 to 9
 unfoldable pub all_kinds : List Kind
 all_kinds =
-    packing once ∷ packing limited ∷ packing free ∷ subset-sums ∷ fewest-blocks ∷ block-ways ∷ sharing ∷ labels-behind ∷ stated-share ∷ []
+    packing once ∷ packing limited ∷ packing free ∷ subset_sums ∷ fewest_blocks ∷ block_ways ∷ sharing ∷ labels_behind ∷ stated_share ∷ []
 
 -- the kind of a number; 0, and every number above the last kind's, is no kind
 unfoldable pub kind_of : ℕ → Option Kind

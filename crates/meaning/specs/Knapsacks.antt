@@ -3,7 +3,7 @@
 use Rattle.std.specs.Prelude.{◌≡◌, ℕ, ◌+◌, ◌*◌, ◌≤◌, ◌<◌, List, length}
 use Rattle.meaning.specs.Lists.{at, total}
 use Rattle.meaning.specs.Job.{Job, labels, Knapsack, once, limited, free}
-use Rattle.meaning.specs.Orders.{Order, last-least, first-most, Chosen}
+use Rattle.meaning.specs.Orders.{Order, last_least, first_most, Chosen}
 
 -- a label may be picked x times: at most once; at most as often as it has copies; any number of times
 unfoldable pub MayPick : Knapsack → ℕ → ℕ → Type 0
@@ -34,9 +34,9 @@ pub record BestValue (k : Knapsack) (j : Job) (i c v : ℕ) : Type 0 where
 
 -- kinds 1 and 2: smallest read from the last label to the first; kind 3: label 0's count as great as it can be, and so on
 unfoldable pub order_of : Knapsack → Order
-order_of once = last-least
-order_of limited = last-least
-order_of free = first-most
+order_of once = last_least
+order_of limited = last_least
+order_of free = first_most
 
 -- the picks of the first i labels with budget c: of the best selections, the one that the order chooses
 unfoldable pub BestPicks : Knapsack → Job → ℕ → ℕ → List ℕ → Type 0

@@ -3,8 +3,8 @@
 use Rattle.std.specs.Prelude.{ℕ, ◌+◌, ◌*◌, ◌/◌, List}
 use Rattle.meaning.specs.declared.Way.{Way}
 use Rattle.meaning.specs.declared.Way.TheVariants.{Light, Full}
-use Rattle.meaning.specs.Job.{Job, labels, once, limited, free, Kind, packing, subset-sums, fewest-blocks, block-ways, sharing}
-use Rattle.meaning.specs.Job.{labels-behind, stated-share}
+use Rattle.meaning.specs.Job.{Job, labels, once, limited, free, Kind, packing, subset_sums, fewest_blocks, block_ways, sharing}
+use Rattle.meaning.specs.Job.{labels_behind, stated_share}
 use Rattle.meaning.specs.Cuts.{stated_cells}
 
 -- what the slices hold: a table of 32-bit cells, a table of 64-bit words, and picks
@@ -45,12 +45,12 @@ unfoldable pub room_by : Way → Kind → Job → Room
 room_by way (packing once) j = once_room way j
 room_by way (packing limited) j = room_of (cell_count j) 0 (labels j)
 room_by way (packing free) j = room_of (j.budget + 1) 0 (labels j)
-room_by way subset-sums j = room_of 0 (bit_words j) 0
-room_by way fewest-blocks j = room_of (j.budget + 1) 0 (labels j)
-room_by way block-ways j = room_of 0 (j.budget + 1) 0
+room_by way subset_sums j = room_of 0 (bit_words j) 0
+room_by way fewest_blocks j = room_of (j.budget + 1) 0 (labels j)
+room_by way block_ways j = room_of 0 (j.budget + 1) 0
 room_by way sharing j = room_of 0 0 (labels j)
-room_by way labels-behind j = room_of (j.budget + 1) 0 (labels j)
-room_by way stated-share j = room_of (stated_cells j) 0 (labels j)
+room_by way labels_behind j = room_of (j.budget + 1) 0 (labels j)
+room_by way stated_share j = room_of (stated_cells j) 0 (labels j)
 
 -- by the light way, which `solve` goes
 abbrev pub room_for : Kind → Job → Room

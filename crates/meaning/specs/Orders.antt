@@ -8,19 +8,19 @@ use Rattle.meaning.specs.Lists.{at}
 -- first-most: label 0's count as great as it can be, then label 1's, and so on (kind 3);
 -- last-most: the last size's count as great as it can be, then the one before it, and so on (kind 5)
 pub data Order : Type 0 where
-  last-least first-most last-most : Order
+  last_least first_most last_most : Order
 
 -- label i is settled earlier than label m
 unfoldable pub Earlier : Order → ℕ → ℕ → Type 0
-Earlier last-least i m = m < i
-Earlier first-most i m = i < m
-Earlier last-most i m = m < i
+Earlier last_least i m = m < i
+Earlier first_most i m = i < m
+Earlier last_most i m = m < i
 
 -- a label's count x is no worse than y
 unfoldable pub NoWorse : Order → ℕ → ℕ → Type 0
-NoWorse last-least x y = x ≤ y
-NoWorse first-most x y = y ≤ x
-NoWorse last-most x y = y ≤ x
+NoWorse last_least x y = x ≤ y
+NoWorse first_most x y = y ≤ x
+NoWorse last_most x y = y ≤ x
 
 -- q and p agree on the labels that are settled earlier than label m
 unfoldable pub AgreeEarlier : Order → ℕ → ℕ → List ℕ → List ℕ → Type 0

@@ -6,8 +6,8 @@
 use Rattle.std.specs.Prelude.{ℕ, suc, Bool, true, false, ◌&&◌, ◌||◌, not, List, [], ◌∷◌, leb, ltb, eqb, length}
 use Rattle.meaning.specs.Bounds.{most_labels, most_sizes, most_claims, most_budget, most_shared, most_value, most_copies, least_copies, least_q, most_q}
 use Rattle.meaning.specs.Lists.{sum, every, if}
-use Rattle.meaning.specs.Job.{Job, labels, Knapsack, once, limited, free, Kind, packing, subset-sums, fewest-blocks, block-ways, sharing}
-use Rattle.meaning.specs.Job.{labels-behind, stated-share}
+use Rattle.meaning.specs.Job.{Job, labels, Knapsack, once, limited, free, Kind, packing, subset_sums, fewest_blocks, block_ways, sharing}
+use Rattle.meaning.specs.Job.{labels_behind, stated_share}
 use Rattle.meaning.specs.Lent.{Lent, Room}
 
 -- ---- rules on the numbers of a list
@@ -83,12 +83,12 @@ weight_rules label_bound budget_bound weight_rule needs_sum = record {
 -- the rules of each kind
 unfoldable pub rules_of : Kind → Rules
 rules_of (packing k) = knapsack_rules k false
-rules_of subset-sums = weight_rules most_labels most_budget positive false
-rules_of fewest-blocks = weight_rules most_sizes most_budget (ascending_from 1) false
-rules_of block-ways = weight_rules most_sizes most_budget (ascending_from 1) false
+rules_of subset_sums = weight_rules most_labels most_budget positive false
+rules_of fewest_blocks = weight_rules most_sizes most_budget (ascending_from 1) false
+rules_of block_ways = weight_rules most_sizes most_budget (ascending_from 1) false
 rules_of sharing = weight_rules most_claims most_shared anything true
-rules_of labels-behind = weight_rules most_labels most_budget positive false
-rules_of stated-share = knapsack_rules once true
+rules_of labels_behind = weight_rules most_labels most_budget positive false
+rules_of stated_share = knapsack_rules once true
 
 -- ---- the tests, by refusal number
 

@@ -8,8 +8,8 @@ use Rattle.meaning.specs.declared.Way.{Way}
 use Rattle.meaning.specs.declared.Way.TheVariants.{Light, Full}
 use Rattle.meaning.specs.Lists.{sum, total, if}
 use Rattle.meaning.specs.Slices.{Holds}
-use Rattle.meaning.specs.Job.{Job, labels, Knapsack, once, limited, free, Kind, packing, subset-sums, fewest-blocks, block-ways, sharing}
-use Rattle.meaning.specs.Job.{labels-behind, stated-share, kind_of}
+use Rattle.meaning.specs.Job.{Job, labels, Knapsack, once, limited, free, Kind, packing, subset_sums, fewest_blocks, block_ways, sharing}
+use Rattle.meaning.specs.Job.{labels_behind, stated_share, kind_of}
 use Rattle.meaning.specs.Lent.{Lent, Room, room_by}
 use Rattle.meaning.specs.Refusals.{kind_refusal}
 use Rattle.meaning.specs.Bytes.{JobRead, unreadable, readable, read_job}
@@ -71,12 +71,12 @@ Weighed j s p =
 -- what a job of each kind is answered by
 unfoldable pub Gives : Kind → Job → AnswerNumbers → List ℕ → Type 0
 Gives (packing k) j s p = Packed (BestPicks k j (labels j) j.budget) j s p
-Gives subset-sums j s p = Summed j s p
-Gives fewest-blocks j s p = Built j s p
-Gives block-ways j s p = WaysGiven j s p
+Gives subset_sums j s p = Summed j s p
+Gives fewest_blocks j s p = Built j s p
+Gives block_ways j s p = WaysGiven j s p
 Gives sharing j s p = Shared j s p
-Gives labels-behind j s p = Weighed j s p
-Gives stated-share j s p = Packed (StatedPicks j) j s p
+Gives labels_behind j s p = Weighed j s p
+Gives stated_share j s p = Packed (StatedPicks j) j s p
 
 -- kind 1: a row and a bit for each label and budget; or the full table
 unfoldable pub OnceTable : Way → Job → Lent → Type 0
@@ -88,12 +88,12 @@ unfoldable pub TableBy : Way → Kind → Job → Lent → Type 0
 TableBy way (packing once) j content = OnceTable way j content
 TableBy way (packing limited) j content = ValueTable limited j content.cells
 TableBy way (packing free) j content = ValueTable free j content.cells
-TableBy way subset-sums j content = BitTable j content.words
-TableBy way fewest-blocks j content = FewestRow j content.cells
-TableBy way block-ways j content = WaysRow j content.words
+TableBy way subset_sums j content = BitTable j content.words
+TableBy way fewest_blocks j content = FewestRow j content.cells
+TableBy way block_ways j content = WaysRow j content.words
 TableBy way sharing j content = Unit
-TableBy way labels-behind j content = FirstRow j content.cells
-TableBy way stated-share j content = StatedTable j content.cells
+TableBy way labels_behind j content = FirstRow j content.cells
+TableBy way stated_share j content = StatedTable j content.cells
 
 -- by the light way, which `solve` goes
 abbrev pub TableHolds : Kind → Job → Lent → Type 0

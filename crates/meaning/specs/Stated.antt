@@ -4,7 +4,7 @@ use Rattle.std.specs.Prelude.{◌≡◌, ℕ, ◌+◌, ◌*◌, ◌≤◌, List}
 use Rattle.meaning.specs.Lists.{at, total}
 use Rattle.meaning.specs.Cells.{LeastShown}
 use Rattle.meaning.specs.Job.{Job, labels, once}
-use Rattle.meaning.specs.Orders.{Order, last-least, Chosen}
+use Rattle.meaning.specs.Orders.{Order, last_least, Chosen}
 use Rattle.meaning.specs.Knapsacks.{Fits}
 use Rattle.meaning.specs.Cuts.{remain_of, cut_values, cut_sum}
 
@@ -18,7 +18,7 @@ pub record CutBest (j : Job) (cuts : List ℕ) (p : List ℕ) : Type 0 where
 
 -- smallest read from the last label to the first
 unfoldable pub stated_order : Order
-stated_order = last-least
+stated_order = last_least
 
 -- the picks: among those, the one that the order chooses
 unfoldable pub StatedPicks : Job → List ℕ → Type 0

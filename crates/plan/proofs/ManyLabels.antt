@@ -13,7 +13,7 @@ use borrow.Author.Tests.{lt-leb}
 use Rattle.meaning.specs.declared.Answer.{Answer}
 use Rattle.meaning.specs.declared.Answer.TheVariants as Says
 use Rattle.meaning.specs.Lists.{if}
-use Rattle.meaning.specs.Job.{Job, Kind, Knapsack, once, limited, free, packing, subset-sums, labels-behind, stated-share, kind_of, labels}
+use Rattle.meaning.specs.Job.{Job, Kind, Knapsack, once, limited, free, packing, subset_sums, labels_behind, stated_share, kind_of, labels}
 use Rattle.meaning.specs.Lent.{Lent, Room, lent_of, once_room, room_by, room_for, room_of}
 use Rattle.meaning.specs.Refusals.{job_refusal, kind_refusal, room_fits, rules_of}
 use Rattle.meaning.specs.Bytes.{read_job, readable}
@@ -72,8 +72,8 @@ refused_prints kind r a picks says = ap (λ (b : Answer). lines_of kind b picks)
 -- kinds 1, 2, 3, 8 and 9
 pub data PicksLabels : Kind → Type 0 where
   a_knapsack : (s : Knapsack) → PicksLabels (packing s)
-  behind_a_total : PicksLabels labels-behind
-  for_a_share : PicksLabels stated-share
+  behind_a_total : PicksLabels labels_behind
+  for_a_share : PicksLabels stated_share
 
 -- have a pick for each label
 a_pick_each : {k : Kind} (j : Job) → PicksLabels k → (room_for k j).picks ≡ labels j
@@ -102,10 +102,10 @@ refused_here (k, j) = kind_refusal (room_for k j) k j our_slices
 at_our_picks : map refused_here (
     (packing once, plain 1 63 (replicate our_picks 1) (replicate our_picks 1) [])
     ∷ (packing once, plain 1 63 (replicate (suc our_picks) 1) (replicate (suc our_picks) 1) [])
-    ∷ (labels-behind, plain 8 63 (replicate our_picks 1) [] [])
-    ∷ (labels-behind, plain 8 63 (replicate (suc our_picks) 1) [] [])
-    ∷ (labels-behind, plain 8 63 (replicate (suc our_picks) 0) [] [])  -- a lower number applies
-    ∷ (subset-sums, plain 4 63 (replicate (suc our_picks) 1) [] [])  -- which has no picks
+    ∷ (labels_behind, plain 8 63 (replicate our_picks 1) [] [])
+    ∷ (labels_behind, plain 8 63 (replicate (suc our_picks) 1) [] [])
+    ∷ (labels_behind, plain 8 63 (replicate (suc our_picks) 0) [] [])  -- a lower number applies
+    ∷ (subset_sums, plain 4 63 (replicate (suc our_picks) 1) [] [])  -- which has no picks
     ∷ []
     )
     ≡ 0 ∷ 6 ∷ 0 ∷ 6 ∷ 5 ∷ 0 ∷ []

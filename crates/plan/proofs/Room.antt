@@ -12,8 +12,8 @@ use Rattle.meaning.specs.declared.Answer.{Answer}
 use Rattle.meaning.specs.declared.Answer.TheVariants as Says
 use Rattle.meaning.specs.declared.Way.TheVariants.{Light}
 use Rattle.meaning.specs.Lists.{if}
-use Rattle.meaning.specs.Job.{Job, labels, Kind, once, limited, free, packing, subset-sums, fewest-blocks, block-ways}
-use Rattle.meaning.specs.Job.{sharing, labels-behind, stated-share, kind_of}
+use Rattle.meaning.specs.Job.{Job, labels, Kind, once, limited, free, packing, subset_sums, fewest_blocks, block_ways}
+use Rattle.meaning.specs.Job.{sharing, labels_behind, stated_share, kind_of}
 use Rattle.meaning.specs.Lent.{Lent, once_room, room_by, room_for, room_of}
 use Rattle.meaning.specs.Refusals.{kind_refusal}
 use Rattle.meaning.specs.Bytes.{JobRead, read_job, readable, unreadable}
@@ -59,13 +59,13 @@ module _ (j : Job) (before after : Lent) (a : Answer) where
   by_answer (packing once) p ok g = one_each (packing once) refl ok
   by_answer (packing limited) p ok g = one_each (packing limited) refl ok
   by_answer (packing free) p ok g = one_each (packing free) refl ok
-  by_answer subset-sums p ok g = as_without a (Says.Sums g.yes g.totals) (labels j) (length before.picks) g.numbers refl
-  by_answer fewest-blocks p ok g = one_each fewest-blocks refl ok
-  by_answer block-ways p ok g =
+  by_answer subset_sums p ok g = as_without a (Says.Sums g.yes g.totals) (labels j) (length before.picks) g.numbers refl
+  by_answer fewest_blocks p ok g = one_each fewest_blocks refl ok
+  by_answer block_ways p ok g =
       as_without a (ways_answer g.ways) (labels j) (length before.picks) g.numbers (ways_without (ltb g.ways too_many) g.ways (labels j))
   by_answer sharing p ok g = one_each sharing refl ok
-  by_answer labels-behind p ok g = one_each labels-behind refl ok
-  by_answer stated-share p ok g = one_each stated-share refl ok
+  by_answer labels_behind p ok g = one_each labels_behind refl ok
+  by_answer stated_share p ok g = one_each stated_share refl ok
 
   by_refusal : (k : Kind) (r : ℕ) → kind_of j.kind_number ≡ some k → kind_refusal (room_for k j) k j before ≡ r
       → Outcome r (room_for k j) (TableHolds k j) k j before (answer_numbers a) after → picks_written a (labels j) ≤ length before.picks

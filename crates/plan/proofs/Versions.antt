@@ -14,8 +14,8 @@ use Rattle.meaning.specs.declared.Answer.{Answer}
 use Rattle.meaning.specs.declared.Answer.TheVariants as Says
 use Rattle.meaning.specs.declared.Way.TheVariants.{Light}
 use Rattle.meaning.specs.Lists.{at, if}
-use Rattle.meaning.specs.Job.{Job, Kind, block-ways, fewest-blocks, free, job_of, kind_of, labels, limited, once}
-use Rattle.meaning.specs.Job.{packing, sharing, labels-behind, stated-share, subset-sums}
+use Rattle.meaning.specs.Job.{Job, Kind, block_ways, fewest_blocks, free, job_of, kind_of, labels, limited, once}
+use Rattle.meaning.specs.Job.{packing, sharing, labels_behind, stated_share, subset_sums}
 use Rattle.meaning.specs.Lent.{Lent, room_for}
 use Rattle.meaning.specs.Refusals.{kind_refusal}
 use Rattle.meaning.specs.Bytes.{job_bytes, read_job, readable}
@@ -50,12 +50,12 @@ RefusalLine lines = (r : ℕ) × (lines ≡ line_of (ascii "refused") r)
 -- the name of a kind's first number
 unfoldable pub first_name : Kind → List ℕ
 first_name (packing s) = ascii "value"
-first_name subset-sums = ascii "yes"
-first_name fewest-blocks = ascii "blocks"
-first_name block-ways = ascii "ways"
+first_name subset_sums = ascii "yes"
+first_name fewest_blocks = ascii "blocks"
+first_name block_ways = ascii "ways"
 first_name sharing = ascii "spare"
-first_name labels-behind = ascii "weight"
-first_name stated-share = ascii "value"
+first_name labels_behind = ascii "weight"
+first_name stated_share = ascii "value"
 
 -- lines that start with the kind, and 0 for its first number
 abbrev pub Says0 : Kind → List ℕ → Type 0
@@ -109,12 +109,12 @@ unfolding lines_of head_lines line_of line after_blanks after_blank decimal_of d
 first_digit (packing once) picks rest e = let d : ◌≡◌ {A = ℕ} 57 48 = ap (λ (l : List ℕ). at l 13) e in omega arith
 first_digit (packing limited) picks rest e = let d : ◌≡◌ {A = ℕ} 49 48 = ap (λ (l : List ℕ). at l 13) e in omega arith
 first_digit (packing free) picks rest e = let d : ◌≡◌ {A = ℕ} 49 48 = ap (λ (l : List ℕ). at l 13) e in omega arith
-first_digit subset-sums picks rest e = let d : ◌≡◌ {A = ℕ} 49 48 = ap (λ (l : List ℕ). at l 11) e in omega arith
-first_digit fewest-blocks picks rest e = let d : ◌≡◌ {A = ℕ} 50 48 = ap (λ (l : List ℕ). at l 14) e in omega arith
-first_digit block-ways picks rest e = let d : ◌≡◌ {A = ℕ} 52 48 = ap (λ (l : List ℕ). at l 12) e in omega arith
+first_digit subset_sums picks rest e = let d : ◌≡◌ {A = ℕ} 49 48 = ap (λ (l : List ℕ). at l 11) e in omega arith
+first_digit fewest_blocks picks rest e = let d : ◌≡◌ {A = ℕ} 50 48 = ap (λ (l : List ℕ). at l 14) e in omega arith
+first_digit block_ways picks rest e = let d : ◌≡◌ {A = ℕ} 52 48 = ap (λ (l : List ℕ). at l 12) e in omega arith
 first_digit sharing picks rest e = let d : ◌≡◌ {A = ℕ} 49 48 = ap (λ (l : List ℕ). at l 13) e in omega arith
-first_digit labels-behind picks rest e = let d : ◌≡◌ {A = ℕ} 56 48 = ap (λ (l : List ℕ). at l 14) e in omega arith
-first_digit stated-share picks rest e = let d : ◌≡◌ {A = ℕ} 56 48 = ap (λ (l : List ℕ). at l 13) e in omega arith
+first_digit labels_behind picks rest e = let d : ◌≡◌ {A = ℕ} 56 48 = ap (λ (l : List ℕ). at l 14) e in omega arith
+first_digit stated_share picks rest e = let d : ◌≡◌ {A = ℕ} 56 48 = ap (λ (l : List ℕ). at l 13) e in omega arith
 
 not_0_shown : (k : Kind) (g : List ℕ × ℕ) (left : Lent) → Shown (tried k).job g (tried k).answer left
     → ¬ (RefusalLine (written g) ⊎ Says0 k (written g))
@@ -136,12 +136,12 @@ unfolding opens most_input our_slices
 ready (packing once) = ready_by (packing once) (lit≤ tt) refl refl
 ready (packing limited) = ready_by (packing limited) (lit≤ tt) refl refl
 ready (packing free) = ready_by (packing free) (lit≤ tt) refl refl
-ready subset-sums = ready_by subset-sums (lit≤ tt) refl refl
-ready fewest-blocks = ready_by fewest-blocks (lit≤ tt) refl refl
-ready block-ways = ready_by block-ways (lit≤ tt) refl refl
+ready subset_sums = ready_by subset_sums (lit≤ tt) refl refl
+ready fewest_blocks = ready_by fewest_blocks (lit≤ tt) refl refl
+ready block_ways = ready_by block_ways (lit≤ tt) refl refl
 ready sharing = ready_by sharing (lit≤ tt) refl refl
-ready labels-behind = ready_by labels-behind (lit≤ tt) refl refl
-ready stated-share = ready_by stated-share (lit≤ tt) refl refl
+ready labels_behind = ready_by labels_behind (lit≤ tt) refl refl
+ready stated_share = ready_by stated_share (lit≤ tt) refl refl
 
 -- a slice with just the room
 blank : List ℕ

@@ -6,7 +6,7 @@ use Prim.Native.Nat.{ℕ, ◌≤◌}
 use native.Mathlib.Omega.{arith}
 use native.Mathlib.Decide.{dec_lt}
 use mathlib.Core.Bool.{true, false}
-use Rattle.meaning.specs.Job.{Job, Kind, fewest-blocks, block-ways, kind_of, all_kinds}
+use Rattle.meaning.specs.Job.{Job, Kind, fewest_blocks, block_ways, kind_of, all_kinds}
 use Rattle.meaning.specs.Lent.{Lent}
 use Rattle.meaning.specs.Refusals.{Rules, claims_fit, rules_of, weight_rules}
 use Rattle.meaning.specs.Solved.{Unrefused}
@@ -15,8 +15,8 @@ use Rattle.rules.specs.Places.{NeededBy}
 use Rattle.blocks.specs.BlocksDoor as blocks
 
 pub data Laying (kind : ℕ) : Kind → Type 0 where
-  five_is : kind ≡ 5 → Laying kind fewest-blocks
-  six_is : kind ≡ 6 → Laying kind block-ways
+  five_is : kind ≡ 5 → Laying kind fewest_blocks
+  six_is : kind ≡ 6 → Laying kind block_ways
 
 -- the kind of a number
 pub record LaidKind (kind : ℕ) : Type 0 where
@@ -26,8 +26,8 @@ pub record LaidKind (kind : ℕ) : Type 0 where
 pub five_or_six : (kind : ℕ) → 5 ≤ kind → kind ≤ 6 → LaidKind kind
 five_or_six kind h l =
     elim (dec_lt 5 kind) [
-      | yes above ↦ record { which = block-ways; is = six_is (omega arith) }
-      | no other ↦ record { which = fewest-blocks; is = five_is (omega arith) }
+      | yes above ↦ record { which = block_ways; is = six_is (omega arith) }
+      | no other ↦ record { which = fewest_blocks; is = five_is (omega arith) }
     ]
 
 pub laid_kind : {kind : ℕ} {k : Kind} → Laying kind k → kind_of kind ≡ some k
@@ -36,7 +36,7 @@ laid_kind (five_is e) = rw e
 laid_kind (six_is e) = rw e
 
 -- both have the same rules, and use weights alone
-pub laid_rules : {kind : ℕ} {k : Kind} → Laying kind k → (r : Rules) → (r ≡ rules_of fewest-blocks) × (r ≡ rules_of block-ways) → r ≡ rules_of k
+pub laid_rules : {kind : ℕ} {k : Kind} → Laying kind k → (r : Rules) → (r ≡ rules_of fewest_blocks) × (r ≡ rules_of block_ways) → r ≡ rules_of k
 laid_rules (five_is e) r same = same.0
 laid_rules (six_is e) r same = same.1
 
@@ -51,7 +51,7 @@ laid_claims (five_is e) j = refl
 laid_claims (six_is e) j = refl
 
 pub laid_room : {kind : ℕ} {k : Kind} → Laying kind k → (n budget : ℕ) (room : Room)
-    → (kind ≡ 5 → NeededBy fewest-blocks n budget room) × (kind ≡ 6 → NeededBy block-ways n budget room)
+    → (kind ≡ 5 → NeededBy fewest_blocks n budget room) × (kind ≡ 6 → NeededBy block_ways n budget room)
     → NeededBy k n budget room
 laid_room (five_is e) n budget room needed = needed.0 e
 laid_room (six_is e) n budget room needed = needed.1 e

@@ -8,7 +8,7 @@ use lib.Dec.{leb, leb-zero}
 use lib.ListN.{length}
 use borrow.Author.Tests.{le-leb, lt-leb}
 use Rattle.meaning.specs.Lists.{if}
-use Rattle.meaning.specs.Job.{Job, job_of, labels, once, packing, stated-share, kind_of, all_kinds, has_q}
+use Rattle.meaning.specs.Job.{Job, job_of, labels, once, packing, stated_share, kind_of, all_kinds, has_q}
 use Rattle.meaning.specs.Cuts.{stated_cells}
 use Rattle.meaning.specs.Lent.{lent_of, room_by, room_of}
 use Rattle.meaning.specs.Bounds.{least_q, most_q}
@@ -31,7 +31,7 @@ module _ (c q : ℕ) (ws vs cs : List ℕ) where
   bare = job_of 9 (c ∷ q ∷ []) ws vs []
 
   -- what comes of it: kind 1's rules first, then q, then what comes later
-  asked_as : (later : ℕ) → job_refusal (rules_of stated-share) job later ≡ job_refusal (rules_of (packing once)) job (if (fits q) later 5)
+  asked_as : (later : ℕ) → job_refusal (rules_of stated_share) job later ≡ job_refusal (rules_of (packing once)) job (if (fits q) later 5)
   unfolding rules_of job_of has_q if
   asked_as later = q_last once job later
 
@@ -41,32 +41,32 @@ module _ (c q : ℕ) (ws vs cs : List ℕ) where
     asked_first = asked ∙ q_unasked rules false 9 c q ws vs cs ∙ rw its_rules
 
     -- one of kind 1's applies
-    pub as_kind_1 : ¬ (r ≡ 0) → (later : ℕ) → r ≡ job_refusal (rules_of stated-share) job later
+    pub as_kind_1 : ¬ (r ≡ 0) → (later : ℕ) → r ≡ job_refusal (rules_of stated_share) job later
     as_kind_1 Some-number later =
         asked_first
         ∙ sym (asked_as later ∙ earlier_given (rules_of (packing once)) job (if (fits q) later 5) (λ none. Some-number (asked_first ∙ none)))
 
     module _ (none : r ≡ 0) where
-      then_q : (later : ℕ) → job_refusal (rules_of stated-share) job later ≡ if (fits q) later 5
+      then_q : (later : ℕ) → job_refusal (rules_of stated_share) job later ≡ if (fits q) later 5
       then_q later = asked_as later ∙ none_earlier (rules_of (packing once)) job (if (fits q) later 5) (sym asked_first ∙ none)
 
       -- q is outside
-      pub q_outside : fits q ≡ false → (later : ℕ) → 5 ≡ job_refusal (rules_of stated-share) job later
+      pub q_outside : fits q ≡ false → (later : ℕ) → 5 ≡ job_refusal (rules_of stated_share) job later
       unfolding if
       q_outside outside later = sym (then_q later ∙ rw outside)
 
       -- or within, and what comes later is asked
       module _ (within : fits q ≡ true) where
-        pub then_room : (later : ℕ) → later ≡ job_refusal (rules_of stated-share) job later
+        pub then_room : (later : ℕ) → later ≡ job_refusal (rules_of stated_share) job later
         unfolding if
         then_room later = sym (then_q later ∙ rw within)
 
         -- of a job without copies
         pub bare_is : job ≡ bare
         unfolding rules_of knapsack_rules has_copies job_of
-        bare_is = let no-cs : cs ≡ [] = no_copies stated-share job 0 refl (sym (then_room 0)) in rw no-cs
+        bare_is = let no-cs : cs ≡ [] = no_copies stated_share job 0 refl (sym (then_room 0)) in rw no-cs
 
-        pub bare_passes : job_refusal (rules_of stated-share) bare 0 ≡ 0
+        pub bare_passes : job_refusal (rules_of stated_share) bare 0 ≡ 0
         bare_passes = rw (← bare_is) (sym (then_room 0))
 
 -- ---- the room
@@ -90,12 +90,12 @@ room_enough needed n cells picks enough enough-picks = rw (le-leb needed cells e
 
 -- the lowest of 3 to 6, with any words
 pub stated_lowest : (j : Job) (cells words picks : List ℕ) (r : ℕ) → j.kind_number ≡ 9
-    → r ≡ job_refusal (rules_of stated-share) j (if (leb (stated_cells j) (length cells) && leb (labels j) (length picks)) 0 6)
-    → Lowest stated-share j (lent_of cells words picks) r
+    → r ≡ job_refusal (rules_of stated_share) j (if (leb (stated_cells j) (length cells) && leb (labels j) (length picks)) 0 6)
+    → Lowest stated_share j (lent_of cells words picks) r
 unfolding room_fits room_by room_of lent_of kind_of all_kinds
 stated_lowest j cells words picks r nine asked = record {
   of_kind = rw nine;
-  lowest = asked ∙ ap (λ (enough : Bool). job_refusal (rules_of stated-share) j (if (enough && leb (labels j) (length picks)) 0 6))
+  lowest = asked ∙ ap (λ (enough : Bool). job_refusal (rules_of stated_share) j (if (enough && leb (labels j) (length picks)) 0 6))
       (sym (and_true (leb (stated_cells j) (length cells)))
       ∙ ap (λ (b : Bool). leb (stated_cells j) (length cells) && b) (sym (leb-zero (length words))));
 }

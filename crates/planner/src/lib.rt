@@ -5,7 +5,7 @@
 ghost use Rattle.std.specs.Prelude.{[], ◌∷◌, ◌≡◌, Bool, true, false, ◌&&◌, leb, ℕ, ◌≤◌};
 ghost use Rattle.meaning.specs.declared.Way.TheVariants.{Light, Full};
 ghost use Rattle.meaning.specs.Lists.{if};
-ghost use Rattle.meaning.specs.Job.{job_of, labels, stated-share};
+ghost use Rattle.meaning.specs.Job.{job_of, labels, stated_share};
 ghost use Rattle.meaning.specs.Cuts.{stated_cells};
 ghost use Rattle.meaning.specs.Lent.{lent_of};
 ghost use Rattle.meaning.specs.Refusals.{job_refusal, rules_of};
@@ -356,7 +356,7 @@ fn stated_refusal(
 ) -> u32
     ensures { let j = job_from 9 (budget ∷ q ∷ []) weights.now wbytes.now
         values.now vbytes.now copies.now cbytes.now in
-        result ≡ job_refusal (rules_of stated-share) j (if (leb (stated_cells j) cells && leb (labels j) picks) 0 6) }
+        result ≡ job_refusal (rules_of stated_share) j (if (leb (stated_cells j) cells && leb (labels j) picks) 0 6) }
 {
     let rules = rules::knapsack_rules(1);
     let refused = requests::job_refusal(

@@ -11,7 +11,7 @@ use lib.ListN.{length, drop, set, length-append}
 use lib.Seq.{append_snoc}
 use Rattle.meaning.specs.Lists.{at, total}
 use Rattle.meaning.specs.Job.{Job, Knapsack, once, limited, free, labels}
-use Rattle.meaning.specs.Orders.{last-least}
+use Rattle.meaning.specs.Orders.{last_least}
 use Rattle.meaning.specs.Knapsacks.{MayPick, BestValue, BestPicks, order_of}
 use Rattle.meaning.proofs.Totals.{total_with}
 use Rattle.meaning.proofs.OneOfEach.{best_value_unique}
@@ -68,7 +68,7 @@ module _ (k : Knapsack) (j : Job) (width : ℕ) (row : ℕ → ℕ → ℕ) (fir
 
   -- ---- the trace back
 
-  module _ (least : order_of k ≡ last-least) (budget : ℕ) (wide : budget < width) where
+  module _ (least : order_of k ≡ last_least) (budget : ℕ) (wide : budget < width) where
     abbrev Trace : ℕ → ℕ → List ℕ → Type 0
     Trace = TraceBack row j.weights j.values (labels j) budget
 

@@ -2,14 +2,14 @@
 -- Assumes nothing.
 use Rattle.std.specs.Prelude.{◌≡◌, ℕ, suc, ◌+◌, ◌-◌, ◌*◌, ◌<◌, Bool, true, false, List, [], ◌∷◌, length, set}
 use Rattle.meaning.specs.Lists.{at}
-use Rattle.meaning.specs.Orders.{Order, last-least, first-most, last-most}
+use Rattle.meaning.specs.Orders.{Order, last_least, first_most, last_most}
 use Rattle.rows.specs.Rows.{Least}
 
 -- of n labels, the one whose count is settled after k others
 unfoldable pub turn_of : Order → ℕ → ℕ → ℕ
-turn_of last-least n k = n - suc k
-turn_of first-most n k = k
-turn_of last-most n k = n - suc k
+turn_of last_least n k = n - suc k
+turn_of first_most n k = k
+turn_of last_most n k = n - suc k
 
 -- the trace through the labels from the budget. It has settled the counts of k labels, and c of the budget is left; `picks` are the counts
 -- so far, 0 for labels still to come. One more of the label whose turn it is is taken wherever it leads on

@@ -9,7 +9,7 @@ use native.Mathlib.Omega.{arith}
 use native.Mathlib.Nat.{mul-le-mul}
 use Rattle.meaning.specs.declared.Way.{Way}
 use Rattle.meaning.specs.declared.Way.TheVariants.{Full}
-use Rattle.meaning.specs.Job.{Knapsack, Kind, once, limited, free, packing, subset-sums, fewest-blocks, block-ways, sharing, labels-behind}
+use Rattle.meaning.specs.Job.{Knapsack, Kind, once, limited, free, packing, subset_sums, fewest_blocks, block_ways, sharing, labels_behind}
 use Rattle.meaning.specs.Lent.{cell_count, once_room, room_by, room_of}
 use Rattle.meaning.specs.Bounds.{most_labels, most_budget}
 use Rattle.meaning.proofs.Laws.{number_of}
@@ -62,19 +62,19 @@ needed_within way k n budget r h l needed =
 -- ---- kinds 4 to 8
 
 module _ (n budget : ℕ) where
-  pub bits_needed : NeededBy subset-sums n budget (record { cells = 0; words = budget / 64 + 1; picks = 0 })
+  pub bits_needed : NeededBy subset_sums n budget (record { cells = 0; words = budget / 64 + 1; picks = 0 })
   unfolding NeededFor room_from room_by room_of
   bits_needed j e f = rw f
 
-  pub fewest_needed : NeededBy fewest-blocks n budget (record { cells = budget + 1; words = 0; picks = n })
+  pub fewest_needed : NeededBy fewest_blocks n budget (record { cells = budget + 1; words = 0; picks = n })
   unfolding NeededFor room_from room_by room_of
   fewest_needed j e f = rw (e, f)
 
-  pub ways_needed : NeededBy block-ways n budget (record { cells = 0; words = budget + 1; picks = 0 })
+  pub ways_needed : NeededBy block_ways n budget (record { cells = 0; words = budget + 1; picks = 0 })
   unfolding NeededFor room_from room_by room_of
   ways_needed j e f = rw f
 
-  pub behind_needed : NeededBy labels-behind n budget (record { cells = budget + 1; words = 0; picks = n })
+  pub behind_needed : NeededBy labels_behind n budget (record { cells = budget + 1; words = 0; picks = n })
   unfolding NeededFor room_from room_by room_of
   behind_needed j e f = rw (e, f)
 

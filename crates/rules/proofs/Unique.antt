@@ -11,7 +11,7 @@ use lib.ListN.{length-replicate, replicate}
 use Rattle.meaning.specs.Lists.{every, if}
 use Rattle.meaning.specs.declared.Way.{Way}
 use Rattle.meaning.specs.declared.Way.TheVariants.{Light, Full}
-use Rattle.meaning.specs.Job.{Knapsack, Kind, once, packing, subset-sums, fewest-blocks, block-ways, sharing, labels-behind}
+use Rattle.meaning.specs.Job.{Knapsack, Kind, once, packing, subset_sums, fewest_blocks, block_ways, sharing, labels_behind}
 use Rattle.meaning.specs.Job.{kind_of, job_of, labels}
 use Rattle.meaning.specs.Lent as lent
 use Rattle.meaning.specs.Refusals as meaning
@@ -67,14 +67,14 @@ knapsack_rules_unique kind r r' h a b =
     rules_unique false (rules_of (packing s.knapsack)) r r' (a s.knapsack s.of_kind) (b s.knapsack s.of_kind)
 
 -- `sums_rules`
-pub sums_rules_unique : (r r' : Rules) → (rules_from r false ≡ rules_of subset-sums) × (rules_from r false ≡ rules_of labels-behind)
-    → (rules_from r' false ≡ rules_of subset-sums) × (rules_from r' false ≡ rules_of labels-behind) → r ≡ r'
-sums_rules_unique r r' a b = rules_unique false (rules_of subset-sums) r r' a.0 b.0
+pub sums_rules_unique : (r r' : Rules) → (rules_from r false ≡ rules_of subset_sums) × (rules_from r false ≡ rules_of labels_behind)
+    → (rules_from r' false ≡ rules_of subset_sums) × (rules_from r' false ≡ rules_of labels_behind) → r ≡ r'
+sums_rules_unique r r' a b = rules_unique false (rules_of subset_sums) r r' a.0 b.0
 
 -- `blocks_rules`
-pub blocks_rules_unique : (r r' : Rules) → (rules_from r false ≡ rules_of fewest-blocks) × (rules_from r false ≡ rules_of block-ways)
-    → (rules_from r' false ≡ rules_of fewest-blocks) × (rules_from r' false ≡ rules_of block-ways) → r ≡ r'
-blocks_rules_unique r r' a b = rules_unique false (rules_of fewest-blocks) r r' a.0 b.0
+pub blocks_rules_unique : (r r' : Rules) → (rules_from r false ≡ rules_of fewest_blocks) × (rules_from r false ≡ rules_of block_ways)
+    → (rules_from r' false ≡ rules_of fewest_blocks) × (rules_from r' false ≡ rules_of block_ways) → r ≡ r'
+blocks_rules_unique r r' a b = rules_unique false (rules_of fewest_blocks) r r' a.0 b.0
 
 -- `shares_rules`
 pub shares_rules_unique : (r r' : Rules) → rules_from r true ≡ rules_of sharing → rules_from r' true ≡ rules_of sharing → r ≡ r'
@@ -133,23 +133,23 @@ pub light_room_unique : (n budget : ℕ) (r r' : Room) → NeededBy (packing onc
 light_room_unique n budget r r' a b = needed_unique Light (packing once) (min n most_labels) (min budget most_budget) r r' a b
 
 -- `sums_room`
-pub sums_room_unique : (budget : ℕ) (r r' : Room) → ((n : ℕ) → NeededBy subset-sums n budget r) → ((n : ℕ) → NeededBy subset-sums n budget r')
+pub sums_room_unique : (budget : ℕ) (r r' : Room) → ((n : ℕ) → NeededBy subset_sums n budget r) → ((n : ℕ) → NeededBy subset_sums n budget r')
     → r ≡ r'
-sums_room_unique budget r r' a b = needed_unique Light subset-sums 0 budget r r' (a 0) (b 0)
+sums_room_unique budget r r' a b = needed_unique Light subset_sums 0 budget r r' (a 0) (b 0)
 
 -- `row_room`
-pub row_room_unique : (n budget : ℕ) (r r' : Room) → NeededBy fewest-blocks n budget r × NeededBy labels-behind n budget r
-    → NeededBy fewest-blocks n budget r' × NeededBy labels-behind n budget r' → r ≡ r'
-row_room_unique n budget r r' a b = needed_unique Light fewest-blocks n budget r r' a.0 b.0
+pub row_room_unique : (n budget : ℕ) (r r' : Room) → NeededBy fewest_blocks n budget r × NeededBy labels_behind n budget r
+    → NeededBy fewest_blocks n budget r' × NeededBy labels_behind n budget r' → r ≡ r'
+row_room_unique n budget r r' a b = needed_unique Light fewest_blocks n budget r r' a.0 b.0
 
 -- `blocks_room`
 pub blocks_room_unique : (kind n budget : ℕ) (r r' : Room) → (5 ≤ kind) × (kind ≤ 6)
-    → (kind ≡ 5 → NeededBy fewest-blocks n budget r) × (kind ≡ 6 → NeededBy block-ways n budget r)
-    → (kind ≡ 5 → NeededBy fewest-blocks n budget r') × (kind ≡ 6 → NeededBy block-ways n budget r') → r ≡ r'
+    → (kind ≡ 5 → NeededBy fewest_blocks n budget r) × (kind ≡ 6 → NeededBy block_ways n budget r)
+    → (kind ≡ 5 → NeededBy fewest_blocks n budget r') × (kind ≡ 6 → NeededBy block_ways n budget r') → r ≡ r'
 blocks_room_unique kind n budget r r' h a b =
     elim (dec_lt 5 kind) [
-      | yes above ↦ let six : kind ≡ 6 = omega arith in needed_unique Light block-ways n budget r r' (a.1 six) (b.1 six)
-      | no other ↦ let five : kind ≡ 5 = omega arith in needed_unique Light fewest-blocks n budget r r' (a.0 five) (b.0 five)
+      | yes above ↦ let six : kind ≡ 6 = omega arith in needed_unique Light block_ways n budget r r' (a.1 six) (b.1 six)
+      | no other ↦ let five : kind ≡ 5 = omega arith in needed_unique Light fewest_blocks n budget r r' (a.0 five) (b.0 five)
     ]
 
 -- `shares_room`

@@ -5,7 +5,7 @@
 ghost use Rattle.std.specs.Prelude.{◌≡◌, ℕ, ◌≤◌, min, Bool, true, false};
 ghost use Rattle.std.proofs.Math.Option.{some};
 ghost use Rattle.meaning.specs.declared.Way.TheVariants.{Full};
-ghost use Rattle.meaning.specs.Job.{Knapsack, once, packing, subset-sums, fewest-blocks, block-ways, sharing, labels-behind, kind_of, budget_count};
+ghost use Rattle.meaning.specs.Job.{Knapsack, once, packing, subset_sums, fewest_blocks, block_ways, sharing, labels_behind, kind_of, budget_count};
 ghost use Rattle.meaning.specs.Bounds.{most_labels, most_budget, most_value, most_copies, least_copies, least_q, most_q, most_of_one};
 ghost use Rattle.meaning.specs.Refusals.{rules_of, weight_rules};
 ghost use Rattle.rules.specs.Ruling.{rules_from, rule_from};
@@ -96,14 +96,14 @@ fn weight_rules(labels: usize, budget: u32, weights: WeightRule) -> Rules
 
 // The rules of kinds 4 and 8.
 pub fn sums_rules() -> Rules
-    ensures { (rules_from result false ≡ rules_of subset-sums) × (rules_from result false ≡ rules_of labels-behind) }
+    ensures { (rules_from result false ≡ rules_of subset_sums) × (rules_from result false ≡ rules_of labels_behind) }
 {
     weight_rules(MOST_LABELS, MOST_BUDGET, WeightRule::Positive)
 }
 
 // The rules of kinds 5 and 6.
 pub fn blocks_rules() -> Rules
-    ensures { (rules_from result false ≡ rules_of fewest-blocks) × (rules_from result false ≡ rules_of block-ways) }
+    ensures { (rules_from result false ≡ rules_of fewest_blocks) × (rules_from result false ≡ rules_of block_ways) }
 {
     weight_rules(MOST_SIZES, MOST_BUDGET, WeightRule::Ascending)
 }
@@ -213,7 +213,7 @@ pub fn light_room(n: usize, budget: u32) -> Room
 
 // Kind 4: a bit for each total.
 pub fn sums_room(budget: u32) -> Room
-    ensures { (n : ℕ) → NeededBy subset-sums n budget result }
+    ensures { (n : ℕ) → NeededBy subset_sums n budget result }
 {
     Room {
         cells: 0,
@@ -224,7 +224,7 @@ pub fn sums_room(budget: u32) -> Room
 
 // Kinds 5 and 8: a cell for each amount or total.
 pub fn row_room(n: usize, budget: u32) -> Room
-    ensures { NeededBy fewest-blocks n budget result × NeededBy labels-behind n budget result }
+    ensures { NeededBy fewest_blocks n budget result × NeededBy labels_behind n budget result }
 {
     let cells = budget as usize + 1;
     Room {
@@ -237,7 +237,7 @@ pub fn row_room(n: usize, budget: u32) -> Room
 // Kinds 5 and 6: a cell or a word for each amount.
 pub fn blocks_room(kind: u32, n: usize, budget: u32) -> Room
     requires { (5 ≤ kind) × (kind ≤ 6) }
-    ensures { (kind ≡ 5 → NeededBy fewest-blocks n budget result) × (kind ≡ 6 → NeededBy block-ways n budget result) }
+    ensures { (kind ≡ 5 → NeededBy fewest_blocks n budget result) × (kind ≡ 6 → NeededBy block_ways n budget result) }
 {
     if kind == 5 {
         return row_room(n, budget);

@@ -11,7 +11,7 @@ use lib.ListN.{length, take}
 use Rattle.meaning.specs.Lists.{at, total}
 use Rattle.meaning.specs.Job.{Job, labels, once}
 use Rattle.meaning.specs.Cells.{LeastShown, shown, none_shown}
-use Rattle.meaning.specs.Orders.{last-least, Chosen}
+use Rattle.meaning.specs.Orders.{last_least, Chosen}
 use Rattle.meaning.specs.Knapsacks.{Fits, MayPick}
 use Rattle.meaning.specs.Stated.{CutWeight, CutBest}
 use Rattle.meaning.proofs.Totals.{total_cut, total_with, total_none, empty_of}
@@ -29,7 +29,7 @@ pub record Lightest (j : Job) (cuts : List ℕ) (i t : ℕ) (p : List ℕ) : Typ
 
 -- the one that is chosen
 abbrev pub ChosenFor : Job → List ℕ → ℕ → ℕ → List ℕ → Type 0
-ChosenFor j cuts i t p = Chosen last-least i (Lightest j cuts i t) p
+ChosenFor j cuts i t p = Chosen last_least i (Lightest j cuts i t) p
 
 module _ (j : Job) (cuts : List ℕ) where
   abbrev weighs : List ℕ → ℕ
@@ -53,7 +53,7 @@ module _ (j : Job) (cuts : List ℕ) where
   -- of no labels
   pub chosen_none : ChosenFor j cuts 0 0 []
   chosen_none =
-      only_choice last-least 0 (Lightest j cuts 0 0) []
+      only_choice last_least 0 (Lightest j cuts 0 0) []
       (lightest_by 0 0 0 [] (first_cell j cuts)
       (record { selection = record { one_each = refl; allowed = λ m h. absurd (omega arith) }; weight = omega (arith, total_none j.weights) })
       (total_none cuts) (le_of_eq (total_none j.weights)))
@@ -174,7 +174,7 @@ module _ (j : Job) (cuts : List ℕ) where
 
 -- t is the greatest total that is reached: the lightest selections for it are the best over cut values
 pub chosen_best : (j : Job) (cuts : List ℕ) (t : ℕ) → ((r : List ℕ) → Fits once j (labels j) j.budget r → total cuts r ≤ t)
-    → (p : List ℕ) → ChosenFor j cuts (labels j) t p → Chosen last-least (labels j) (CutBest j cuts) p
+    → (p : List ℕ) → ChosenFor j cuts (labels j) t p → Chosen last_least (labels j) (CutBest j cuts) p
 chosen_best j cuts t above p chosen =
     let l = chosen.one_of in
     record {

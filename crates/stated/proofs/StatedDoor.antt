@@ -13,7 +13,7 @@ use Rattle.meaning.specs.declared.Answer.{Answer}
 use Rattle.meaning.specs.declared.Answer.TheVariants as Says
 use Rattle.meaning.specs.Lists.{at, total}
 use Rattle.meaning.specs.Cells.{LeastShown, no_way}
-use Rattle.meaning.specs.Job.{Job, job_of, labels, once, stated-share}
+use Rattle.meaning.specs.Job.{Job, job_of, labels, once, stated_share}
 use Rattle.meaning.specs.Lent.{lent_of, room_by, room_of}
 use Rattle.meaning.specs.Bounds.{most_budget, most_q, least_q}
 use Rattle.meaning.specs.Refusals.{rules_of, knapsack_rules, q_fits, job_refusal}
@@ -42,7 +42,7 @@ pub record Kept (j : Job) : Type 0 where
   pub small : j.budget ≤ most_budget
   pub few_parts : j.q ≤ most_q
 
-passed_keeps : (j : Job) (later : ℕ) → Passed (rules_of stated-share) j later → Kept j
+passed_keeps : (j : Job) (later : ℕ) → Passed (rules_of stated_share) j later → Kept j
 unfolding rules_of knapsack_rules q_fits labels
 passed_keeps j later p =
     let ok = valid_by once true j later p in
@@ -54,8 +54,8 @@ passed_keeps j later p =
     }
 
 -- once 3 to 5 were asked
-pub asked_keeps : (j : Job) → job_refusal (rules_of stated-share) j 0 ≡ 0 → Kept j
-asked_keeps j e = passed_keeps j 0 (has_passed (rules_of stated-share) j 0 e)
+pub asked_keeps : (j : Job) → job_refusal (rules_of stated_share) j 0 ≡ 0 → Kept j
+asked_keeps j e = passed_keeps j 0 (has_passed (rules_of stated_share) j 0 e)
 
 -- and with room
 pub record KeptIn (j : Job) (cells picks : List ℕ) : Type 0 where
@@ -63,13 +63,13 @@ pub record KeptIn (j : Job) (cells picks : List ℕ) : Type 0 where
   pub cells_room : stated_cells j ≤ length cells
   pub picks_room : labels j ≤ length picks
 
-pub keeps : (j : Job) (cells picks : List ℕ) → Unrefused stated-share j (lent_of cells [] picks) → KeptIn j cells picks
+pub keeps : (j : Job) (cells picks : List ℕ) → Unrefused stated_share j (lent_of cells [] picks) → KeptIn j cells picks
 unfolding room_by room_of lent_of
 keeps j cells picks ok =
     let lent = lent_of cells [] picks in
-    let room = kept stated-share j lent ok in
+    let room = kept stated_share j lent ok in
     record {
-      job = passed_keeps j _ (is_cleared _ stated-share j lent ok.no_refusal).keeps;
+      job = passed_keeps j _ (is_cleared _ stated_share j lent ok.no_refusal).keeps;
       cells_room = room.cells_room;
       picks_room = room.picks_room;
     }
@@ -129,7 +129,7 @@ module _ (j : Job) (d width : ℕ) (is_divisor : d ≡ divisor j) (is-width : wi
         traced_picks j (cut_values j) width cell small shows read.top read.highest.inside read.highest.reached found
         (rw is_divisor at read.traced)
 
-    gives : Gives stated-share j (answer_numbers a) found
+    gives : Gives stated_share j (answer_numbers a) found
     unfolding Gives StatedPicks stated_order labels
     gives = record {
       picked = chosen_best j (cut_values j) read.top none_above found chosen;
@@ -140,10 +140,10 @@ module _ (j : Job) (d width : ℕ) (is_divisor : d ≡ divisor j) (is-width : wi
     }
 
     -- the promise, where they stand in front of what was lent
-    pub solved : (cells picks : List ℕ) (needed n : ℕ) → Unrefused stated-share j (lent_of cells [] picks) → length table ≡ needed
+    pub solved : (cells picks : List ℕ) (needed n : ℕ) → Unrefused stated_share j (lent_of cells [] picks) → length table ≡ needed
         → needed ≡ stated_cells j → n ≡ labels j → SolvedInCells j cells picks a (table ++ drop needed cells) (found ++ drop n picks)
     unfolding TableBy room_by room_of lent_of
     solved cells picks needed n ok long is-needed counts =
-        solved_in_cells stated-share j a cells picks (table ++ drop needed cells) (found ++ drop n picks) table found ok refl gives right
+        solved_in_cells stated_share j a cells picks (table ++ drop needed cells) (found ++ drop n picks) table found ok refl gives right
         (long ∙ is-needed) (holds_front table cells needed long)
         (holds_front found picks n (chosen.one_of.fits.selection.one_each ∙ sym counts))

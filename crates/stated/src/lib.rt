@@ -6,7 +6,7 @@
 ghost use Rattle.std.specs.Prelude.{◌≡◌, [], ℕ, ◌+◌, ◌-◌, ◌*◌, ◌/◌, ◌≤◌, ◌<◌, max, leb, length};
 ghost use Rattle.meaning.specs.Lists.{at, if, sum, total};
 ghost use Rattle.meaning.specs.Cells.{no_way};
-ghost use Rattle.meaning.specs.Job.{stated-share};
+ghost use Rattle.meaning.specs.Job.{stated_share};
 ghost use Rattle.meaning.specs.Lent.{lent_of};
 ghost use Rattle.meaning.specs.Bounds.{most_budget, most_labels, most_q};
 ghost use Rattle.meaning.specs.Refusals.{rules_of, job_refusal};
@@ -361,7 +361,7 @@ pub fn cells_needed(
     values: &[u32],
     vbytes: &[u8],
 ) -> usize
-    requires { job_refusal (rules_of stated-share) (stated_from budget q weights.now wbytes.now values.now vbytes.now) 0 ≡ 0 }
+    requires { job_refusal (rules_of stated_share) (stated_from budget q weights.now wbytes.now values.now vbytes.now) 0 ≡ 0 }
     ensures { result
         ≡ stated_cells (stated_from budget q weights.now wbytes.now values.now vbytes.now) }
 {
@@ -379,7 +379,7 @@ pub fn solve(
     cells: &mut [u32],
     picks: &mut [u32],
 ) -> Answer
-    requires { Unrefused stated-share (stated_from budget q weights.now wbytes.now values.now vbytes.now)
+    requires { Unrefused stated_share (stated_from budget q weights.now wbytes.now values.now vbytes.now)
         (lent_of cells.old [] picks.old) }
     ensures { SolvedInCells (stated_from budget q weights.now wbytes.now values.now vbytes.now)
         cells.old picks.old result cells.new picks.new }

@@ -12,7 +12,7 @@ use mir.Facts.{eqb_yes}
 use Rattle.meaning.specs.declared.Answer.{Answer}
 use Rattle.meaning.specs.declared.Answer.TheVariants as Says
 use Rattle.meaning.specs.Lists.{at, if, up_to, tally}
-use Rattle.meaning.specs.Job.{Job, labels, subset-sums}
+use Rattle.meaning.specs.Job.{Job, labels, subset_sums}
 use Rattle.meaning.specs.Lent.{lent_of, room_by, room_of}
 use Rattle.meaning.specs.Bounds.{most_budget}
 use Rattle.meaning.specs.Refusals.{rules_of, weight_rules}
@@ -127,18 +127,18 @@ module _ (j : Job) (words : List ℕ) (len : ℕ) (long : len ≡ j.budget / 64 
 -- ---- the door
 
 -- what a job that is not refused keeps
-pub small : (j : Job) (words : List ℕ) → Unrefused subset-sums j (lent_of [] words []) → j.budget ≤ most_budget
+pub small : (j : Job) (words : List ℕ) → Unrefused subset_sums j (lent_of [] words []) → j.budget ≤ most_budget
 unfolding rules_of weight_rules
-small j words ok = (kept subset-sums j (lent_of [] words []) ok).small
+small j words ok = (kept subset_sums j (lent_of [] words []) ok).small
 
-pub roomy : (j : Job) (words : List ℕ) → Unrefused subset-sums j (lent_of [] words []) → j.budget / 64 + 1 ≤ length words
+pub roomy : (j : Job) (words : List ℕ) → Unrefused subset_sums j (lent_of [] words []) → j.budget / 64 + 1 ≤ length words
 unfolding room_by room_of lent_of
-roomy j words ok = (kept subset-sums j (lent_of [] words []) ok).words_room
+roomy j words ok = (kept subset_sums j (lent_of [] words []) ok).words_room
 
 -- the needed words hold the table, and the others what they held
-pub solved : (j : Job) (a : Answer) (words table : List ℕ) → Unrefused subset-sums j (lent_of [] words [])
+pub solved : (j : Job) (a : Answer) (words table : List ℕ) → Unrefused subset_sums j (lent_of [] words [])
     → length table ≡ j.budget / 64 + 1 → Tabled j a table → SolvedInWords j words a (table ++ drop (j.budget / 64 + 1) words)
 unfolding Gives TableBy room_by room_of lent_of
 solved j a words table ok long d =
-    solved_in_words subset-sums j a words (table ++ drop (j.budget / 64 + 1) words) table ok refl refl d.gives d.table long
+    solved_in_words subset_sums j a words (table ++ drop (j.budget / 64 + 1) words) table ok refl refl d.gives d.table long
     (holds_front table words (j.budget / 64 + 1) long)

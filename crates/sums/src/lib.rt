@@ -4,7 +4,7 @@
 
 ghost use Rattle.std.specs.Prelude.{◌≡◌, [], ◌∷◌, ◌+◌, ◌*◌, ◌/◌, ◌≤◌, ◌<◌, length};
 ghost use Rattle.meaning.specs.Lists.{up_to, tally};
-ghost use Rattle.meaning.specs.Job.{subset-sums};
+ghost use Rattle.meaning.specs.Job.{subset_sums};
 ghost use Rattle.meaning.specs.Lent.{lent_of};
 ghost use Rattle.meaning.specs.Bounds.{most_budget};
 ghost use Rattle.meaning.specs.Solved.{Unrefused};
@@ -146,7 +146,7 @@ fn table(budget: u32, weights: &[u32], wbytes: &[u8], words: &mut [u64]) -> Answ
 
 // Kind 4: the words, yes or no, and the number of totals of a job that no refusal meets.
 pub fn solve(budget: u32, weights: &[u32], wbytes: &[u8], words: &mut [u64]) -> Answer
-    requires { Unrefused subset-sums (weights_from 4 (budget ∷ []) weights.now wbytes.now) (lent_of [] words.old []) }
+    requires { Unrefused subset_sums (weights_from 4 (budget ∷ []) weights.now wbytes.now) (lent_of [] words.old []) }
     ensures { SolvedInWords (weights_from 4 (budget ∷ []) weights.now wbytes.now)
         words.old result words.new }
 {

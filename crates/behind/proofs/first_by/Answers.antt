@@ -9,6 +9,16 @@ use Rattle.meaning.specs.Cells.{no_way}
 use Rattle.behind.specs.Firsts.{first_by}
 use Rattle.behind.proofs.first_by.Goals as goal
 
+-- the two cells, and whether each is marked
+module _ (i without rest : ℕ) {a b : Bool} (first : a ≡ eqb without no_way) (second : b ≡ eqb rest no_way) where
+  newly : (a && not b) ≡ true → i ≡ first_by i without rest
+  unfolding first_by if
+  newly test = rw (← first, ← second, test)
+
+  as_before : (a && not b) ≡ false → without ≡ first_by i without rest
+  unfolding first_by if
+  as_before test = rw (← first, ← second, test)
+
 pub returns-then-is_marked : goal.returns-then-is_marked
 returns-then-is_marked c =
     let a = c.args in

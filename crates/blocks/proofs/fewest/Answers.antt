@@ -9,7 +9,7 @@ use lib.Seq.{length-take-le}
 use borrow.Author.Tests.{eqb-true, eqb-false}
 use Rattle.meaning.specs.Lists.{at}
 use Rattle.meaning.specs.Cells.{no_way}
-use Rattle.meaning.specs.Job.{Job, job_of, fewest-blocks, labels}
+use Rattle.meaning.specs.Job.{Job, job_of, fewest_blocks, labels}
 use Rattle.meaning.specs.Lent.{lent_of, room_by, room_of}
 use Rattle.meaning.specs.Refusals.{rules_of}
 use Rattle.meaning.proofs.SolvedIn.{kept}
@@ -20,42 +20,33 @@ use Rattle.blocks.proofs.BlocksDoor.{bounded, no_blocks, blocks_laid}
 use borrow.Author.Rules.{rules}
 use Rattle.blocks.proofs.fewest.Goals as goal
 
-record Kept : Type 0 where
-  cells_room : s.args.budget + 1 ≤ length s.args.cells.now
-  picks_room : length sizes ≤ length s.args.picks.now
-  bounds : Bounded (s.args.budget + 1) sizes
-
 -- and the first picks are one for each size
-picks_long : (c : goal.After-trace_down-arg-1) → length (take c.list_length-n.result c.args.picks.now) ≡ length (sizes)
+picks_long : (c : goal.After-trace_down-arg-1) →
+    let sizes : List ℕ = list_from c.args.weights.now c.args.wbytes.now in
+    length (take c.list_length-n.result c.args.picks.now) ≡ length (sizes)
 unfolding job_of labels lent_of room_by room_of rules_of
 picks_long c =
     let sizes : List ℕ = list_from c.args.weights.now c.args.wbytes.now in
     let counted : c.list_length-n.result ≡ length (sizes) = c.list_length-n.ensures in
     let job : Job = job_of 5 (c.args.budget ∷ []) sizes [] [] in
-    let ok : Kept = let lent = lent_of c.args.cells.now [] c.args.picks.now in
-    let keeps = kept fewest-blocks job lent c.requires in
-    record { cells_room = keeps.cells_room; picks_room = keeps.picks_room; bounds = bounded fewest-blocks job lent refl keeps } in
-    length-take-le c.list_length-n.result c.args.picks.now (omega (arith, counted, (ok).picks_room)) ∙ counted
+    let picks_room : length sizes ≤ length c.args.picks.now = (kept fewest_blocks job (lent_of c.args.cells.now [] c.args.picks.now) c.requires).picks_room in
+    length-take-le c.list_length-n.result c.args.picks.now (omega (arith, counted, (picks_room))) ∙ counted
 
 pub slice_bounds-fill_fewest-end : goal.slice_bounds-fill_fewest-end
 unfolding job_of labels lent_of room_by room_of rules_of
 slice_bounds-fill_fewest-end c =
     let sizes : List ℕ = list_from c.args.weights.now c.args.wbytes.now in
     let job : Job = job_of 5 (c.args.budget ∷ []) sizes [] [] in
-    let ok : Kept = let lent = lent_of c.args.cells.now [] c.args.picks.now in
-    let keeps = kept fewest-blocks job lent c.requires in
-    record { cells_room = keeps.cells_room; picks_room = keeps.picks_room; bounds = bounded fewest-blocks job lent refl keeps } in
-    ok.cells_room
+    let cells_room : c.args.budget + 1 ≤ length c.args.cells.now = (kept fewest_blocks job (lent_of c.args.cells.now [] c.args.picks.now) c.requires).cells_room in
+    cells_room
 
 pub slice_bounds-fill_fewest-end-2 : goal.slice_bounds-fill_fewest-end-2
 unfolding job_of labels lent_of room_by room_of rules_of
 slice_bounds-fill_fewest-end-2 c =
     let sizes : List ℕ = list_from c.args.weights.now c.args.wbytes.now in
     let job : Job = job_of 5 (c.args.budget ∷ []) sizes [] [] in
-    let ok : Kept = let lent = lent_of c.args.cells.now [] c.args.picks.now in
-    let keeps = kept fewest-blocks job lent c.requires in
-    record { cells_room = keeps.cells_room; picks_room = keeps.picks_room; bounds = bounded fewest-blocks job lent refl keeps } in
-    let lent : length (take (c.args.budget + 1) c.args.cells.now) ≡ c.args.budget + 1 = length-take-le (c.args.budget + 1) c.args.cells.now ok.cells_room in
+    let cells_room : c.args.budget + 1 ≤ length c.args.cells.now = (kept fewest_blocks job (lent_of c.args.cells.now [] c.args.picks.now) c.requires).cells_room in
+    let lent : length (take (c.args.budget + 1) c.args.cells.now) ≡ c.args.budget + 1 = length-take-le (c.args.budget + 1) c.args.cells.now cells_room in
     sym lent
 
 pub fill_fewest-requires : goal.fill_fewest-requires
@@ -63,11 +54,10 @@ unfolding job_of labels lent_of room_by room_of rules_of
 fill_fewest-requires c =
     let sizes : List ℕ = list_from c.args.weights.now c.args.wbytes.now in
     let job : Job = job_of 5 (c.args.budget ∷ []) sizes [] [] in
-    let ok : Kept = let lent = lent_of c.args.cells.now [] c.args.picks.now in
-    let keeps = kept fewest-blocks job lent c.requires in
-    record { cells_room = keeps.cells_room; picks_room = keeps.picks_room; bounds = bounded fewest-blocks job lent refl keeps } in
-    let lent : length (take (c.args.budget + 1) c.args.cells.now) ≡ c.args.budget + 1 = length-take-le (c.args.budget + 1) c.args.cells.now ok.cells_room in
-    rw lent ok.bounds
+    let bounds : Bounded (c.args.budget + 1) sizes = bounded fewest_blocks job (lent_of c.args.cells.now [] c.args.picks.now) refl (kept fewest_blocks job (lent_of c.args.cells.now [] c.args.picks.now) c.requires) in
+    let cells_room : c.args.budget + 1 ≤ length c.args.cells.now = (kept fewest_blocks job (lent_of c.args.cells.now [] c.args.picks.now) c.requires).cells_room in
+    let lent : length (take (c.args.budget + 1) c.args.cells.now) ≡ c.args.budget + 1 = length-take-le (c.args.budget + 1) c.args.cells.now cells_room in
+    rw lent bounds
 
 pub bounds-cells-width : goal.bounds-cells-width
 unfolding job_of labels lent_of room_by room_of rules_of
@@ -75,10 +65,8 @@ bounds-cells-width c =
     let cells : List ℕ = c.fill_fewest.new.row ++ drop (c.args.budget + 1) c.args.cells.now in
     let sizes : List ℕ = list_from c.args.weights.now c.args.wbytes.now in
     let job : Job = job_of 5 (c.args.budget ∷ []) sizes [] [] in
-    let ok : Kept = let lent = lent_of c.args.cells.now [] c.args.picks.now in
-    let keeps = kept fewest-blocks job lent c.requires in
-    record { cells_room = keeps.cells_room; picks_room = keeps.picks_room; bounds = bounded fewest-blocks job lent refl keeps } in
-    let lent : length (take (c.args.budget + 1) c.args.cells.now) ≡ c.args.budget + 1 = length-take-le (c.args.budget + 1) c.args.cells.now ok.cells_room in
+    let cells_room : c.args.budget + 1 ≤ length c.args.cells.now = (kept fewest_blocks job (lent_of c.args.cells.now [] c.args.picks.now) c.requires).cells_room in
+    let lent : length (take (c.args.budget + 1) c.args.cells.now) ≡ c.args.budget + 1 = length-take-le (c.args.budget + 1) c.args.cells.now cells_room in
     let row_long : length c.fill_fewest.new.row ≡ c.args.budget + 1 = c.fill_fewest.auto.row ∙ lent in
     let room : c.args.budget + 1 ≤ length cells = front_room c.fill_fewest.new.row c.args.cells.now (c.args.budget + 1) row_long in
     omega (arith, room)
@@ -88,15 +76,14 @@ unfolding job_of labels lent_of room_by room_of rules_of
 returns-then-is_marked c =
     let sizes : List ℕ = list_from c.args.weights.now c.args.wbytes.now in
     let job : Job = job_of 5 (c.args.budget ∷ []) sizes [] [] in
+    let bounds : Bounded (c.args.budget + 1) sizes = bounded fewest_blocks job (lent_of c.args.cells.now [] c.args.picks.now) refl (kept fewest_blocks job (lent_of c.args.cells.now [] c.args.picks.now) c.requires) in
     let cells : List ℕ = c.fill_fewest.new.row ++ drop (c.args.budget + 1) c.args.cells.now in
-    let ok : Kept = let lent = lent_of c.args.cells.now [] c.args.picks.now in
-    let keeps = kept fewest-blocks job lent c.requires in
-    record { cells_room = keeps.cells_room; picks_room = keeps.picks_room; bounds = bounded fewest-blocks job lent refl keeps } in
-    let lent : length (take (c.args.budget + 1) c.args.cells.now) ≡ c.args.budget + 1 = length-take-le (c.args.budget + 1) c.args.cells.now ok.cells_room in
+    let cells_room : c.args.budget + 1 ≤ length c.args.cells.now = (kept fewest_blocks job (lent_of c.args.cells.now [] c.args.picks.now) c.requires).cells_room in
+    let lent : length (take (c.args.budget + 1) c.args.cells.now) ≡ c.args.budget + 1 = length-take-le (c.args.budget + 1) c.args.cells.now cells_room in
     let row_long : length c.fill_fewest.new.row ≡ c.args.budget + 1 = c.fill_fewest.auto.row ∙ lent in
     let last : at cells (c.args.budget + 1 - 1) ≡ at c.fill_fewest.new.row c.args.budget = front_last c.fill_fewest.new.row c.args.cells.now (c.args.budget + 1) row_long c.args.budget refl in
     let row_grown : FewestGrown sizes (c.args.budget + 1) c.fill_fewest.new.row = rw lent at c.fill_fewest.ensures in
-    no_blocks job c.args.cells.now c.args.picks.now c.fill_fewest.new.row c.requires ok.bounds row_long row_grown
+    no_blocks job c.args.cells.now c.args.picks.now c.fill_fewest.new.row c.requires bounds row_long row_grown
     _ last (eqb-true _ no_way (sym c.is_marked.ensures ∙ c.if-is_marked.true))
 
 pub slice_bounds-trace_down-end : goal.slice_bounds-trace_down-end
@@ -105,10 +92,8 @@ slice_bounds-trace_down-end c =
     let cells : List ℕ = c.fill_fewest.new.row ++ drop (c.args.budget + 1) c.args.cells.now in
     let sizes : List ℕ = list_from c.args.weights.now c.args.wbytes.now in
     let job : Job = job_of 5 (c.args.budget ∷ []) sizes [] [] in
-    let ok : Kept = let lent = lent_of c.args.cells.now [] c.args.picks.now in
-    let keeps = kept fewest-blocks job lent c.requires in
-    record { cells_room = keeps.cells_room; picks_room = keeps.picks_room; bounds = bounded fewest-blocks job lent refl keeps } in
-    let lent : length (take (c.args.budget + 1) c.args.cells.now) ≡ c.args.budget + 1 = length-take-le (c.args.budget + 1) c.args.cells.now ok.cells_room in
+    let cells_room : c.args.budget + 1 ≤ length c.args.cells.now = (kept fewest_blocks job (lent_of c.args.cells.now [] c.args.picks.now) c.requires).cells_room in
+    let lent : length (take (c.args.budget + 1) c.args.cells.now) ≡ c.args.budget + 1 = length-take-le (c.args.budget + 1) c.args.cells.now cells_room in
     let row_long : length c.fill_fewest.new.row ≡ c.args.budget + 1 = c.fill_fewest.auto.row ∙ lent in
     let room : c.args.budget + 1 ≤ length cells = front_room c.fill_fewest.new.row c.args.cells.now (c.args.budget + 1) row_long in
     room
@@ -119,10 +104,8 @@ slice_bounds-trace_down-end-2 c =
     let cells : List ℕ = c.fill_fewest.new.row ++ drop (c.args.budget + 1) c.args.cells.now in
     let sizes : List ℕ = list_from c.args.weights.now c.args.wbytes.now in
     let job : Job = job_of 5 (c.args.budget ∷ []) sizes [] [] in
-    let ok : Kept = let lent = lent_of c.args.cells.now [] c.args.picks.now in
-    let keeps = kept fewest-blocks job lent c.requires in
-    record { cells_room = keeps.cells_room; picks_room = keeps.picks_room; bounds = bounded fewest-blocks job lent refl keeps } in
-    let lent : length (take (c.args.budget + 1) c.args.cells.now) ≡ c.args.budget + 1 = length-take-le (c.args.budget + 1) c.args.cells.now ok.cells_room in
+    let cells_room : c.args.budget + 1 ≤ length c.args.cells.now = (kept fewest_blocks job (lent_of c.args.cells.now [] c.args.picks.now) c.requires).cells_room in
+    let lent : length (take (c.args.budget + 1) c.args.cells.now) ≡ c.args.budget + 1 = length-take-le (c.args.budget + 1) c.args.cells.now cells_room in
     let row_long : length c.fill_fewest.new.row ≡ c.args.budget + 1 = c.fill_fewest.auto.row ∙ lent in
     let row_front : take (c.args.budget + 1) cells ≡ c.fill_fewest.new.row = front_part c.fill_fewest.new.row c.args.cells.now (c.args.budget + 1) row_long in
     sym row_long ∙ ap length (sym row_front)
@@ -133,10 +116,8 @@ slice_bounds-trace_down-end-3 c =
     let sizes : List ℕ = list_from c.args.weights.now c.args.wbytes.now in
     let counted : c.list_length-n.result ≡ length sizes = c.list_length-n.ensures in
     let job : Job = job_of 5 (c.args.budget ∷ []) sizes [] [] in
-    let ok : Kept = let lent = lent_of c.args.cells.now [] c.args.picks.now in
-    let keeps = kept fewest-blocks job lent c.requires in
-    record { cells_room = keeps.cells_room; picks_room = keeps.picks_room; bounds = bounded fewest-blocks job lent refl keeps } in
-    omega (arith, counted, ok.picks_room)
+    let picks_room : length sizes ≤ length c.args.picks.now = (kept fewest_blocks job (lent_of c.args.cells.now [] c.args.picks.now) c.requires).picks_room in
+    omega (arith, counted, picks_room)
 
 pub slice_bounds-trace_down-end-4 : goal.slice_bounds-trace_down-end-4
 slice_bounds-trace_down-end-4 c =
@@ -149,26 +130,24 @@ unfolding job_of labels lent_of room_by room_of rules_of
 trace_down-requires c =
     let sizes : List ℕ = list_from c.args.weights.now c.args.wbytes.now in
     let job : Job = job_of 5 (c.args.budget ∷ []) sizes [] [] in
-    let ok : Kept = let lent = lent_of c.args.cells.now [] c.args.picks.now in
-    let keeps = kept fewest-blocks job lent c.requires in
-    record { cells_room = keeps.cells_room; picks_room = keeps.picks_room; bounds = bounded fewest-blocks job lent refl keeps } in
+    let bounds : Bounded (c.args.budget + 1) sizes = bounded fewest_blocks job (lent_of c.args.cells.now [] c.args.picks.now) refl (kept fewest_blocks job (lent_of c.args.cells.now [] c.args.picks.now) c.requires) in
     let cells : List ℕ = c.fill_fewest.new.row ++ drop (c.args.budget + 1) c.args.cells.now in
-    let lent : length (take (c.args.budget + 1) c.args.cells.now) ≡ c.args.budget + 1 = length-take-le (c.args.budget + 1) c.args.cells.now ok.cells_room in
+    let cells_room : c.args.budget + 1 ≤ length c.args.cells.now = (kept fewest_blocks job (lent_of c.args.cells.now [] c.args.picks.now) c.requires).cells_room in
+    let lent : length (take (c.args.budget + 1) c.args.cells.now) ≡ c.args.budget + 1 = length-take-le (c.args.budget + 1) c.args.cells.now cells_room in
     let row_long : length c.fill_fewest.new.row ≡ c.args.budget + 1 = c.fill_fewest.auto.row ∙ lent in
     let row_front : take (c.args.budget + 1) cells ≡ c.fill_fewest.new.row = front_part c.fill_fewest.new.row c.args.cells.now (c.args.budget + 1) row_long in
-    rw (row_front, row_long) record { bounded = ok.bounds; wbytes_len = sym (picks_long c) }
+    rw (row_front, row_long) record { bounded = bounds; wbytes_len = sym (picks_long c) }
 
 pub returns : goal.returns
 unfolding job_of labels lent_of room_by room_of rules_of
 returns c =
     let sizes : List ℕ = list_from c.args.weights.now c.args.wbytes.now in
-    let counted : c.list_length-n.result ≡ length sizes = c.list_length-n.ensures in
     let job : Job = job_of 5 (c.args.budget ∷ []) sizes [] [] in
+    let bounds : Bounded (c.args.budget + 1) sizes = bounded fewest_blocks job (lent_of c.args.cells.now [] c.args.picks.now) refl (kept fewest_blocks job (lent_of c.args.cells.now [] c.args.picks.now) c.requires) in
+    let counted : c.list_length-n.result ≡ length sizes = c.list_length-n.ensures in
     let cells : List ℕ = c.fill_fewest.new.row ++ drop (c.args.budget + 1) c.args.cells.now in
-    let ok : Kept = let lent = lent_of c.args.cells.now [] c.args.picks.now in
-    let keeps = kept fewest-blocks job lent c.requires in
-    record { cells_room = keeps.cells_room; picks_room = keeps.picks_room; bounds = bounded fewest-blocks job lent refl keeps } in
-    let lent : length (take (c.args.budget + 1) c.args.cells.now) ≡ c.args.budget + 1 = length-take-le (c.args.budget + 1) c.args.cells.now ok.cells_room in
+    let cells_room : c.args.budget + 1 ≤ length c.args.cells.now = (kept fewest_blocks job (lent_of c.args.cells.now [] c.args.picks.now) c.requires).cells_room in
+    let lent : length (take (c.args.budget + 1) c.args.cells.now) ≡ c.args.budget + 1 = length-take-le (c.args.budget + 1) c.args.cells.now cells_room in
     let row_long : length c.fill_fewest.new.row ≡ c.args.budget + 1 = c.fill_fewest.auto.row ∙ lent in
     let last : at cells (c.args.budget + 1 - 1) ≡ at c.fill_fewest.new.row c.args.budget = front_last c.fill_fewest.new.row c.args.cells.now (c.args.budget + 1) row_long c.args.budget refl in
     let row_front : take (c.args.budget + 1) cells ≡ c.fill_fewest.new.row = front_part c.fill_fewest.new.row c.args.cells.now (c.args.budget + 1) row_long in
@@ -176,5 +155,5 @@ returns c =
     let found = c.trace_down.new.picks in
     let trace : TraceDown (at c.fill_fewest.new.row) sizes c.args.budget found =
     rw (row_front, row_long, add-sub_cancel) at c.trace_down.ensures in
-    blocks_laid job c.args.cells.now c.args.picks.now c.fill_fewest.new.row c.requires ok.bounds row_long row_grown
+    blocks_laid job c.args.cells.now c.args.picks.now c.fill_fewest.new.row c.requires bounds row_long row_grown
     _ _ found last (eqb-false _ no_way (sym c.is_marked.ensures ∙ c.if-is_marked.false)) counted trace

@@ -2,7 +2,7 @@
 use mathlib.Core.Path.{◌≡◌}
 use Prim.Native.Nat.{ℕ}
 use mathlib.Core.List.{List, [], ◌∷◌}
-use Rattle.meaning.specs.Job.{job_of, block-ways}
+use Rattle.meaning.specs.Job.{job_of, block_ways}
 use Rattle.meaning.specs.Lent.{lent_of}
 use Rattle.meaning.specs.Solved.{Unrefused}
 use Rattle.meaning.specs.SolvedIn.{SolvedInCellsBy, SolvedInWords}
@@ -24,14 +24,14 @@ returns-then-kind-eq5 c =
 
 pub ways-requires : goal.ways-requires
 ways-requires c =
-    let asked : (c.args.kind ≡ 6) × Unrefused block-ways (job_of 6 (c.args.budget ∷ []) (list_from c.args.weights.now c.args.wbytes.now) [] []) (lent_of [] c.args.words.now []) = let a = c.args in
+    let asked : (c.args.kind ≡ 6) × Unrefused block_ways (job_of 6 (c.args.budget ∷ []) (list_from c.args.weights.now c.args.wbytes.now) [] []) (lent_of [] c.args.words.now []) = let a = c.args in
     asks_ways a.budget a.kind (list_from c.args.weights.now c.args.wbytes.now) a.cells.now a.words.now a.picks.now c.if-kind-eq5.false c.requires in
     asked.1
 
 pub returns : goal.returns
 unfolding SolvedInWords
 returns c =
-    let asked : (c.args.kind ≡ 6) × Unrefused block-ways (job_of 6 (c.args.budget ∷ []) (list_from c.args.weights.now c.args.wbytes.now) [] []) (lent_of [] c.args.words.now []) = let a = c.args in
+    let asked : (c.args.kind ≡ 6) × Unrefused block_ways (job_of 6 (c.args.budget ∷ []) (list_from c.args.weights.now c.args.wbytes.now) [] []) (lent_of [] c.args.words.now []) = let a = c.args in
     asks_ways a.budget a.kind (list_from c.args.weights.now c.args.wbytes.now) a.cells.now a.words.now a.picks.now c.if-kind-eq5.false c.requires in
     let kind : c.args.kind ≡ 6 = asked.0 in
     rw kind (c.ways.ensures c.args.cells.now c.args.picks.now)

@@ -24,7 +24,9 @@ use Rattle.rows.proofs.Bounded.{bounded}
 use Rattle.knapsack.proofs.KnapsackDoor.{Rowed, rowed, Ready, ready, limit_few, limit_may, full_room, copies_long, packs_full}
 use Rattle.knapsack.proofs.full_table.Goals as goal
 
-picks_long : (c : goal.After-trace_back-arg-1) → length (take c.list_length-n.result c.args.picks.now) ≡ length (weights)
+picks_long : (c : goal.After-trace_back-arg-1) →
+    let weights : List ℕ = list_from c.args.weights.now c.args.wbytes.now in
+    length (take c.list_length-n.result c.args.picks.now) ≡ length (weights)
 unfolding job_of labels
 picks_long c =
     let copies : List ℕ = list_from c.args.copies.now c.args.cbytes.now in
@@ -36,10 +38,13 @@ picks_long c =
     let picks_enough : c.list_length-n.result ≤ length c.args.picks.now = omega (arith, c.list_length-n.ensures, picks_room) in
     length-take-le c.list_length-n.result c.args.picks.now picks_enough ∙ c.list_length-n.ensures
 
-trace : (c : goal.After-slice_known-5-1) → TraceBack (row) (weights) (values) (length (weights)) c.args.budget 0 c.trace_back-left.result c.trace_back-left.new.picks
+trace : (c : goal.After-slice_known-5-1) →
+    let row : ℕ → ℕ → ℕ = row_of c.fill.new.cells (c.args.budget + 1) in
+    let values : List ℕ = list_from c.args.values.now c.args.vbytes.now in
+    let weights : List ℕ = list_from c.args.weights.now c.args.wbytes.now in
+    TraceBack (row) (weights) (values) (length (weights)) c.args.budget 0 c.trace_back-left.result c.trace_back-left.new.picks
 unfolding cell_count job_of labels
 trace c =
-    let row : ℕ → ℕ → ℕ = row_of c.fill.new.cells (c.args.budget + 1) in
     let needed : ℕ = (c.list_length-n.result + 1) * (c.args.budget + 1) in
     let numbered : c.args.kind ≡ number_of (packing c.requires.let_in.knapsack) = kind_number c.args.kind (packing c.requires.let_in.knapsack) c.requires.let_in.unrefused.of_kind in
     let is : Rowed c.requires.let_in.knapsack = rowed c.requires.let_in.knapsack (rw numbered at c.requires.kind_bound) in
@@ -205,8 +210,8 @@ trace_back-left-requires c =
     let filled : Filled weights values limits (c.args.budget + 1) (length weights) c.fill.new.cells = rw numbered at c.fill.ensures in
     let is : Rowed c.requires.let_in.knapsack = rowed c.requires.let_in.knapsack (rw numbered at c.requires.kind_bound) in
     let row : ℕ → ℕ → ℕ = row_of c.fill.new.cells (c.args.budget + 1) in
-    let some_count : (i c : ℕ) → i < length weights → c < c.args.budget + 1
-    → SomeCount (row i) (at weights i) (at values i) c (row (suc i) c) = some_back c.requires.let_in.knapsack job limits (c.args.budget + 1) c.fill.new.cells
+    let some_count : (i d : ℕ) → i < length weights → d < c.args.budget + 1
+    → SomeCount (row i) (at weights i) (at values i) d (row (suc i) d) = some_back c.requires.let_in.knapsack job limits (c.args.budget + 1) c.fill.new.cells
     (λ i x h. limit_few is job i x) (λ i x h. limit_may is job i x) filled in
     let cells_room : (length weights + 1) * (c.args.budget + 1) ≤ length c.args.cells.now = rw (full_room is job) at keeps.cells_room in
     let cells_enough : needed ≤ length c.args.cells.now = omega (arith, needed_is, cells_room) in

@@ -21,32 +21,30 @@ use Rattle.rows.proofs.Bounded.{bounded}
 use Rattle.knapsack.proofs.KnapsackDoor.{ready, packs_free}
 use Rattle.knapsack.proofs.one_row.Goals as goal
 
-record Kept : Type 0 where
-  cells_room : s.args.budget + 1 ≤ length s.args.cells.now
-  picks_room : length weights ≤ length s.args.picks.now
-  bounds : Bounded (s.args.budget + 1) weights values
-
 -- and the first picks are one for each label
-picks_long : (c : goal.After-trace_along-arg-1) → length (take c.list_length-n.result c.args.picks.now) ≡ length (weights)
+picks_long : (c : goal.After-trace_along-arg-1) →
+    let weights : List ℕ = list_from c.args.weights.now c.args.wbytes.now in
+    length (take c.list_length-n.result c.args.picks.now) ≡ length (weights)
 unfolding job_of labels room_by room_of
 picks_long c =
     let weights : List ℕ = list_from c.args.weights.now c.args.wbytes.now in
     let labelled : c.list_length-n.result ≡ length (weights) = c.list_length-n.ensures in
     let values : List ℕ = list_from c.args.values.now c.args.vbytes.now in
     let job : Job = job_of 3 (c.args.budget ∷ []) weights values [] in
-    let ok : Kept = let r = ready free job c.args.cells.now c.args.picks.now c.requires in
-    record { cells_room = r.cells_room; picks_room = r.picks_room; bounds = bounded free job r.valid } in
-    length-take-le c.list_length-n.result c.args.picks.now (omega (arith, labelled, (ok).picks_room)) ∙ labelled
+    let picks_room : length weights ≤ length c.args.picks.now = (ready free job c.args.cells.now c.args.picks.now c.requires).picks_room in
+    length-take-le c.list_length-n.result c.args.picks.now (omega (arith, labelled, (picks_room))) ∙ labelled
 
-trace : (c : goal.After-slice_known-5-1) → TraceAlong (at c.fill_row.new.row) (weights) (values) c.args.budget c.trace_along-left.result c.trace_along-left.new.picks
+trace : (c : goal.After-slice_known-5-1) →
+    let values : List ℕ = list_from c.args.values.now c.args.vbytes.now in
+    let weights : List ℕ = list_from c.args.weights.now c.args.wbytes.now in
+    TraceAlong (at c.fill_row.new.row) (weights) (values) c.args.budget c.trace_along-left.result c.trace_along-left.new.picks
 unfolding job_of labels room_by room_of
 trace c =
     let values : List ℕ = list_from c.args.values.now c.args.vbytes.now in
     let weights : List ℕ = list_from c.args.weights.now c.args.wbytes.now in
     let job : Job = job_of 3 (c.args.budget ∷ []) weights values [] in
-    let ok : Kept = let r = ready free job c.args.cells.now c.args.picks.now c.requires in
-    record { cells_room = r.cells_room; picks_room = r.picks_room; bounds = bounded free job r.valid } in
-    let lent : length (take (c.args.budget + 1) c.args.cells.now) ≡ c.args.budget + 1 = length-take-le (c.args.budget + 1) c.args.cells.now ok.cells_room in
+    let cells_room : c.args.budget + 1 ≤ length c.args.cells.now = (ready free job c.args.cells.now c.args.picks.now c.requires).cells_room in
+    let lent : length (take (c.args.budget + 1) c.args.cells.now) ≡ c.args.budget + 1 = length-take-le (c.args.budget + 1) c.args.cells.now cells_room in
     let row_long : length c.fill_row.new.row ≡ c.args.budget + 1 = c.fill_row.auto.row ∙ lent in
     let row_front : take (c.args.budget + 1) (c.fill_row.new.row ++ drop (c.args.budget + 1) c.args.cells.now) ≡ c.fill_row.new.row = front_part c.fill_row.new.row c.args.cells.now (c.args.budget + 1) row_long in
     rw (row_front, row_long, add-sub_cancel) at c.trace_along-left.ensures
@@ -64,9 +62,8 @@ slice_bounds-fill_row-end c =
     let values : List ℕ = list_from c.args.values.now c.args.vbytes.now in
     let weights : List ℕ = list_from c.args.weights.now c.args.wbytes.now in
     let job : Job = job_of 3 (c.args.budget ∷ []) weights values [] in
-    let ok : Kept = let r = ready free job c.args.cells.now c.args.picks.now c.requires in
-    record { cells_room = r.cells_room; picks_room = r.picks_room; bounds = bounded free job r.valid } in
-    ok.cells_room
+    let cells_room : c.args.budget + 1 ≤ length c.args.cells.now = (ready free job c.args.cells.now c.args.picks.now c.requires).cells_room in
+    cells_room
 
 pub slice_bounds-fill_row-end-2 : goal.slice_bounds-fill_row-end-2
 unfolding job_of labels room_by room_of
@@ -74,9 +71,8 @@ slice_bounds-fill_row-end-2 c =
     let values : List ℕ = list_from c.args.values.now c.args.vbytes.now in
     let weights : List ℕ = list_from c.args.weights.now c.args.wbytes.now in
     let job : Job = job_of 3 (c.args.budget ∷ []) weights values [] in
-    let ok : Kept = let r = ready free job c.args.cells.now c.args.picks.now c.requires in
-    record { cells_room = r.cells_room; picks_room = r.picks_room; bounds = bounded free job r.valid } in
-    let lent : length (take (c.args.budget + 1) c.args.cells.now) ≡ c.args.budget + 1 = length-take-le (c.args.budget + 1) c.args.cells.now ok.cells_room in
+    let cells_room : c.args.budget + 1 ≤ length c.args.cells.now = (ready free job c.args.cells.now c.args.picks.now c.requires).cells_room in
+    let lent : length (take (c.args.budget + 1) c.args.cells.now) ≡ c.args.budget + 1 = length-take-le (c.args.budget + 1) c.args.cells.now cells_room in
     sym lent
 
 pub fill_row-requires : goal.fill_row-requires
@@ -85,10 +81,10 @@ fill_row-requires c =
     let values : List ℕ = list_from c.args.values.now c.args.vbytes.now in
     let weights : List ℕ = list_from c.args.weights.now c.args.wbytes.now in
     let job : Job = job_of 3 (c.args.budget ∷ []) weights values [] in
-    let ok : Kept = let r = ready free job c.args.cells.now c.args.picks.now c.requires in
-    record { cells_room = r.cells_room; picks_room = r.picks_room; bounds = bounded free job r.valid } in
-    let lent : length (take (c.args.budget + 1) c.args.cells.now) ≡ c.args.budget + 1 = length-take-le (c.args.budget + 1) c.args.cells.now ok.cells_room in
-    rw lent ok.bounds
+    let bounds : Bounded (c.args.budget + 1) weights values = bounded free job (ready free job c.args.cells.now c.args.picks.now c.requires).valid in
+    let cells_room : c.args.budget + 1 ≤ length c.args.cells.now = (ready free job c.args.cells.now c.args.picks.now c.requires).cells_room in
+    let lent : length (take (c.args.budget + 1) c.args.cells.now) ≡ c.args.budget + 1 = length-take-le (c.args.budget + 1) c.args.cells.now cells_room in
+    rw lent bounds
 
 pub slice_bounds-trace_along-end : goal.slice_bounds-trace_along-end
 unfolding job_of labels room_by room_of
@@ -96,9 +92,8 @@ slice_bounds-trace_along-end c =
     let values : List ℕ = list_from c.args.values.now c.args.vbytes.now in
     let weights : List ℕ = list_from c.args.weights.now c.args.wbytes.now in
     let job : Job = job_of 3 (c.args.budget ∷ []) weights values [] in
-    let ok : Kept = let r = ready free job c.args.cells.now c.args.picks.now c.requires in
-    record { cells_room = r.cells_room; picks_room = r.picks_room; bounds = bounded free job r.valid } in
-    let lent : length (take (c.args.budget + 1) c.args.cells.now) ≡ c.args.budget + 1 = length-take-le (c.args.budget + 1) c.args.cells.now ok.cells_room in
+    let cells_room : c.args.budget + 1 ≤ length c.args.cells.now = (ready free job c.args.cells.now c.args.picks.now c.requires).cells_room in
+    let lent : length (take (c.args.budget + 1) c.args.cells.now) ≡ c.args.budget + 1 = length-take-le (c.args.budget + 1) c.args.cells.now cells_room in
     let row_long : length c.fill_row.new.row ≡ c.args.budget + 1 = c.fill_row.auto.row ∙ lent in
     let room : c.args.budget + 1 ≤ length (c.fill_row.new.row ++ drop (c.args.budget + 1) c.args.cells.now) = front_room c.fill_row.new.row c.args.cells.now (c.args.budget + 1) row_long in
     room
@@ -109,9 +104,8 @@ slice_bounds-trace_along-end-2 c =
     let values : List ℕ = list_from c.args.values.now c.args.vbytes.now in
     let weights : List ℕ = list_from c.args.weights.now c.args.wbytes.now in
     let job : Job = job_of 3 (c.args.budget ∷ []) weights values [] in
-    let ok : Kept = let r = ready free job c.args.cells.now c.args.picks.now c.requires in
-    record { cells_room = r.cells_room; picks_room = r.picks_room; bounds = bounded free job r.valid } in
-    let lent : length (take (c.args.budget + 1) c.args.cells.now) ≡ c.args.budget + 1 = length-take-le (c.args.budget + 1) c.args.cells.now ok.cells_room in
+    let cells_room : c.args.budget + 1 ≤ length c.args.cells.now = (ready free job c.args.cells.now c.args.picks.now c.requires).cells_room in
+    let lent : length (take (c.args.budget + 1) c.args.cells.now) ≡ c.args.budget + 1 = length-take-le (c.args.budget + 1) c.args.cells.now cells_room in
     let row_long : length c.fill_row.new.row ≡ c.args.budget + 1 = c.fill_row.auto.row ∙ lent in
     let row_front : take (c.args.budget + 1) (c.fill_row.new.row ++ drop (c.args.budget + 1) c.args.cells.now) ≡ c.fill_row.new.row = front_part c.fill_row.new.row c.args.cells.now (c.args.budget + 1) row_long in
     sym row_long ∙ ap length (sym row_front)
@@ -123,9 +117,8 @@ slice_bounds-trace_along-end-3 c =
     let labelled : c.list_length-n.result ≡ length weights = c.list_length-n.ensures in
     let values : List ℕ = list_from c.args.values.now c.args.vbytes.now in
     let job : Job = job_of 3 (c.args.budget ∷ []) weights values [] in
-    let ok : Kept = let r = ready free job c.args.cells.now c.args.picks.now c.requires in
-    record { cells_room = r.cells_room; picks_room = r.picks_room; bounds = bounded free job r.valid } in
-    omega (arith, labelled, ok.picks_room)
+    let picks_room : length weights ≤ length c.args.picks.now = (ready free job c.args.cells.now c.args.picks.now c.requires).picks_room in
+    omega (arith, labelled, picks_room)
 
 pub slice_bounds-trace_along-end-4 : goal.slice_bounds-trace_along-end-4
 slice_bounds-trace_along-end-4 c =
@@ -139,13 +132,13 @@ trace_along-left-requires c =
     let values : List ℕ = list_from c.args.values.now c.args.vbytes.now in
     let weights : List ℕ = list_from c.args.weights.now c.args.wbytes.now in
     let job : Job = job_of 3 (c.args.budget ∷ []) weights values [] in
-    let ok : Kept = let r = ready free job c.args.cells.now c.args.picks.now c.requires in
-    record { cells_room = r.cells_room; picks_room = r.picks_room; bounds = bounded free job r.valid } in
-    let lent : length (take (c.args.budget + 1) c.args.cells.now) ≡ c.args.budget + 1 = length-take-le (c.args.budget + 1) c.args.cells.now ok.cells_room in
+    let bounds : Bounded (c.args.budget + 1) weights values = bounded free job (ready free job c.args.cells.now c.args.picks.now c.requires).valid in
+    let cells_room : c.args.budget + 1 ≤ length c.args.cells.now = (ready free job c.args.cells.now c.args.picks.now c.requires).cells_room in
+    let lent : length (take (c.args.budget + 1) c.args.cells.now) ≡ c.args.budget + 1 = length-take-le (c.args.budget + 1) c.args.cells.now cells_room in
     let row_climbed : Climbed weights values (c.args.budget + 1) (length weights) c.fill_row.new.row = rw lent at c.fill_row.ensures in
     let row_long : length c.fill_row.new.row ≡ c.args.budget + 1 = c.fill_row.auto.row ∙ lent in
     let row_front : take (c.args.budget + 1) (c.fill_row.new.row ++ drop (c.args.budget + 1) c.args.cells.now) ≡ c.fill_row.new.row = front_part c.fill_row.new.row c.args.cells.now (c.args.budget + 1) row_long in
-    let b = ok.bounds in
+    let b = bounds in
     let capped = climbed_capped weights values (c.args.budget + 1) (length weights) c.fill_row.new.row b (omega arith) row_climbed in
     rw (row_front, row_long) record { bounded = b; capped = (capped, sym (picks_long c)) }
 
@@ -155,9 +148,8 @@ bounds-cells-width c =
     let values : List ℕ = list_from c.args.values.now c.args.vbytes.now in
     let weights : List ℕ = list_from c.args.weights.now c.args.wbytes.now in
     let job : Job = job_of 3 (c.args.budget ∷ []) weights values [] in
-    let ok : Kept = let r = ready free job c.args.cells.now c.args.picks.now c.requires in
-    record { cells_room = r.cells_room; picks_room = r.picks_room; bounds = bounded free job r.valid } in
-    let lent : length (take (c.args.budget + 1) c.args.cells.now) ≡ c.args.budget + 1 = length-take-le (c.args.budget + 1) c.args.cells.now ok.cells_room in
+    let cells_room : c.args.budget + 1 ≤ length c.args.cells.now = (ready free job c.args.cells.now c.args.picks.now c.requires).cells_room in
+    let lent : length (take (c.args.budget + 1) c.args.cells.now) ≡ c.args.budget + 1 = length-take-le (c.args.budget + 1) c.args.cells.now cells_room in
     let row_long : length c.fill_row.new.row ≡ c.args.budget + 1 = c.fill_row.auto.row ∙ lent in
     let room : c.args.budget + 1 ≤ length (c.fill_row.new.row ++ drop (c.args.budget + 1) c.args.cells.now) = front_room c.fill_row.new.row c.args.cells.now (c.args.budget + 1) row_long in
     omega (arith, room)
@@ -168,9 +160,8 @@ overflow_cast-result c =
     let values : List ℕ = list_from c.args.values.now c.args.vbytes.now in
     let weights : List ℕ = list_from c.args.weights.now c.args.wbytes.now in
     let job : Job = job_of 3 (c.args.budget ∷ []) weights values [] in
-    let ok : Kept = let r = ready free job c.args.cells.now c.args.picks.now c.requires in
-    record { cells_room = r.cells_room; picks_room = r.picks_room; bounds = bounded free job r.valid } in
-    omega (arith, within c, ok.bounds.narrow)
+    let bounds : Bounded (c.args.budget + 1) weights values = bounded free job (ready free job c.args.cells.now c.args.picks.now c.requires).valid in
+    omega (arith, within c, bounds.narrow)
 
 pub overflow_sub-result-2 : goal.overflow_sub-result-2
 overflow_sub-result-2 c = within c
@@ -182,9 +173,8 @@ returns c =
     let weights : List ℕ = list_from c.args.weights.now c.args.wbytes.now in
     let job : Job = job_of 3 (c.args.budget ∷ []) weights values [] in
     let labelled : c.list_length-n.result ≡ length weights = c.list_length-n.ensures in
-    let ok : Kept = let r = ready free job c.args.cells.now c.args.picks.now c.requires in
-    record { cells_room = r.cells_room; picks_room = r.picks_room; bounds = bounded free job r.valid } in
-    let lent : length (take (c.args.budget + 1) c.args.cells.now) ≡ c.args.budget + 1 = length-take-le (c.args.budget + 1) c.args.cells.now ok.cells_room in
+    let cells_room : c.args.budget + 1 ≤ length c.args.cells.now = (ready free job c.args.cells.now c.args.picks.now c.requires).cells_room in
+    let lent : length (take (c.args.budget + 1) c.args.cells.now) ≡ c.args.budget + 1 = length-take-le (c.args.budget + 1) c.args.cells.now cells_room in
     let row_climbed : Climbed weights values (c.args.budget + 1) (length weights) c.fill_row.new.row = rw lent at c.fill_row.ensures in
     let row_long : length c.fill_row.new.row ≡ c.args.budget + 1 = c.fill_row.auto.row ∙ lent in
     let a = c.args in

@@ -15,29 +15,17 @@ use Rattle.light.specs.Packed.{PackedLight}
 use Rattle.light.proofs.LightDoor.{few_words, ready, packs_light, within}
 use Rattle.light.proofs.solve.Goals as goal
 
-record Kept : Type 0 where
-  bounds : Bounded (s.args.budget + 1) weights values
-  cells_room : s.args.budget + 1 ≤ length s.args.cells.now
-  words_room : needed ≤ length s.args.words.now
-  picks_room : length weights ≤ length s.args.picks.now
-  words_64 : needed < 18_446_744_073_709_551_616
-
-picks_lent : (c : goal.After-pack-arg-3-1) → length (take c.list_length-n.result c.args.picks.now) ≡ length (weights)
+picks_lent : (c : goal.After-pack-arg-3-1) →
+    let weights : List ℕ = list_from c.args.weights.now c.args.wbytes.now in
+    length (take c.list_length-n.result c.args.picks.now) ≡ length (weights)
 unfolding job_of labels
 picks_lent c =
     let weights : List ℕ = list_from c.args.weights.now c.args.wbytes.now in
     let labelled : c.list_length-n.result ≡ length (weights) = c.list_length-n.ensures in
     let values : List ℕ = list_from c.args.values.now c.args.vbytes.now in
     let job : Job = job_of 1 (c.args.budget ∷ []) weights values [] in
-    let ok : Kept = let r = ready job c.args.cells.now c.args.words.now c.args.picks.now c.requires in
-    record {
-      bounds = r.bounds;
-      cells_room = r.cells_room;
-      words_room = r.words_room;
-      picks_room = r.picks_room;
-      words_64 = few_words (length weights) c.args.budget r.few (omega (arith, r.bounds.narrow));
-    } in
-    length-take-le _ _ (omega (arith, labelled, (ok).picks_room)) ∙ labelled
+    let picks_room : length weights ≤ length c.args.picks.now = (ready job c.args.cells.now c.args.words.now c.args.picks.now c.requires).picks_room in
+    length-take-le _ _ (omega (arith, labelled, (picks_room))) ∙ labelled
 
 row_long : (c : goal.After-slice_known-7-1) → length c.pack-left.new.row ≡ c.args.budget + 1
 unfolding job_of labels
@@ -45,42 +33,32 @@ row_long c =
     let values : List ℕ = list_from c.args.values.now c.args.vbytes.now in
     let weights : List ℕ = list_from c.args.weights.now c.args.wbytes.now in
     let job : Job = job_of 1 (c.args.budget ∷ []) weights values [] in
-    let ok : Kept = let r = ready job c.args.cells.now c.args.words.now c.args.picks.now c.requires in
-    record {
-      bounds = r.bounds;
-      cells_room = r.cells_room;
-      words_room = r.words_room;
-      picks_room = r.picks_room;
-      words_64 = few_words (length weights) c.args.budget r.few (omega (arith, r.bounds.narrow));
-    } in
-    let row_lent : length (take (c.args.budget + 1) c.args.cells.now) ≡ c.args.budget + 1 = length-take-le _ _ (ok).cells_room in
+    let cells_room : c.args.budget + 1 ≤ length c.args.cells.now = (ready job c.args.cells.now c.args.words.now c.args.picks.now c.requires).cells_room in
+    let row_lent : length (take (c.args.budget + 1) c.args.cells.now) ≡ c.args.budget + 1 = length-take-le _ _ (cells_room) in
     c.pack-left.auto.row ∙ row_lent
 
-bits_long : (c : goal.After-slice_known-7-1) → length c.pack-left.new.words ≡ needed
+bits_long : (c : goal.After-slice_known-7-1) →
+    let weights : List ℕ = list_from c.args.weights.now c.args.wbytes.now in
+    let needed : ℕ = length weights * (c.args.budget / 64 + 1) in
+    length c.pack-left.new.words ≡ needed
 unfolding job_of labels
 bits_long c =
     let weights : List ℕ = list_from c.args.weights.now c.args.wbytes.now in
-    let needed : ℕ = length weights * (c.args.budget / 64 + 1) in
     let labelled : c.list_length-n.result ≡ length (weights) = c.list_length-n.ensures in
+    let needed : ℕ = length weights * (c.args.budget / 64 + 1) in
     let counted : c.list_length-n.result * (c.args.budget / 64 + 1) ≡ needed = ap (λ (n : ℕ). n * (c.args.budget / 64 + 1)) labelled in
     let values : List ℕ = list_from c.args.values.now c.args.vbytes.now in
     let job : Job = job_of 1 (c.args.budget ∷ []) weights values [] in
-    let ok : Kept = let r = ready job c.args.cells.now c.args.words.now c.args.picks.now c.requires in
-    record {
-      bounds = r.bounds;
-      cells_room = r.cells_room;
-      words_room = r.words_room;
-      picks_room = r.picks_room;
-      words_64 = few_words (length weights) c.args.budget r.few (omega (arith, r.bounds.narrow));
-    } in
-    let words_lent : length (take (c.list_length-n.result * (c.args.budget / 64 + 1)) c.args.words.now) ≡ needed = length-take-le _ _ (omega (arith, counted, (ok).words_room)) ∙ counted in
+    let words_room : needed ≤ length c.args.words.now = (ready job c.args.cells.now c.args.words.now c.args.picks.now c.requires).words_room in
+    let words_lent : length (take (c.list_length-n.result * (c.args.budget / 64 + 1)) c.args.words.now) ≡ needed = length-take-le _ _ (omega (arith, counted, (words_room))) ∙ counted in
     c.pack-left.auto.words ∙ words_lent
 
-packed : (c : goal.After-slice_known-7-1) → PackedLight (job) c.pack-left.new.row c.pack-left.new.words c.pack-left.new.picks c.pack-left.result
-packed c =
+packed : (c : goal.After-slice_known-7-1) →
     let values : List ℕ = list_from c.args.values.now c.args.vbytes.now in
     let weights : List ℕ = list_from c.args.weights.now c.args.wbytes.now in
     let job : Job = job_of 1 (c.args.budget ∷ []) weights values [] in
+    PackedLight (job) c.pack-left.new.row c.pack-left.new.words c.pack-left.new.picks c.pack-left.result
+packed c =
     c.pack-left.ensures
 
 left_within : (c : goal.After-slice_known-7-1) → c.pack-left.result ≤ c.args.budget
@@ -98,15 +76,8 @@ slice_bounds-pack-end c =
     let values : List ℕ = list_from c.args.values.now c.args.vbytes.now in
     let weights : List ℕ = list_from c.args.weights.now c.args.wbytes.now in
     let job : Job = job_of 1 (c.args.budget ∷ []) weights values [] in
-    let ok : Kept = let r = ready job c.args.cells.now c.args.words.now c.args.picks.now c.requires in
-    record {
-      bounds = r.bounds;
-      cells_room = r.cells_room;
-      words_room = r.words_room;
-      picks_room = r.picks_room;
-      words_64 = few_words (length weights) c.args.budget r.few (omega (arith, r.bounds.narrow));
-    } in
-    ok.cells_room
+    let cells_room : c.args.budget + 1 ≤ length c.args.cells.now = (ready job c.args.cells.now c.args.words.now c.args.picks.now c.requires).cells_room in
+    cells_room
 
 pub slice_bounds-pack-end-2 : goal.slice_bounds-pack-end-2
 unfolding job_of labels
@@ -114,15 +85,8 @@ slice_bounds-pack-end-2 c =
     let values : List ℕ = list_from c.args.values.now c.args.vbytes.now in
     let weights : List ℕ = list_from c.args.weights.now c.args.wbytes.now in
     let job : Job = job_of 1 (c.args.budget ∷ []) weights values [] in
-    let ok : Kept = let r = ready job c.args.cells.now c.args.words.now c.args.picks.now c.requires in
-    record {
-      bounds = r.bounds;
-      cells_room = r.cells_room;
-      words_room = r.words_room;
-      picks_room = r.picks_room;
-      words_64 = few_words (length weights) c.args.budget r.few (omega (arith, r.bounds.narrow));
-    } in
-    let row_lent : length (take (c.args.budget + 1) c.args.cells.now) ≡ c.args.budget + 1 = length-take-le _ _ ok.cells_room in
+    let cells_room : c.args.budget + 1 ≤ length c.args.cells.now = (ready job c.args.cells.now c.args.words.now c.args.picks.now c.requires).cells_room in
+    let row_lent : length (take (c.args.budget + 1) c.args.cells.now) ≡ c.args.budget + 1 = length-take-le _ _ cells_room in
     sym row_lent
 
 pub overflow_mul-n : goal.overflow_mul-n
@@ -134,15 +98,8 @@ overflow_mul-n c =
     let counted : c.list_length-n.result * (c.args.budget / 64 + 1) ≡ needed = ap (λ (n : ℕ). n * (c.args.budget / 64 + 1)) labelled in
     let values : List ℕ = list_from c.args.values.now c.args.vbytes.now in
     let job : Job = job_of 1 (c.args.budget ∷ []) weights values [] in
-    let ok : Kept = let r = ready job c.args.cells.now c.args.words.now c.args.picks.now c.requires in
-    record {
-      bounds = r.bounds;
-      cells_room = r.cells_room;
-      words_room = r.words_room;
-      picks_room = r.picks_room;
-      words_64 = few_words (length weights) c.args.budget r.few (omega (arith, r.bounds.narrow));
-    } in
-    omega (arith, counted, ok.words_64)
+    let words_64 : needed < 18_446_744_073_709_551_616 = few_words (length weights) c.args.budget (ready job c.args.cells.now c.args.words.now c.args.picks.now c.requires).few (omega (arith, (ready job c.args.cells.now c.args.words.now c.args.picks.now c.requires).bounds.narrow)) in
+    omega (arith, counted, words_64)
 
 pub slice_bounds-pack-end-3 : goal.slice_bounds-pack-end-3
 unfolding job_of labels
@@ -153,15 +110,8 @@ slice_bounds-pack-end-3 c =
     let counted : c.list_length-n.result * (c.args.budget / 64 + 1) ≡ needed = ap (λ (n : ℕ). n * (c.args.budget / 64 + 1)) labelled in
     let values : List ℕ = list_from c.args.values.now c.args.vbytes.now in
     let job : Job = job_of 1 (c.args.budget ∷ []) weights values [] in
-    let ok : Kept = let r = ready job c.args.cells.now c.args.words.now c.args.picks.now c.requires in
-    record {
-      bounds = r.bounds;
-      cells_room = r.cells_room;
-      words_room = r.words_room;
-      picks_room = r.picks_room;
-      words_64 = few_words (length weights) c.args.budget r.few (omega (arith, r.bounds.narrow));
-    } in
-    omega (arith, counted, ok.words_room)
+    let words_room : needed ≤ length c.args.words.now = (ready job c.args.cells.now c.args.words.now c.args.picks.now c.requires).words_room in
+    omega (arith, counted, words_room)
 
 pub slice_bounds-pack-end-4 : goal.slice_bounds-pack-end-4
 unfolding job_of labels
@@ -172,15 +122,8 @@ slice_bounds-pack-end-4 c =
     let counted : c.list_length-n.result * (c.args.budget / 64 + 1) ≡ needed = ap (λ (n : ℕ). n * (c.args.budget / 64 + 1)) labelled in
     let values : List ℕ = list_from c.args.values.now c.args.vbytes.now in
     let job : Job = job_of 1 (c.args.budget ∷ []) weights values [] in
-    let ok : Kept = let r = ready job c.args.cells.now c.args.words.now c.args.picks.now c.requires in
-    record {
-      bounds = r.bounds;
-      cells_room = r.cells_room;
-      words_room = r.words_room;
-      picks_room = r.picks_room;
-      words_64 = few_words (length weights) c.args.budget r.few (omega (arith, r.bounds.narrow));
-    } in
-    let words_lent : length (take (c.list_length-n.result * (c.args.budget / 64 + 1)) c.args.words.now) ≡ needed = length-take-le _ _ (omega (arith, counted, ok.words_room)) ∙ counted in
+    let words_room : needed ≤ length c.args.words.now = (ready job c.args.cells.now c.args.words.now c.args.picks.now c.requires).words_room in
+    let words_lent : length (take (c.list_length-n.result * (c.args.budget / 64 + 1)) c.args.words.now) ≡ needed = length-take-le _ _ (omega (arith, counted, words_room)) ∙ counted in
     counted ∙ sym words_lent
 
 pub slice_bounds-pack-end-5 : goal.slice_bounds-pack-end-5
@@ -190,15 +133,8 @@ slice_bounds-pack-end-5 c =
     let labelled : c.list_length-n.result ≡ length weights = c.list_length-n.ensures in
     let values : List ℕ = list_from c.args.values.now c.args.vbytes.now in
     let job : Job = job_of 1 (c.args.budget ∷ []) weights values [] in
-    let ok : Kept = let r = ready job c.args.cells.now c.args.words.now c.args.picks.now c.requires in
-    record {
-      bounds = r.bounds;
-      cells_room = r.cells_room;
-      words_room = r.words_room;
-      picks_room = r.picks_room;
-      words_64 = few_words (length weights) c.args.budget r.few (omega (arith, r.bounds.narrow));
-    } in
-    omega (arith, labelled, ok.picks_room)
+    let picks_room : length weights ≤ length c.args.picks.now = (ready job c.args.cells.now c.args.words.now c.args.picks.now c.requires).picks_room in
+    omega (arith, labelled, picks_room)
 
 pub slice_bounds-pack-end-6 : goal.slice_bounds-pack-end-6
 slice_bounds-pack-end-6 c =
@@ -212,20 +148,15 @@ pack-left-requires c =
     let values : List ℕ = list_from c.args.values.now c.args.vbytes.now in
     let weights : List ℕ = list_from c.args.weights.now c.args.wbytes.now in
     let job : Job = job_of 1 (c.args.budget ∷ []) weights values [] in
-    let ok : Kept = let r = ready job c.args.cells.now c.args.words.now c.args.picks.now c.requires in
-    record {
-      bounds = r.bounds;
-      cells_room = r.cells_room;
-      words_room = r.words_room;
-      picks_room = r.picks_room;
-      words_64 = few_words (length weights) c.args.budget r.few (omega (arith, r.bounds.narrow));
-    } in
-    let row_lent : length (take (c.args.budget + 1) c.args.cells.now) ≡ c.args.budget + 1 = length-take-le _ _ ok.cells_room in
+    let bounds : Bounded (c.args.budget + 1) weights values = (ready job c.args.cells.now c.args.words.now c.args.picks.now c.requires).bounds in
+    let cells_room : c.args.budget + 1 ≤ length c.args.cells.now = (ready job c.args.cells.now c.args.words.now c.args.picks.now c.requires).cells_room in
+    let row_lent : length (take (c.args.budget + 1) c.args.cells.now) ≡ c.args.budget + 1 = length-take-le _ _ cells_room in
     let labelled : c.list_length-n.result ≡ length weights = c.list_length-n.ensures in
     let needed : ℕ = length weights * (c.args.budget / 64 + 1) in
     let counted : c.list_length-n.result * (c.args.budget / 64 + 1) ≡ needed = ap (λ (n : ℕ). n * (c.args.budget / 64 + 1)) labelled in
-    let words_lent : length (take (c.list_length-n.result * (c.args.budget / 64 + 1)) c.args.words.now) ≡ needed = length-take-le _ _ (omega (arith, counted, ok.words_room)) ∙ counted in
-    record { bounded = ok.bounds; row_len = (row_lent, (sym words_lent, sym (picks_lent c))) }
+    let words_room : needed ≤ length c.args.words.now = (ready job c.args.cells.now c.args.words.now c.args.picks.now c.requires).words_room in
+    let words_lent : length (take (c.list_length-n.result * (c.args.budget / 64 + 1)) c.args.words.now) ≡ needed = length-take-le _ _ (omega (arith, counted, words_room)) ∙ counted in
+    record { bounded = bounds; row_len = (row_lent, (sym words_lent, sym (picks_lent c))) }
 
 pub bounds-cells-most : goal.bounds-cells-most
 bounds-cells-most c = omega (arith, front_room c.pack-left.new.row c.args.cells.now (c.args.budget + 1) (row_long c))
@@ -236,15 +167,8 @@ overflow_cast-result c =
     let values : List ℕ = list_from c.args.values.now c.args.vbytes.now in
     let weights : List ℕ = list_from c.args.weights.now c.args.wbytes.now in
     let job : Job = job_of 1 (c.args.budget ∷ []) weights values [] in
-    let ok : Kept = let r = ready job c.args.cells.now c.args.words.now c.args.picks.now c.requires in
-    record {
-      bounds = r.bounds;
-      cells_room = r.cells_room;
-      words_room = r.words_room;
-      picks_room = r.picks_room;
-      words_64 = few_words (length weights) c.args.budget r.few (omega (arith, r.bounds.narrow));
-    } in
-    omega (arith, left_within c, ok.bounds.narrow)
+    let bounds : Bounded (c.args.budget + 1) weights values = (ready job c.args.cells.now c.args.words.now c.args.picks.now c.requires).bounds in
+    omega (arith, left_within c, bounds.narrow)
 
 pub overflow_sub-result : goal.overflow_sub-result
 overflow_sub-result c = left_within c

@@ -6,7 +6,7 @@ use Prim.Native.Nat.{ℕ}
 use mathlib.Core.Bool.{false}
 use mathlib.Core.List.{List, [], ◌∷◌}
 use lib.ListN.{length}
-use Rattle.meaning.specs.Job.{Job, all_kinds, job_of, kind_of, labels, subset-sums}
+use Rattle.meaning.specs.Job.{Job, all_kinds, job_of, kind_of, labels, subset_sums}
 use Rattle.meaning.specs.Lent.{Lent, lent_of, room_by, room_of}
 use Rattle.meaning.specs.Refusals.{claims_fit, rules_of, weight_rules}
 use Rattle.meaning.specs.Solved.{Unrefused}
@@ -40,11 +40,11 @@ abbrev chosen : tie.After-refusal → tie.After-sums-rules
 chosen c = c.before.before
 
 lowest : (c : tie.After-refusal) (cells picks : List ℕ)
-    → let s = entry (chosen c) in Lowest subset-sums (job s) (lent s cells picks) c.refusal.result
+    → let s = entry (chosen c) in Lowest subset_sums (job s) (lent s cells picks) c.refusal.result
 unfolding job_of labels lent_of room_by room_of kind_of all_kinds
 lowest c cells picks =
     let s = entry (chosen c) in
-    asked subset-sums (job s) (lent s cells picks) _ false c.before.sums-room.result 0 _ 0 c.refusal.result
+    asked subset_sums (job s) (lent s cells picks) _ false c.before.sums-room.result 0 _ 0 c.refusal.result
     (record {
       of_kind = refl;
       its_rules = (chosen c).sums-rules.ensures.0;
@@ -78,7 +78,7 @@ unfolding claims_fit rules_of weight_rules
 solve-requires c κs =
     let passed = c.before in
     let s = entry (chosen passed.before) in
-    subst (λ (j : Job). Unrefused subset-sums j (lent s [] [])) (alone passed) (let_in (lowest passed.before [] []) passed.if1.false refl)
+    subst (λ (j : Job). Unrefused subset_sums j (lent s [] [])) (alone passed) (let_in (lowest passed.before [] []) passed.if1.false refl)
 
 same_length : tie.Need-same-length
 same_length c = search rules

@@ -5,7 +5,7 @@ use Prim.Native.Nat.{ℕ}
 use mathlib.Core.Bool.{false}
 use mathlib.Core.List.{List, [], ◌∷◌}
 use lib.ListN.{length}
-use Rattle.meaning.specs.Job.{Job, all_kinds, job_of, kind_of, labels, labels-behind}
+use Rattle.meaning.specs.Job.{Job, all_kinds, job_of, kind_of, labels, labels_behind}
 use Rattle.meaning.specs.Lent.{Lent, lent_of, room_by, room_of}
 use Rattle.meaning.specs.Refusals.{claims_fit, rules_of, weight_rules}
 use Rattle.meaning.specs.Solved.{Unrefused}
@@ -39,17 +39,17 @@ entry c = c.before.before.before.before.before.before.before.before.before
 abbrev counted : tie.After-refusal → tie.After-list-length
 counted c = c.before.before.before
 
-lowest : (c : tie.After-refusal) (words : List ℕ) → let s = entry (counted c) in Lowest labels-behind (job s) (lent s words) c.refusal.result
+lowest : (c : tie.After-refusal) (words : List ℕ) → let s = entry (counted c) in Lowest labels_behind (job s) (lent s words) c.refusal.result
 unfolding job_of labels lent_of room_by room_of kind_of all_kinds
 lowest c words =
     let s = entry (counted c) in
     let room = c.before.row_room in
-    asked labels-behind (job s) (lent s words) _ false room.result _ 0 _ c.refusal.result
+    asked labels_behind (job s) (lent s words) _ false room.result _ 0 _ c.refusal.result
     (record {
       of_kind = refl;
       its_rules = c.before.before.sums-rules.ensures.1;
       its_room = λ few small.
-          subst (λ (n : ℕ). NeededBy labels-behind n s.args.budget room.result) (counted c).list_length.ensures room.ensures.1;
+          subst (λ (n : ℕ). NeededBy labels_behind n s.args.budget room.result) (counted c).list_length.ensures room.ensures.1;
       in_cells = refl;
       in_words = unneeded 0 0 (length words) refl;
       in_picks = refl;
@@ -82,7 +82,7 @@ unfolding claims_fit rules_of weight_rules
 solve-requires c κs =
     let passed = c.before.before in
     let s = entry (counted passed.before) in
-    subst (λ (j : Job). Unrefused labels-behind j (lent s [])) (alone passed) (let_in (lowest passed.before []) passed.if1.false refl)
+    subst (λ (j : Job). Unrefused labels_behind j (lent s [])) (alone passed) (let_in (lowest passed.before []) passed.if1.false refl)
 
 same_length : tie.Need-same-length
 same_length c = search rules

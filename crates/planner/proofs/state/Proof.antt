@@ -3,7 +3,7 @@
 use mathlib.Core.Path.{◌≡◌, refl, subst}
 use Prim.Native.Nat.{ℕ}
 use mathlib.Core.List.{List, [], ◌∷◌}
-use Rattle.meaning.specs.Job.{Job, job_of, stated-share}
+use Rattle.meaning.specs.Job.{Job, job_of, stated_share}
 use Rattle.meaning.specs.Lent.{Lent, lent_of}
 use Rattle.meaning.specs.Refusals.{claims_fit, has_copies, knapsack_rules, rules_of}
 use Rattle.meaning.specs.Solved.{Unrefused}
@@ -34,7 +34,7 @@ module _ (s : tie.Start) where
 abbrev entry : tie.After-stated-refusal → tie.Start
 entry c = c.before.before.before.before.before.before.before.before.before
 
-lowest : (c : tie.After-stated-refusal) (words : List ℕ) → Lowest stated-share (job (entry c)) (lent (entry c) words) c.stated-refusal.result
+lowest : (c : tie.After-stated-refusal) (words : List ℕ) → Lowest stated_share (job (entry c)) (lent (entry c) words) c.stated-refusal.result
 unfolding job_of
 lowest c words = stated_lowest (job (entry c)) (entry c).args.cells.now words (entry c).args.picks.now _ refl c.stated-refusal.ensures
 
@@ -55,7 +55,7 @@ unfolding claims_fit rules_of knapsack_rules
 solve-requires c κs =
     let passed = c.before.before in
     let s = entry passed.before in
-    subst (λ (j : Job). Unrefused stated-share j (lent s [])) (alone passed) (let_in (lowest passed.before []) passed.if1.false refl)
+    subst (λ (j : Job). Unrefused stated_share j (lent s [])) (alone passed) (let_in (lowest passed.before []) passed.if1.false refl)
 
 same_length : tie.Need-same-length
 same_length c = search rules

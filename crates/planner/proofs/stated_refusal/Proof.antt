@@ -6,7 +6,7 @@ use native.Mathlib.Omega.{arith}
 use mathlib.Core.Bool.{false, true}
 use mathlib.Core.List.{List}
 use borrow.Author.Tests.{not-true, not-false}
-use Rattle.meaning.specs.Job.{Job, job_of, labels, once, packing, stated-share, kind_of, all_kinds}
+use Rattle.meaning.specs.Job.{Job, job_of, labels, once, packing, stated_share, kind_of, all_kinds}
 use Rattle.meaning.specs.Cuts.{stated_cells}
 use Rattle.meaning.specs.Refusals.{job_refusal, rules_of}
 use Rattle.numbers.specs.TwoSlices.{list_from}
@@ -64,7 +64,7 @@ module _ (c : tie.Else2) where
   within = sym c.before.q-fits.ensures ∙ not-false _ c.if2.false
 
   -- so the room is asked about
-  room_next : (later : ℕ) → later ≡ job_refusal (rules_of stated-share) (its_job asked) later
+  room_next : (later : ℕ) → later ≡ job_refusal (rules_of stated_share) (its_job asked) later
   room_next later =
       then_room (budget asked) (q asked) (weights asked) (values asked) (copies asked) (rules asked) asked.job-refusal.result (its_rules asked)
       (asked.job-refusal.ensures 9 false) first.if1.left within later

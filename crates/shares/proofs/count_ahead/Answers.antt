@@ -13,10 +13,12 @@ use Rattle.shares.proofs.Starts.{start_kept}
 use Rattle.shares.proofs.Borders.{ahead_more}
 use Rattle.shares.proofs.count_ahead.Goals as goal
 
-more : (c : goal.After-ahead) → c.loop-i.count + bool_byte c.ahead.result ≡ among (c.loop-i.i + 1)
-more c =
+more : (c : goal.After-ahead) →
     let job : Job = claims_job c.args.budget c.args.weights.now c.args.wbytes.now in
     let among : ℕ → ℕ = λ i. tally (ahead_in (job) c.args.border) (up_to i) in
+    c.loop-i.count + bool_byte c.ahead.result ≡ among (c.loop-i.i + 1)
+more c =
+    let job : Job = claims_job c.args.budget c.args.weights.now c.args.wbytes.now in
     let rest = c.remainder_at-rest in
     ahead_more (job) c.args.border c.loop-i.i c.loop-i.count rest.result c.ahead.result c.ahead.ensures rest.ensures
     c.loop-i.invariant.1
@@ -30,7 +32,8 @@ pub remainder_at-rest-requires : goal.remainder_at-rest-requires
 unfolding job_of labels
 remainder_at-rest-requires c =
     let job : Job = claims_job c.args.budget c.args.weights.now c.args.wbytes.now in
-    start_kept job c.args.claimed c.args.starts.now c.loop-i.i c.requires (omega arith)
+    let kept = start_kept job c.args.claimed c.args.starts.now c.loop-i.i c.requires (omega arith) in
+    record { claimed_value = kept.0; start_value = kept.1 }
 
 pub overflow_cast-count : goal.overflow_cast-count
 overflow_cast-count c = tt

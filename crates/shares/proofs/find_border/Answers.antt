@@ -1,6 +1,5 @@
 -- `find_border` finds where the units run out.
 use mathlib.Core.Path.{◌≡◌, ap, ◌∙◌}
-use mathlib.Core.Logic.{inl, inr}
 use Prim.Native.Nat.{◌+◌, ◌-◌, ◌*◌, ◌/◌, ◌≤◌, ◌<◌}
 use native.Mathlib.Omega.{arith}
 use lib.Dec.{eqb}
@@ -13,12 +12,14 @@ use Rattle.shares.proofs.Starts.{one_at_most}
 use Rattle.shares.proofs.Borders.{next_lowest, not_at_least, none_found, some_span}
 use Rattle.shares.proofs.Borders.{low_up, high_down, still_some, none_between, just_enough}
 use Rattle.shares.proofs.find_border.Goals as goal
+use Rattle.shares.proofs.find_border.Goals.{then-loop-found-test+else-high-low-gt1, else-loop-found-test}
 
-near : (c : goal.After-struct_known-then-close-1) → let l = c.loop-found in
+near : (c : goal.After-struct_known-then-close-1) →
+    let job : Job = claims_job c.args.budget c.args.weights.now c.args.wbytes.now in
+    let l = c.loop-found in
     let reach = c.reach_between-reach.result in
     Reaches (job) (labels (job)) l.low l.high reach.least reach.greatest
 near c =
-    let job : Job = claims_job c.args.budget c.args.weights.now c.args.wbytes.now in
     rw c.requires.leaves.started.long at c.reach_between-reach.ensures
 
 still : (c : goal.After-struct_known-then-close-1) → c.reach_between-reach.result.least < c.reach_between-reach.result.greatest + 1
@@ -98,8 +99,8 @@ returns c =
     let spare = c.args.leavings.spare in
     let units = c.requires.leaves.units in
     elim c.loop-found-test.branch [
-      | inl met ↦
-          let close : l.high ≤ l.low + 1 = omega (arith, ltb-false 1 (l.high - l.low) met.1.left) in
+      | then-loop-found-test+else-high-low-gt1 w ↦
+          let close : l.high ≤ l.low + 1 = omega (arith, w.if-high-low-gt1.false) in
           none_between job l.low l.high l.found spare units l.invariant.2 l.invariant.3 l.invariant.4 close
-      | inr enough ↦ just_enough job l.low l.high l.found spare units l.invariant.2 l.invariant.3 l.invariant.4 enough.left
+      | else-loop-found-test w ↦ just_enough job l.low l.high l.found spare units l.invariant.2 l.invariant.3 l.invariant.4 w.loop-found-test.false
     ]

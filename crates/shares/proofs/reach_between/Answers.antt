@@ -19,7 +19,8 @@ pub remainder_at-rest-requires : goal.remainder_at-rest-requires
 unfolding job_of labels
 remainder_at-rest-requires c =
     let job : Job = claims_job c.args.budget c.args.weights.now c.args.wbytes.now in
-    start_kept job c.args.claimed c.args.starts.now c.loop-i.i c.requires.0 (omega arith)
+    let kept = start_kept job c.args.claimed c.args.starts.now c.loop-i.i c.requires.0 (omega arith) in
+    record { claimed_value = kept.0; start_value = kept.1 }
 
 pub loop-i-preserved : goal.loop-i-preserved
 loop-i-preserved c =

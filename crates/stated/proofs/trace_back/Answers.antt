@@ -32,12 +32,16 @@ cell c =
     cell_of c.args.budget weights c.args.width c.args.cells.now
 
 -- the last row ends with the table
-last : (c : goal.After-slice_known-1) → row_of c.args.budget weights (length weights) * c.args.width + c.args.width ≡ length c.args.cells.now
+last : (c : goal.After-slice_known-1) →
+    let weights : List ℕ = list_from c.args.weights.now c.args.wbytes.now in
+    row_of c.args.budget weights (length weights) * c.args.width + c.args.width ≡ length c.args.cells.now
 last c =
     let weights : List ℕ = list_from c.args.weights.now c.args.wbytes.now in
     last_row c.args.budget weights c.args.width c.requires.roomy.0
 
-cut_is : (c : goal.After-differ-x) → c.item-v.result / c.args.divisor ≡ at (cuts c) (i)
+cut_is : (c : goal.After-differ-x) →
+    let i : ℕ = c.loop-i.i - 1 in
+    c.item-v.result / c.args.divisor ≡ at (cuts c) (i)
 cut_is c =
     let i : ℕ = c.loop-i.i - 1 in
     let d = c.args.divisor in
@@ -47,7 +51,9 @@ abbrev cut : (c : goal.After-differ-x) → ℕ
 cut c =
     c.item-v.result / c.args.divisor
 
-pick_is : (c : goal.After-differ-x) → c.differ-x.result ≡ apart (cell c (i) c.loop-i.t) (cell c (suc (i)) c.loop-i.t)
+pick_is : (c : goal.After-differ-x) →
+    let i : ℕ = c.loop-i.i - 1 in
+    c.differ-x.result ≡ apart (cell c (i) c.loop-i.t) (cell c (suc (i)) c.loop-i.t)
 pick_is c =
     let i : ℕ = c.loop-i.i - 1 in
     let weights : List ℕ = list_from c.args.weights.now c.args.wbytes.now in

@@ -25,5 +25,5 @@ returns c =
     let kept = c.fill.auto.words in
     tabled j words (length words) (c.trim.auto.words ∙ kept ∙ c.requires.1)
     (bit_table j (length a.words.now) c.fill.new.words words c.requires.1 c.fill.ensures (rw kept at c.trim.ensures)
-    (λ m. omega (arith, c.given m)))
+    (λ m. omega (arith, c.slice_known-3-1.given m)))
     yes.result c.count_totals-totals.result yes.ensures c.count_totals-totals.ensures
