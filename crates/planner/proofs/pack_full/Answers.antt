@@ -1,0 +1,67 @@
+-- `planner::pack_full` meets its contract: kinds 1 to 3, kind 1 the full way, are turned away by 3 to 6, or let in to `knapsack`.
+use mathlib.Core.Path.{refl, subst}
+use Prim.Native.Nat.{ℕ, min}
+use mathlib.Core.Bool.{false}
+use mathlib.Core.List.{List, [], ◌∷◌}
+use Rattle.meaning.specs.declared.Way.TheVariants.{Full}
+use Rattle.meaning.specs.Job.{Job, Kind, packing, job_of, labels}
+use Rattle.meaning.specs.Lent.{Lent, lent_of, room_by}
+use Rattle.meaning.specs.Bounds.{most_labels, most_budget}
+use Rattle.meaning.specs.Refusals.{claims_fit, knapsack_rules, rules_of}
+use Rattle.meaning.specs.SolvedIn.{SolvedInCellsBy}
+use Rattle.numbers.specs.TwoSlices.{job_from}
+use Rattle.knapsack.proofs.KnapsackDoor.{words_needed}
+use Rattle.rules.specs.Places.{NeededFor}
+use Rattle.rules.proofs.Places.{needed_within}
+use Rattle.rules.proofs.Ruling.{KnapsackOf, knapsack_of}
+use Rattle.planner.proofs.Preamble.{LowestBy, asked, let_in, turned_away, unneeded}
+use borrow.Author.Rules.{rules}
+use Rattle.planner.proofs.pack_full.Goals as goal
+
+pub returns-then-refused-ne0 : goal.returns-then-refused-ne0
+unfolding SolvedInCellsBy job_of knapsack_rules labels lent_of rules_of
+returns-then-refused-ne0 c words =
+    let job : Job = job_from c.args.kind (c.args.budget ∷ []) c.args.weights.now c.args.wbytes.now
+    c.args.values.now c.args.vbytes.now c.args.copies.now c.args.cbytes.now in
+    let one_of_three : KnapsackOf c.args.kind = knapsack_of c.args.kind c.requires.0 c.requires.1 in
+    let kind : Kind = packing one_of_three.knapsack in
+    let lent : List ℕ → Lent = λ words. lent_of c.args.cells.now words c.args.picks.now in
+    let lowest : (words : List ℕ) → LowestBy Full kind job (lent words) c.refusal-refused.result = λ words. let k = one_of_three in
+    let room = c.knapsack_room-room in
+    asked kind job (lent words) _ false room.result _ 0 _ c.refusal-refused.result
+    (record {
+      of_kind = k.of_kind;
+      its_rules = c.knapsack_rules-rules.ensures k.knapsack k.of_kind;
+      its_room = λ few small. needed_within Full _ _ _ _ few small
+          (subst (λ (n : ℕ). NeededFor Full kind (min n most_labels) (min c.args.budget most_budget) room.result) c.list_length-n.ensures
+          (room.ensures k.knapsack k.of_kind));
+      in_cells = refl;
+      in_words = unneeded (room_by Full kind job).words 0 _ (words_needed k.knapsack job);
+      in_picks = refl;
+    })
+    (c.refusal-refused.ensures c.args.kind false) in
+    turned_away (lowest words) c.if-refused-ne0.true
+
+pub solve-requires : goal.solve-requires
+unfolding claims_fit job_of knapsack_rules labels lent_of rules_of
+solve-requires c =
+    let job : Job = job_from c.args.kind (c.args.budget ∷ []) c.args.weights.now c.args.wbytes.now
+    c.args.values.now c.args.vbytes.now c.args.copies.now c.args.cbytes.now in
+    let one_of_three : KnapsackOf c.args.kind = knapsack_of c.args.kind c.requires.0 c.requires.1 in
+    let kind : Kind = packing one_of_three.knapsack in
+    let lent : List ℕ → Lent = λ words. lent_of c.args.cells.now words c.args.picks.now in
+    let lowest : (words : List ℕ) → LowestBy Full kind job (lent words) c.refusal-refused.result = λ words. let k = one_of_three in
+    let room = c.knapsack_room-room in
+    asked kind job (lent words) _ false room.result _ 0 _ c.refusal-refused.result
+    (record {
+      of_kind = k.of_kind;
+      its_rules = c.knapsack_rules-rules.ensures k.knapsack k.of_kind;
+      its_room = λ few small. needed_within Full _ _ _ _ few small
+          (subst (λ (n : ℕ). NeededFor Full kind (min n most_labels) (min c.args.budget most_budget) room.result) c.list_length-n.ensures
+          (room.ensures k.knapsack k.of_kind));
+      in_cells = refl;
+      in_words = unneeded (room_by Full kind job).words 0 _ (words_needed k.knapsack job);
+      in_picks = refl;
+    })
+    (c.refusal-refused.ensures c.args.kind false) in
+    record { knapsack = one_of_three.knapsack; unrefused = let_in (lowest []) c.if-refused-ne0.false refl }

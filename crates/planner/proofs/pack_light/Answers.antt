@@ -1,0 +1,84 @@
+-- `planner::pack_light` meets its contract: kind 1 is turned away by 3 to 6, or let in to `light`.
+use mathlib.Core.Path.{◌≡◌, refl, subst}
+use Prim.Native.Nat.{ℕ, min}
+use mathlib.Core.Bool.{false}
+use mathlib.Core.List.{[], ◌∷◌}
+use Rattle.meaning.specs.declared.Way.TheVariants.{Light}
+use Rattle.meaning.specs.Job.{Job, packing, once, job_of, kind_of, all_kinds, labels}
+use Rattle.meaning.specs.Lent.{Lent, lent_of}
+use Rattle.meaning.specs.Bounds.{most_labels, most_budget}
+use Rattle.meaning.specs.Refusals.{claims_fit, has_copies, knapsack_rules, rules_of}
+use Rattle.meaning.specs.Solved.{Unrefused}
+use Rattle.numbers.specs.TwoSlices.{job_from, list_from}
+use Rattle.rules.specs.Places.{NeededBy}
+use Rattle.rules.proofs.Places.{needed_within}
+use Rattle.planner.proofs.Preamble.{Lowest, asked, let_in, turned_away, without_copies}
+use borrow.Author.Rules.{rules}
+use Rattle.planner.proofs.pack_light.Goals as goal
+
+pub returns-then-refused-ne0 : goal.returns-then-refused-ne0
+unfolding all_kinds job_of kind_of knapsack_rules labels lent_of rules_of
+returns-then-refused-ne0 c =
+    let job : Job = job_from 1 (c.args.budget ∷ []) c.args.weights.now c.args.wbytes.now
+    c.args.values.now c.args.vbytes.now c.args.copies.now c.args.cbytes.now in
+    let lent : Lent = lent_of c.args.cells.now c.args.words.now c.args.picks.now in
+    let lowest : Lowest (packing once) job lent c.refusal-refused.result = let room = c.light_room-room in
+    asked (packing once) job lent _ false room.result _ _ _ c.refusal-refused.result
+    (record {
+      of_kind = refl;
+      its_rules = c.knapsack_rules-rules.ensures once refl;
+      its_room = λ few small. needed_within Light _ _ _ _ few small
+          (subst (λ (n : ℕ). NeededBy (packing once) (min n most_labels) (min c.args.budget most_budget) room.result)
+          c.list_length-n.ensures room.ensures);
+      in_cells = refl;
+      in_words = refl;
+      in_picks = refl;
+    })
+    (c.refusal-refused.ensures 1 false) in
+    turned_away lowest c.if-refused-ne0.true
+
+pub solve-requires : goal.solve-requires
+unfolding all_kinds claims_fit has_copies job_of kind_of knapsack_rules labels lent_of rules_of
+solve-requires c =
+    let bare : Job = job_of 1 (c.args.budget ∷ []) (list_from c.args.weights.now c.args.wbytes.now) (list_from c.args.values.now c.args.vbytes.now) [] in
+    let job : Job = job_from 1 (c.args.budget ∷ []) c.args.weights.now c.args.wbytes.now
+    c.args.values.now c.args.vbytes.now c.args.copies.now c.args.cbytes.now in
+    let lent : Lent = lent_of c.args.cells.now c.args.words.now c.args.picks.now in
+    let lowest : Lowest (packing once) job lent c.refusal-refused.result = let room = c.light_room-room in
+    asked (packing once) job lent _ false room.result _ _ _ c.refusal-refused.result
+    (record {
+      of_kind = refl;
+      its_rules = c.knapsack_rules-rules.ensures once refl;
+      its_room = λ few small. needed_within Light _ _ _ _ few small
+          (subst (λ (n : ℕ). NeededBy (packing once) (min n most_labels) (min c.args.budget most_budget) room.result)
+          c.list_length-n.ensures room.ensures);
+      in_cells = refl;
+      in_words = refl;
+      in_picks = refl;
+    })
+    (c.refusal-refused.ensures 1 false) in
+    let alone : job ≡ bare = without_copies 1 (c.args.budget ∷ []) _ _ _ refl lowest c.if-refused-ne0.false in
+    subst (λ (j : Job). Unrefused (packing once) j lent) alone (let_in lowest c.if-refused-ne0.false refl)
+
+pub returns : goal.returns
+unfolding all_kinds has_copies job_of kind_of knapsack_rules labels lent_of rules_of
+returns c =
+    let bare : Job = job_of 1 (c.args.budget ∷ []) (list_from c.args.weights.now c.args.wbytes.now) (list_from c.args.values.now c.args.vbytes.now) [] in
+    let job : Job = job_from 1 (c.args.budget ∷ []) c.args.weights.now c.args.wbytes.now
+    c.args.values.now c.args.vbytes.now c.args.copies.now c.args.cbytes.now in
+    let lent : Lent = lent_of c.args.cells.now c.args.words.now c.args.picks.now in
+    let lowest : Lowest (packing once) job lent c.refusal-refused.result = let room = c.light_room-room in
+    asked (packing once) job lent _ false room.result _ _ _ c.refusal-refused.result
+    (record {
+      of_kind = refl;
+      its_rules = c.knapsack_rules-rules.ensures once refl;
+      its_room = λ few small. needed_within Light _ _ _ _ few small
+          (subst (λ (n : ℕ). NeededBy (packing once) (min n most_labels) (min c.args.budget most_budget) room.result)
+          c.list_length-n.ensures room.ensures);
+      in_cells = refl;
+      in_words = refl;
+      in_picks = refl;
+    })
+    (c.refusal-refused.ensures 1 false) in
+    let alone : job ≡ bare = without_copies 1 (c.args.budget ∷ []) _ _ _ refl lowest c.if-refused-ne0.false in
+    rw alone c.solve.ensures

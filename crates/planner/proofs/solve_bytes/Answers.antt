@@ -1,0 +1,6 @@
+-- `planner::solve_bytes` meets its contract: the answer that is told.
+use borrow.Author.Rules.{rules}
+use Rattle.planner.proofs.solve_bytes.Goals as goal
+
+pub returns : goal.returns
+returns c = c.tell-told.ensures.solved
