@@ -1,12 +1,15 @@
 // The program: one job from standard input, and its answer as the lines of document 01.
 #![tactic(auto)]
 
-ghost use Rattle.std.specs.Prelude.{◌≡◌, ◌≤◌, length};
+ghost use Rattle.std.specs.Prelude.{◌≡◌, ◌≤◌, ◌<◌, length, take, IfOk};
+ghost use Rattle.std.specs.Io.{ReadsAtMost};
+ghost use Rattle.std.specs.Io.KnownBytes.{Consumes, IsAtEnd};
 ghost use Rattle.plan.specs.Picks.{picks_written};
 ghost use Rattle.plan.specs.Replies.{JobReplied, Replied, lines_room};
 
-use libc::{STDIN_FILENO, STDOUT_FILENO};
 use meaning::Answer;
+use std::io;
+use std::io::Read;
 
 // How many bytes a job may have.
 const MOST_INPUT: usize = 16_384;
@@ -62,11 +65,28 @@ fn reply(input: &[u8], out: &mut [u8]) -> usize
     reply_to_job(input, out)
 }
 
+// Reads until the slice is full or the input ends, in whatever pieces it comes, and gives how many bytes it put there.
+fn read_input<R: Read>(reader: &mut R, input: &mut [u8]) -> io::Result<usize>
+    ensures bound { ReadsAtMost result input.new }
+    ensures bytes { IfOk result (λ n. Consumes (R.remaining reader.old) (R.remaining reader.new) (take n input.new)) }
+    ensures whole { IfOk result (λ n. n < length input.new → IsAtEnd (R.remaining reader.new)) }
+{
+    let mut filled = 0;
+    while filled < input.len() {
+        let count = reader.read(&mut input[filled..])?;
+        if count == 0 {
+            break;
+        }
+        filled += count;
+    }
+    Ok(filled)
+}
+
 // One byte more than a job may have is read, so that longer input shows.
-fn main() {
+fn main(rt: HostRuntime) -> io::Result<()> {
     let mut input = [0u8; MOST_INPUT + 1];
     let mut out = [0u8; LINES_ROOM];
-    let length = io::read_full(STDIN_FILENO, &mut input);
+    let length = read_input(&mut rt.stdin(), &mut input)?;
     let size = reply(&input[..length], &mut out);
-    io::write_all(STDOUT_FILENO, &out[..size]);
+    rt.write_all(&out[..size])
 }

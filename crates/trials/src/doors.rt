@@ -4,6 +4,7 @@ ghost use Rattle.std.specs.Prelude.{◌≤◌, length};
 
 use crate::lines;
 use meaning::{Answer, Way};
+use std::io;
 
 // Where the budgets' count stands.
 const BUDGETS: usize = 2;
@@ -81,9 +82,15 @@ pub fn lent(numbers: &[u32], which: usize, most: usize) -> usize
 }
 
 // Shows an answer with the picks of its labels.
-fn show(numbers: &[u32], answer: Answer, picks: [u32; PICKS], whole: bool) {
+fn show(
+    rt: &impl Print,
+    numbers: &[u32],
+    answer: Answer,
+    picks: [u32; PICKS],
+    whole: bool,
+) -> io::Result<()> {
     let n = lesser(wide(at(numbers, weights_place(numbers))), PICKS);
-    lines::show(at(numbers, 1), answer, &picks[0..n], whole);
+    lines::show(rt, at(numbers, 1), answer, &picks[0..n], whole)
 }
 
 // The planner's answer to job bytes.
@@ -144,7 +151,14 @@ fn solve(
 }
 
 // Its answer on what is lent, which held something else before.
-fn solve_and_show(way: Way, numbers: &[u32], job: &[u8], as_bytes: bool, whole: bool) {
+fn solve_and_show(
+    rt: &impl Print,
+    way: Way,
+    numbers: &[u32],
+    job: &[u8],
+    as_bytes: bool,
+    whole: bool,
+) -> io::Result<()> {
     let c = lent(numbers, 1, CELLS);
     let w = lent(numbers, 2, WORDS);
     let p = lent(numbers, 3, PICKS);
@@ -160,7 +174,7 @@ fn solve_and_show(way: Way, numbers: &[u32], job: &[u8], as_bytes: bool, whole: 
         &mut words[0..w],
         &mut picks[0..p],
     );
-    show(numbers, answer, picks, whole);
+    show(rt, numbers, answer, picks, whole)
 }
 
 // Puts numbers as bytes, four of each, lowest first. Answers how many bytes they are.
@@ -177,18 +191,24 @@ fn put_bytes(numbers: &[u32], bytes: &mut [u8]) -> usize
 }
 
 // Its answer to the job as bytes, after how many they are.
-fn by_bytes(way: Way, numbers: &[u32], whole: bool) {
+fn by_bytes(rt: &impl Print, way: Way, numbers: &[u32], whole: bool) -> io::Result<()> {
     let end = lesser(end_of_job(numbers), numbers.len());
     let mut bytes = [0u8; BYTES];
     let size = put_bytes(&numbers[0..end], &mut bytes);
-    lines::size(size);
-    solve_and_show(way, numbers, &bytes[0..size], true, whole);
+    lines::size(rt, size)?;
+    solve_and_show(rt, way, numbers, &bytes[0..size], true, whole)
 }
 
 // Its answer by one of the doors.
-pub fn answer(way: Way, numbers: &[u32], as_bytes: bool, whole: bool) {
+pub fn answer(
+    rt: &impl Print,
+    way: Way,
+    numbers: &[u32],
+    as_bytes: bool,
+    whole: bool,
+) -> io::Result<()> {
     if as_bytes {
-        return by_bytes(way, numbers, whole);
+        return by_bytes(rt, way, numbers, whole);
     }
-    solve_and_show(way, numbers, b"", false, whole);
+    solve_and_show(rt, way, numbers, b"", false, whole)
 }

@@ -1,62 +1,69 @@
 // What is printed: an answer as its lines, or within a line.
 ghost use Rattle.std.specs.Prelude.{◌≤◌, length};
 
-use bytes::scan::find;
-use libc::STDOUT_FILENO;
+use crate::reading::find;
 use meaning::Answer;
+use std::io;
 
 // Some text, with no line end.
-pub fn text(words: &[u8]) {
-    io::write_all(STDOUT_FILENO, words);
+pub fn text(rt: &impl Print, words: &[u8]) -> io::Result<()> {
+    rt.write_all(words)
 }
 
 // How many bytes a job is.
-pub fn size(count: usize) {
-    text(b" as ");
-    io::print_decimal(STDOUT_FILENO, count as u64);
-    text(b" bytes");
+pub fn size(rt: &impl Print, count: usize) -> io::Result<()> {
+    text(rt, b" as ")?;
+    rt.print(count)?;
+    text(rt, b" bytes")
 }
 
 // A line of an answer within another line, by its first byte: its kind and its picks are left out.
-fn within(first: u8, line: &[u8]) {
+fn within(rt: &impl Print, first: u8, line: &[u8]) -> io::Result<()> {
     match first {
-        b'k' | b'p' => {}
+        b'k' | b'p' => Ok(()),
         _ => {
-            text(b" ");
-            text(line);
+            text(rt, b" ")?;
+            text(rt, line)
         }
     }
 }
 
 // The lines of an answer within a line.
-fn all_within(lines: &[u8]) {
+fn all_within(rt: &impl Print, lines: &[u8]) -> io::Result<()> {
     let mut place = 0;
     while place < lines.len() {
-        let end = find(lines, place, lines.len(), b'\n');
-        within(lines[place], &lines[place..end]);
+        let end = find(lines, place, b'\n');
+        within(rt, lines[place], &lines[place..end])?;
         place = end + 1;
     }
+    Ok(())
 }
 
 // The lines of an answer, after the line that names its job.
-fn whole_lines(lines: &[u8]) {
-    text(b"\n");
-    text(lines);
+fn whole_lines(rt: &impl Print, lines: &[u8]) -> io::Result<()> {
+    text(rt, b"\n")?;
+    text(rt, lines)
 }
 
 // The lines of an answer, whole or within a line.
-fn put(lines: &[u8], whole: bool) {
+fn put(rt: &impl Print, lines: &[u8], whole: bool) -> io::Result<()> {
     if whole {
-        return whole_lines(lines);
+        return whole_lines(rt, lines);
     }
-    all_within(lines);
+    all_within(rt, lines)
 }
 
 // An answer. Its lines take at most 128 bytes and 21 for each of 4,096 picks.
-pub fn show(kind: u32, answer: Answer, picks: &[u32], whole: bool)
+pub fn show(
+    rt: &impl Print,
+    kind: u32,
+    answer: Answer,
+    picks: &[u32],
+    whole: bool,
+) -> io::Result<()>
     requires { length picks.now ≤ 4_096 }
 {
     let mut out = [0u8; 86_144];
     let size = print::text(kind, answer, picks, &mut out);
-    put(&out[0..size], whole);
+    put(rt, &out[0..size], whole)
 }

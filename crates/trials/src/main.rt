@@ -9,81 +9,108 @@ mod lines;
 mod quickly;
 mod reading;
 
-use bytes::scan::find;
-use libc::STDIN_FILENO;
+ghost use Rattle.std.specs.Io.{ReadsAtMost};
+
 use meaning::Way;
+use reading::find;
+use std::io;
+use std::io::Read;
 
 // Has the job after a place of a line answered and printed. Answers the place after the job.
-fn run_job(way: Way, line: &[u8], place: usize, as_bytes: bool, whole: bool) -> usize {
+fn run_job(
+    rt: &impl Print,
+    way: Way,
+    line: &[u8],
+    place: usize,
+    as_bytes: bool,
+    whole: bool,
+) -> io::Result<usize> {
     let mut numbers = [0u32; 16_384];
     let end = reading::read_job(line, place, &mut numbers);
-    doors::answer(way, &numbers, as_bytes, whole);
-    end
+    doors::answer(rt, way, &numbers, as_bytes, whole)?;
+    Ok(end)
 }
 
 // The two jobs of a bound.
-fn run_bound(line: &[u8], colon: usize, as_bytes: bool) {
-    lines::text(b":");
-    let slash = run_job(Way::Light, line, colon, as_bytes, false);
-    lines::text(b", then");
-    run_job(Way::Light, line, slash, as_bytes, false);
-    lines::text(b"\n");
+fn run_bound(rt: &impl Print, line: &[u8], colon: usize, as_bytes: bool) -> io::Result<()> {
+    lines::text(rt, b":")?;
+    let slash = run_job(rt, Way::Light, line, colon, as_bytes, false)?;
+    lines::text(rt, b", then")?;
+    run_job(rt, Way::Light, line, slash, as_bytes, false)?;
+    lines::text(rt, b"\n")
 }
 
 // The job of a quick answer.
-fn run_quick(line: &[u8], colon: usize) {
-    lines::text(b"\n");
+fn run_quick(rt: &impl Print, line: &[u8], colon: usize) -> io::Result<()> {
+    lines::text(rt, b"\n")?;
     let mut numbers = [0u32; 16_384];
     reading::read_job(line, colon, &mut numbers);
-    quickly::answer(&numbers);
+    quickly::answer(rt, &numbers)
 }
 
 // A case, a bound or a quick answer, after its name.
-fn trial(way: Way, line: &[u8], as_bytes: bool) {
-    let colon = find(line, 0, line.len(), b':');
+fn trial(rt: &impl Print, way: Way, line: &[u8], as_bytes: bool) -> io::Result<()> {
+    let colon = find(line, 0, b':');
     if colon == 0 {
-        return;
+        return Ok(());
     }
-    lines::text(&line[1..colon]);
+    lines::text(rt, &line[1..colon])?;
     match line[0] {
-        b'>' => run_bound(line, colon, as_bytes),
-        b'~' => run_quick(line, colon),
+        b'>' => run_bound(rt, line, colon, as_bytes),
+        b'~' => run_quick(rt, line, colon),
         _ => {
-            run_job(way, line, colon, as_bytes, true);
+            run_job(rt, way, line, colon, as_bytes, true)?;
+            Ok(())
         }
     }
 }
 
 // A case or a bound, as lists and as bytes.
-fn both(way: Way, line: &[u8]) {
-    trial(way, line, false);
-    trial(way, line, true);
+fn both(rt: &impl Print, way: Way, line: &[u8]) -> io::Result<()> {
+    trial(rt, way, line, false)?;
+    trial(rt, way, line, true)
 }
 
 // One line of the list.
-fn run_line(line: &[u8]) {
+fn run_line(rt: &impl Print, line: &[u8]) -> io::Result<()> {
     let mark = if 0 < line.len() { line[0] } else { 0 };
     match mark {
-        b'-' | b'>' => both(Way::Light, line),
-        b'=' => both(Way::Full, line),
-        b'~' => trial(Way::Light, line, false),
-        _ => {}
+        b'-' | b'>' => both(rt, Way::Light, line),
+        b'=' => both(rt, Way::Full, line),
+        b'~' => trial(rt, Way::Light, line, false),
+        _ => Ok(()),
     }
 }
 
 // All lines of a text.
-fn run_lines(text: &[u8]) {
+fn run_lines(rt: &impl Print, text: &[u8]) -> io::Result<()> {
     let mut place = 0;
     while place < text.len() {
-        let end = find(text, place, text.len(), b'\n');
-        run_line(&text[place..end]);
+        let end = find(text, place, b'\n');
+        run_line(rt, &text[place..end])?;
         place = end + 1;
     }
+    Ok(())
+}
+
+// Reads until the slice is full or the input ends, in whatever pieces it comes, and gives how many bytes it put there.
+fn read_input<R: Read>(reader: &mut R, input: &mut [u8]) -> io::Result<usize>
+    ensures { ReadsAtMost result input.new }
+{
+    let mut filled = 0;
+    while filled < input.len() {
+        let count = reader.read(&mut input[filled..])?;
+        if count == 0 {
+            break;
+        }
+        filled += count;
+    }
+    Ok(filled)
 }
 
 // Runs the trials of the list.
-fn main() {
+fn main(rt: HostRuntime) -> io::Result<()> {
     let mut text = [0u8; 16_384];
-    let length = io::read_full(STDIN_FILENO, &mut text);
-    run_lines(&text[..length]);
+    let length = read_input(&mut rt.stdin(), &mut text)?;
+    run_lines(&rt, &text[..length])
 }

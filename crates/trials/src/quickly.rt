@@ -3,43 +3,44 @@
 ghost use Rattle.std.specs.Prelude.{◌≤◌};
 
 use crate::{doors, lines};
-use libc::STDOUT_FILENO;
 use meaning::Quick;
+use std::io;
 
 // A number, after a blank.
-fn number(x: u64) {
-    lines::text(b" ");
-    io::print_decimal(STDOUT_FILENO, x);
+fn number(rt: &impl Print, x: u64) -> io::Result<()> {
+    lines::text(rt, b" ")?;
+    rt.print(x)
 }
 
 // A line of a name and a number.
-fn line(name: &[u8], x: u64) {
-    lines::text(name);
-    number(x);
-    lines::text(b"\n");
+fn line(rt: &impl Print, name: &[u8], x: u64) -> io::Result<()> {
+    lines::text(rt, name)?;
+    number(rt, x)?;
+    lines::text(rt, b"\n")
 }
 
 // The lines that tell which list is the worthier, and what it is worth.
-fn worthier(which: u64, value: u64) {
-    line(b"list", which);
-    line(b"value", value);
+fn worthier(rt: &impl Print, which: u64, value: u64) -> io::Result<()> {
+    line(rt, b"list", which)?;
+    line(rt, b"value", value)
 }
 
 // The picks, within their line.
-fn all_picks(picks: &[u32]) {
+fn all_picks(rt: &impl Print, picks: &[u32]) -> io::Result<()> {
     let mut label = 0;
     while label < picks.len() {
         let count = doors::wide(picks[label]);
-        number(count as u64);
+        number(rt, count as u64)?;
         label += 1;
     }
+    Ok(())
 }
 
 // The line of picks.
-fn picks_line(picks: &[u32]) {
-    lines::text(b"picks");
-    all_picks(picks);
-    lines::text(b"\n");
+fn picks_line(rt: &impl Print, picks: &[u32]) -> io::Result<()> {
+    lines::text(rt, b"picks")?;
+    all_picks(rt, picks)?;
+    lines::text(rt, b"\n")
 }
 
 // The job's budget.
@@ -68,7 +69,7 @@ fn places(numbers: &[u32], which: usize) -> usize
 }
 
 // Fills two lists, which held something else before, and prints what is told of them.
-fn show_told(numbers: &[u32]) {
+fn show_told(rt: &impl Print, numbers: &[u32]) -> io::Result<()> {
     let f = places(numbers, 1);
     let s = places(numbers, 2);
     let mut first = [9u32; doors::PICKS];
@@ -81,14 +82,14 @@ fn show_told(numbers: &[u32]) {
         &mut second[0..s],
     );
     match told {
-        Quick::Refused(refused) => line(b"refused", refused as u64),
-        Quick::First(value) => worthier(1, value),
-        Quick::Second(value) => worthier(2, value),
+        Quick::Refused(refused) => line(rt, b"refused", refused as u64),
+        Quick::First(value) => worthier(rt, 1, value),
+        Quick::Second(value) => worthier(rt, 2, value),
     }
 }
 
 // Has the picks of two others handed back, and prints them.
-fn show_picks(numbers: &[u32]) {
+fn show_picks(rt: &impl Print, numbers: &[u32]) -> io::Result<()> {
     let f = places(numbers, 1);
     let s = places(numbers, 2);
     let mut first = [9u32; doors::PICKS];
@@ -100,11 +101,11 @@ fn show_picks(numbers: &[u32]) {
         &mut first[0..f],
         &mut second[0..s],
     );
-    picks_line(picks);
+    picks_line(rt, picks)
 }
 
 // The quick answer to a job.
-pub fn answer(numbers: &[u32]) {
+pub fn answer(rt: &impl Print, numbers: &[u32]) -> io::Result<()> {
     let refused = quick::refusal(
         budget(numbers),
         weights(numbers),
@@ -113,8 +114,8 @@ pub fn answer(numbers: &[u32]) {
         places(numbers, 2),
     );
     if refused != 0 {
-        return line(b"refused", refused as u64);
+        return line(rt, b"refused", refused as u64);
     }
-    show_told(numbers);
-    show_picks(numbers);
+    show_told(rt, numbers)?;
+    show_picks(rt, numbers)
 }

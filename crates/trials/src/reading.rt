@@ -1,7 +1,27 @@
 // The list of trials, read. A line is a mark, a name and a colon, and then a job, or two with a slash between them. A job is its kind, its budgets,
 // its weights, its values, its copies, and how many cells, words and picks are lent, or how many places of each list of a quick answer, with a semicolon
 // between these lists. Each number has a blank before it, and 1x4 stands for 1 1 1 1. What is left out at the end is empty.
+ghost use Rattle.std.specs.Prelude.{◌≡◌, ◌≢◌, ◌≤◌, ◌<◌, ℕ, length, slice_index};
+
 use crate::doors::{lesser, wide};
+
+// The first place of a byte, from a place on, or the text's end where there is none.
+pub fn find(text: &[u8], from: usize, byte: u8) -> usize
+    requires { from ≤ length text.now }
+    ensures start { from ≤ result }
+    ensures within { result ≤ length text.now }
+    ensures before { (k : ℕ) → from ≤ k → k < result → slice_index text.now k ≢ byte }
+    ensures found { result < length text.now → slice_index text.now result ≡ byte }
+{
+    let mut place = from;
+    while place < text.len() {
+        if text[place] == byte {
+            break;
+        }
+        place += 1;
+    }
+    place
+}
 
 // The number at a place, of its lowest 32 bits. With no digit it is 0.
 fn number_at(text: &[u8], from: usize) -> u32 {
