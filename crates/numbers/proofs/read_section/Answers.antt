@@ -16,16 +16,16 @@ returns-then-left-lt4 c = sym (section_cut _ _ _ (omega arith))
 
 pub returns-then-not-is_needed : goal.returns-then-not-is_needed
 returns-then-not-is_needed c =
-    let no : c.is_needed.result ≡ false = not-true _ c.if-not-is_needed.true-raw in
+    let no : c.is_needed.result ≡ false = c.if-not-is_needed.true in
     sym (section_unneeded _ _ _ (omega arith) (cc))
 
 pub returns-then-left-count : goal.returns-then-left-count
 returns-then-left-count c =
-    let yes : c.is_needed.result ≡ true = not-false _ c.if-not-is_needed.false-raw in
+    let yes : c.is_needed.result ≡ true = c.if-not-is_needed.false in
     sym (section_short _ _ _ (omega arith) (cc) (omega arith))
 
 pub returns : goal.returns
 unfolding whole_section
 returns c =
-    let yes : c.is_needed.result ≡ true = not-false _ c.if-not-is_needed.false-raw in
+    let yes : c.is_needed.result ≡ true = c.if-not-is_needed.false in
     rw c.number_at-found.ensures (sym (section_whole _ _ _ (omega arith) (cc) (omega arith)))

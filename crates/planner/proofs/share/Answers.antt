@@ -55,7 +55,7 @@ returns-then-not-has_sum c cells words =
       in_picks = refl;
     })
     (c.refusal-refused.ensures 7 true) in
-    no_claims (lowest cells words) c.if-refused-ne0.false (sym claimed ∙ not-true _ c.if-not-has_sum.true-raw)
+    no_claims (lowest cells words) c.if-refused-ne0.false (sym claimed ∙ c.if-not-has_sum.true)
 
 pub solve-requires : goal.solve-requires
 unfolding all_kinds claims_fit job_of kind_of labels lent_of room_by room_of rules_of weight_rules
@@ -79,7 +79,7 @@ solve-requires c =
     let alone : job ≡ bare = weights_alone 7 c.args.budget _ _ _ refl refl (lowest [] []) c.if-refused-ne0.false in
     let claimed : c.has_sum.result ≡ claims_fit (rules_of sharing) job = c.has_sum.ensures in
     subst (λ (j : Job). Unrefused sharing j (lent [] [])) alone
-    (let_in (lowest [] []) c.if-refused-ne0.false (sym claimed ∙ not-false _ c.if-not-has_sum.false-raw))
+    (let_in (lowest [] []) c.if-refused-ne0.false (sym claimed ∙ c.if-not-has_sum.false))
 
 pub returns : goal.returns
 unfolding all_kinds job_of kind_of labels lent_of room_by room_of rules_of weight_rules

@@ -42,7 +42,7 @@ returns-then-not-q_fits c =
     let its_job : Job = job budget q weights values copies in
     let room_number : ℕ = asks_room (stated_cells its_job) (labels its_job) c.args.cells c.args.picks in
     q_outside budget q weights values copies c.knapsack_rules-rules.result c.job_refusal-refused.result its_rules (c.job_refusal-refused.ensures 9 false)
-    c.if-refused-ne0.false (sym c.q_fits.ensures ∙ not-true _ c.if-not-q_fits.true-raw) room_number
+    c.if-refused-ne0.false (sym c.q_fits.ensures ∙ c.if-not-q_fits.true) room_number
 
 pub cells_needed-needed-requires : goal.cells_needed-needed-requires
 unfolding all_kinds kind_of
@@ -53,7 +53,7 @@ cells_needed-needed-requires c =
     let q : ℕ = c.args.q in
     let values : List ℕ = list_from c.args.values.now c.args.vbytes.now in
     let weights : List ℕ = list_from c.args.weights.now c.args.wbytes.now in
-    let within : fits q ≡ true = sym c.q_fits.ensures ∙ not-false _ c.if-not-q_fits.false-raw in
+    let within : fits q ≡ true = sym c.q_fits.ensures ∙ c.if-not-q_fits.false in
     bare_passes budget q weights values copies c.knapsack_rules-rules.result c.job_refusal-refused.result its_rules (c.job_refusal-refused.ensures 9 false)
     c.if-refused-ne0.false within
 
@@ -67,7 +67,7 @@ returns-then-cells-needed c =
     let weights : List ℕ = list_from c.args.weights.now c.args.wbytes.now in
     let its_job : Job = job budget q weights values copies in
     let its_rules : rules_from c.knapsack_rules-rules.result false ≡ rules_of (packing once) = c.knapsack_rules-rules.ensures once refl in
-    let within : fits q ≡ true = sym c.q_fits.ensures ∙ not-false _ c.if-not-q_fits.false-raw in
+    let within : fits q ≡ true = sym c.q_fits.ensures ∙ c.if-not-q_fits.false in
     let no_copies : its_job ≡ bare budget q weights values copies = bare_is budget q weights values copies c.knapsack_rules-rules.result c.job_refusal-refused.result its_rules
     (c.job_refusal-refused.ensures 9 false) c.if-refused-ne0.false within in
     let needed : c.cells_needed-needed.result ≡ stated_cells its_job = c.cells_needed-needed.ensures ∙ ap stated_cells (sym no_copies) in
@@ -88,7 +88,7 @@ returns-then-picks-list_length c =
     let weights : List ℕ = list_from c.args.weights.now c.args.wbytes.now in
     let its_job : Job = job budget q weights values copies in
     let its_rules : rules_from c.knapsack_rules-rules.result false ≡ rules_of (packing once) = c.knapsack_rules-rules.ensures once refl in
-    let within : fits q ≡ true = sym c.q_fits.ensures ∙ not-false _ c.if-not-q_fits.false-raw in
+    let within : fits q ≡ true = sym c.q_fits.ensures ∙ c.if-not-q_fits.false in
     let no_copies : its_job ≡ bare budget q weights values copies = bare_is budget q weights values copies c.knapsack_rules-rules.result c.job_refusal-refused.result its_rules
     (c.job_refusal-refused.ensures 9 false) c.if-refused-ne0.false within in
     let needed : c.cells_needed-needed.result ≡ stated_cells its_job = c.cells_needed-needed.ensures ∙ ap stated_cells (sym no_copies) in
@@ -111,7 +111,7 @@ returns c =
     let weights : List ℕ = list_from c.args.weights.now c.args.wbytes.now in
     let its_job : Job = job budget q weights values copies in
     let its_rules : rules_from c.knapsack_rules-rules.result false ≡ rules_of (packing once) = c.knapsack_rules-rules.ensures once refl in
-    let within : fits q ≡ true = sym c.q_fits.ensures ∙ not-false _ c.if-not-q_fits.false-raw in
+    let within : fits q ≡ true = sym c.q_fits.ensures ∙ c.if-not-q_fits.false in
     let no_copies : its_job ≡ bare budget q weights values copies = bare_is budget q weights values copies c.knapsack_rules-rules.result c.job_refusal-refused.result its_rules
     (c.job_refusal-refused.ensures 9 false) c.if-refused-ne0.false within in
     let needed : c.cells_needed-needed.result ≡ stated_cells its_job = c.cells_needed-needed.ensures ∙ ap stated_cells (sym no_copies) in

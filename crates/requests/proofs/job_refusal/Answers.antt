@@ -22,7 +22,7 @@ returns-then-not-listed c kind needs_sum =
     let listed : (kind : ℕ) (needs_sum : Bool) → c.lists_fit-listed.result ≡ lists_fit (rules needs_sum) (job kind) = λ kind needs_sum. c.lists_fit-listed.ensures
     ∙ lists_as c.args.rules needs_sum (job kind) _ _ _
     c.list_length-n.ensures c.list_length-valued.ensures c.list_length-copied.ensures in
-    refused_3 (rules needs_sum) (job kind) 0 (sym (listed kind needs_sum) ∙ not-true _ c.if-not-listed.true-raw)
+    refused_3 (rules needs_sum) (job kind) 0 (sym (listed kind needs_sum) ∙ c.if-not-listed.true)
 
 pub returns-then-not-bounded : goal.returns-then-not-bounded
 unfolding job_of labels
@@ -34,9 +34,9 @@ returns-then-not-bounded c kind needs_sum =
     let listed : (kind : ℕ) (needs_sum : Bool) → c.lists_fit-listed.result ≡ lists_fit (rules needs_sum) (job kind) = λ kind needs_sum. c.lists_fit-listed.ensures
     ∙ lists_as c.args.rules needs_sum (job kind) _ _ _
     c.list_length-n.ensures c.list_length-valued.ensures c.list_length-copied.ensures in
-    let lists_right : (kind : ℕ) (needs_sum : Bool) → lists_fit (rules needs_sum) (job kind) ≡ true = λ kind needs_sum. sym (listed kind needs_sum) ∙ not-false _ c.if-not-listed.false-raw in
+    let lists_right : (kind : ℕ) (needs_sum : Bool) → lists_fit (rules needs_sum) (job kind) ≡ true = λ kind needs_sum. sym (listed kind needs_sum) ∙ c.if-not-listed.false in
     refused_4 (rules needs_sum) (job kind) 0 (lists_right kind needs_sum)
-    (sym (bounded kind needs_sum) ∙ not-true _ c.if-not-bounded.true-raw)
+    (sym (bounded kind needs_sum) ∙ c.if-not-bounded.true)
 
 pub returns-then-not-numbers_fit : goal.returns-then-not-numbers_fit
 unfolding job_of labels
@@ -45,13 +45,13 @@ returns-then-not-numbers_fit c kind needs_sum =
     job_from kind (a.budget ∷ []) a.weights.now a.wbytes.now a.values.now a.vbytes.now a.copies.now a.cbytes.now in
     let rules : Bool → meaning.Rules = λ needs_sum. rules_from c.args.rules needs_sum in
     let bounded : (kind : ℕ) (needs_sum : Bool) → c.bounds_fit-bounded.result ≡ bounds_fit (rules needs_sum) (job kind) = λ kind needs_sum. c.bounds_fit-bounded.ensures ∙ bounds_as c.args.rules needs_sum (job kind) _ c.list_length-n.ensures in
-    let bounds_right : (kind : ℕ) (needs_sum : Bool) → bounds_fit (rules needs_sum) (job kind) ≡ true = λ kind needs_sum. sym (bounded kind needs_sum) ∙ not-false _ c.if-not-bounded.false-raw in
+    let bounds_right : (kind : ℕ) (needs_sum : Bool) → bounds_fit (rules needs_sum) (job kind) ≡ true = λ kind needs_sum. sym (bounded kind needs_sum) ∙ c.if-not-bounded.false in
     let listed : (kind : ℕ) (needs_sum : Bool) → c.lists_fit-listed.result ≡ lists_fit (rules needs_sum) (job kind) = λ kind needs_sum. c.lists_fit-listed.ensures
     ∙ lists_as c.args.rules needs_sum (job kind) _ _ _
     c.list_length-n.ensures c.list_length-valued.ensures c.list_length-copied.ensures in
-    let lists_right : (kind : ℕ) (needs_sum : Bool) → lists_fit (rules needs_sum) (job kind) ≡ true = λ kind needs_sum. sym (listed kind needs_sum) ∙ not-false _ c.if-not-listed.false-raw in
+    let lists_right : (kind : ℕ) (needs_sum : Bool) → lists_fit (rules needs_sum) (job kind) ≡ true = λ kind needs_sum. sym (listed kind needs_sum) ∙ c.if-not-listed.false in
     refused_5 (rules needs_sum) (job kind) 0 (lists_right kind needs_sum) (bounds_right kind needs_sum)
-    (sym (c.numbers_fit.ensures kind c.args.budget needs_sum) ∙ not-true _ c.if-not-numbers_fit.true-raw)
+    (sym (c.numbers_fit.ensures kind c.args.budget needs_sum) ∙ c.if-not-numbers_fit.true)
 
 pub returns : goal.returns
 unfolding job_of labels
@@ -60,10 +60,10 @@ returns c kind needs_sum =
     job_from kind (a.budget ∷ []) a.weights.now a.wbytes.now a.values.now a.vbytes.now a.copies.now a.cbytes.now in
     let rules : Bool → meaning.Rules = λ needs_sum. rules_from c.args.rules needs_sum in
     let bounded : (kind : ℕ) (needs_sum : Bool) → c.bounds_fit-bounded.result ≡ bounds_fit (rules needs_sum) (job kind) = λ kind needs_sum. c.bounds_fit-bounded.ensures ∙ bounds_as c.args.rules needs_sum (job kind) _ c.list_length-n.ensures in
-    let bounds_right : (kind : ℕ) (needs_sum : Bool) → bounds_fit (rules needs_sum) (job kind) ≡ true = λ kind needs_sum. sym (bounded kind needs_sum) ∙ not-false _ c.if-not-bounded.false-raw in
+    let bounds_right : (kind : ℕ) (needs_sum : Bool) → bounds_fit (rules needs_sum) (job kind) ≡ true = λ kind needs_sum. sym (bounded kind needs_sum) ∙ c.if-not-bounded.false in
     let listed : (kind : ℕ) (needs_sum : Bool) → c.lists_fit-listed.result ≡ lists_fit (rules needs_sum) (job kind) = λ kind needs_sum. c.lists_fit-listed.ensures
     ∙ lists_as c.args.rules needs_sum (job kind) _ _ _
     c.list_length-n.ensures c.list_length-valued.ensures c.list_length-copied.ensures in
-    let lists_right : (kind : ℕ) (needs_sum : Bool) → lists_fit (rules needs_sum) (job kind) ≡ true = λ kind needs_sum. sym (listed kind needs_sum) ∙ not-false _ c.if-not-listed.false-raw in
+    let lists_right : (kind : ℕ) (needs_sum : Bool) → lists_fit (rules needs_sum) (job kind) ≡ true = λ kind needs_sum. sym (listed kind needs_sum) ∙ c.if-not-listed.false in
     not_yet (rules needs_sum) (job kind) 0 (lists_right kind needs_sum) (bounds_right kind needs_sum)
-    (sym (c.numbers_fit.ensures kind c.args.budget needs_sum) ∙ not-false _ c.if-not-numbers_fit.false-raw)
+    (sym (c.numbers_fit.ensures kind c.args.budget needs_sum) ∙ c.if-not-numbers_fit.false)

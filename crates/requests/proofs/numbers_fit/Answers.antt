@@ -18,23 +18,23 @@ unfolding job_of
 returns-then-not-keeps c kind budget needs_sum =
     let a = c.args in
     let job = job_from kind (budget ∷ []) a.weights.now a.wbytes.now a.values.now a.vbytes.now a.copies.now a.cbytes.now in
-    weights_wrong c.args.rules needs_sum job (sym c.keeps.ensures ∙ not-true _ c.if-not-keeps.true-raw)
+    weights_wrong c.args.rules needs_sum job (sym c.keeps.ensures ∙ c.if-not-keeps.true)
 
 pub returns-then-not-each_within : goal.returns-then-not-each_within
 unfolding job_of
 returns-then-not-each_within c kind budget needs_sum =
     let a = c.args in
     let job = job_from kind (budget ∷ []) a.weights.now a.wbytes.now a.values.now a.vbytes.now a.copies.now a.cbytes.now in
-    let kept : rule_from a.rules.weights (list_from a.weights.now a.wbytes.now) ≡ true = sym c.keeps.ensures ∙ not-false _ c.if-not-keeps.false-raw in
+    let kept : rule_from a.rules.weights (list_from a.weights.now a.wbytes.now) ≡ true = sym c.keeps.ensures ∙ c.if-not-keeps.false in
     let valued : c.each_within.result ≡ each_within a.rules.floor most_value (list_from a.values.now a.vbytes.now) = within_as c.value_bounds-worth.ensures.0 c.value_bounds-worth.ensures.1 c.each_within.ensures in
-    values_wrong c.args.rules needs_sum job kept (sym valued ∙ not-true _ c.if-not-each_within.true-raw)
+    values_wrong c.args.rules needs_sum job kept (sym valued ∙ c.if-not-each_within.true)
 
 pub returns : goal.returns
 unfolding job_of
 returns c kind budget needs_sum =
     let a = c.args in
     let job = job_from kind (budget ∷ []) a.weights.now a.wbytes.now a.values.now a.vbytes.now a.copies.now a.cbytes.now in
-    let kept : rule_from a.rules.weights (list_from a.weights.now a.wbytes.now) ≡ true = sym c.keeps.ensures ∙ not-false _ c.if-not-keeps.false-raw in
+    let kept : rule_from a.rules.weights (list_from a.weights.now a.wbytes.now) ≡ true = sym c.keeps.ensures ∙ c.if-not-keeps.false in
     let valued : c.each_within.result ≡ each_within a.rules.floor most_value (list_from a.values.now a.vbytes.now) = within_as c.value_bounds-worth.ensures.0 c.value_bounds-worth.ensures.1 c.each_within.ensures in
     within_as c.copies_bounds-counts.ensures.0 c.copies_bounds-counts.ensures.1 c.each_within-2.ensures
-    ∙ rest_copies c.args.rules needs_sum job kept (sym valued ∙ not-false _ c.if-not-each_within.false-raw)
+    ∙ rest_copies c.args.rules needs_sum job kept (sym valued ∙ c.if-not-each_within.false)

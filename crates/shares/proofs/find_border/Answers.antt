@@ -70,22 +70,22 @@ count_ahead-count-requires c = c.requires.leaves.started
 
 pub loop-found-smaller-then-count-units : goal.loop-found-smaller-then-count-units
 loop-found-smaller-then-count-units c =
-    let apart : 1 < c.loop-found.high - c.loop-found.low = let l = c.loop-found in ltb-true 1 (l.high - l.low) c.if-high-low-gt1.true-raw in
+    let apart : 1 < c.loop-found.high - c.loop-found.low = let l = c.loop-found in c.if-high-low-gt1.true in
     omega (arith, apart, one_at_most (eqb c.count_ahead-count.result c.loop-found.found))
 
 pub loop-found-preserved-then-count-units : goal.loop-found-preserved-then-count-units
 loop-found-preserved-then-count-units c =
-    let apart : 1 < c.loop-found.high - c.loop-found.low = let l = c.loop-found in ltb-true 1 (l.high - l.low) c.if-high-low-gt1.true-raw in
+    let apart : 1 < c.loop-found.high - c.loop-found.low = let l = c.loop-found in c.if-high-low-gt1.true in
     (omega (arith, apart), omega arith, c.count_ahead-count.ensures, omega arith, c.loop-found.invariant.4)
 
 pub loop-found-smaller : goal.loop-found-smaller
 loop-found-smaller c =
-    let apart : 1 < c.loop-found.high - c.loop-found.low = let l = c.loop-found in ltb-true 1 (l.high - l.low) c.if-high-low-gt1.true-raw in
+    let apart : 1 < c.loop-found.high - c.loop-found.low = let l = c.loop-found in c.if-high-low-gt1.true in
     omega (arith, apart, one_at_most (eqb c.count_ahead-count.result c.loop-found.more))
 
 pub loop-found-preserved : goal.loop-found-preserved
 loop-found-preserved c =
-    let apart : 1 < c.loop-found.high - c.loop-found.low = let l = c.loop-found in ltb-true 1 (l.high - l.low) c.if-high-low-gt1.true-raw in
+    let apart : 1 < c.loop-found.high - c.loop-found.low = let l = c.loop-found in c.if-high-low-gt1.true in
     let job : Job = claims_job c.args.budget c.args.weights.now c.args.wbytes.now in
     let l = c.loop-found in
     let count = c.count_ahead-count in

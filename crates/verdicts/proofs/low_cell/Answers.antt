@@ -166,7 +166,7 @@ rows-preserved c =
       omega (arith, the_run.inside, counted),
       (
         together_next job c.run_length-run.result knapsack run_is c.rows.from _
-            (omega (arith, c.nearer-last.ensures, counted)) (omega (arith, c.rows-test.taken, counted)) c.rows.invariant.1.0,
+            (omega (arith, c.nearer-last.ensures, counted)) (omega (arith, c.rows-test.true, counted)) c.rows.invariant.1.0,
         run_passed _ _ _ c.budgets-test.false c.budgets.invariant,
       ),
     )

@@ -37,15 +37,18 @@ unfolding over_picked place_of
 returns-then-most_picks-number_in c j copies-are n-is =
     let there : c.loop-i.i < length (numbers_in c.args.picks.now) = omega (arith, numbers_long c.args.picks.now) in
     let picks = c.args.picks.now in
-    let found =
-    first_passes (over c.args.kind j picks) c.loop-i.i (c.loop-i.invariant.1 j copies-are) (is_over c j copies-are c.if-most_picks-number_in.true) _
-    there in
+    let is_over : over c.args.kind j picks c.loop-i.i ≡ true =
+        lt-ltb _ _ (omega (arith, c.if-most_picks-number_in.true, c.most_picks.ensures j copies-are, c.number_in.ensures)) in
+    let found = first_passes (over c.args.kind j picks) c.loop-i.i (c.loop-i.invariant.1 j copies-are) is_over _ there in
     sym (ap (first (over c.args.kind j picks)) n-is ∙ found)
 
 pub loop-i-preserved : goal.loop-i-preserved
 loop-i-preserved c = (
   omega arith,
-  λ j copies-are. first_fails _ c.loop-i.i (c.loop-i.invariant.1 j copies-are) (not_over c j copies-are c.if-most_picks-number_in.false),
+  λ j copies-are.
+      let not_over : over c.args.kind j c.args.picks.now c.loop-i.i ≡ false =
+          le-ltb _ _ (omega (arith, c.if-most_picks-number_in.false, c.most_picks.ensures j copies-are, c.number_in.ensures)) in
+      first_fails _ c.loop-i.i (c.loop-i.invariant.1 j copies-are) not_over,
 )
 
 pub returns : goal.returns
