@@ -15,7 +15,7 @@ use Rattle.meaning.specs.Job.{Job, Kind, fewest_blocks, block_ways, labels, job_
 use Rattle.meaning.specs.Lent.{Lent, lent_of, room_by, room_of}
 use Rattle.meaning.specs.Bounds.{most_budget}
 use Rattle.meaning.specs.Refusals.{rules_of, weight_rules}
-use Rattle.meaning.specs.Blocks.{Makes, MadeOf, Laid, FewestRow, WaysShown, WaysRow, too_many}
+use Rattle.meaning.specs.Blocks.{MadeOf, Laid, FewestRow, WaysShown, WaysRow, too_many}
 use Rattle.meaning.specs.Answers.{answer_numbers}
 use Rattle.meaning.specs.Solved.{Built, Gives, TableBy, Unrefused, a_sum, no_such_sum, ways_answer}
 use Rattle.meaning.specs.SolvedIn.{SolvedInCells, SolvedInWords}

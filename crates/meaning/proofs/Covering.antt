@@ -7,7 +7,7 @@ use Prim.Native.Nat.{◌%◌, ◌*◌, ◌+◌, ◌-◌, ◌/◌, ◌<◌, ◌�
 use native.Mathlib.Nat.{add-zero, le-mul_of_pos_right, le_of_eq, le_refl, le_trans, mul_comm, mul-one, mul-suc, mul-zero, sub-zero}
 use native.Mathlib.Decide.{dec_lt}
 use native.Mathlib.Omega.{arith}
-use mathlib.Core.Bool.{Bool, ◌&&◌, ◌||◌, false}
+use mathlib.Core.Bool.{◌&&◌, ◌||◌, false}
 use mathlib.Core.List.{List, [], ◌++◌, ◌∷◌}
 use lib.Dec.{leb, leb-zero, ltb}
 use borrow.Author.Tests.{le-leb, le-ltb, lt-leb, ltb-false}

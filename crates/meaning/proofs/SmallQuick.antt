@@ -10,7 +10,7 @@ use mir.Facts.{and_yes, eqb_yes, leb_yes, ltb_yes, yes_leb}
 use borrow.Author.Tests.{eq-eqb, ne_eqb}
 use Rattle.meaning.specs.Lists.{at, if}
 use Rattle.meaning.specs.Job.{Job, labels}
-use Rattle.meaning.specs.Quick.{still_fits, Greedy, Highest, KeepsOnly, KeepsNone, Worthless, Single, one_label, no_label}
+use Rattle.meaning.specs.Quick.{still_fits, Greedy, Highest, Worthless, Single, one_label, no_label}
 use Rattle.meaning.proofs.Tests.{◌implies◌, implied, below, below_out}
 
 -- `Greedy` as a test

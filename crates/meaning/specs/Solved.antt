@@ -8,7 +8,7 @@ use Rattle.meaning.specs.declared.Way.{Way}
 use Rattle.meaning.specs.declared.Way.TheVariants.{Light, Full}
 use Rattle.meaning.specs.Lists.{sum, total, if}
 use Rattle.meaning.specs.Slices.{Holds}
-use Rattle.meaning.specs.Job.{Job, labels, Knapsack, once, limited, free, Kind, packing, subset_sums, fewest_blocks, block_ways, sharing}
+use Rattle.meaning.specs.Job.{Job, labels, once, limited, free, Kind, packing, subset_sums, fewest_blocks, block_ways, sharing}
 use Rattle.meaning.specs.Job.{labels_behind, stated_share, kind_of}
 use Rattle.meaning.specs.Lent.{Lent, Room, room_by}
 use Rattle.meaning.specs.Refusals.{kind_refusal}

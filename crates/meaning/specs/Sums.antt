@@ -1,6 +1,6 @@
 -- Kind 4: the totals that some labels weigh exactly. Behind has kind 8, which names the labels.
 -- Assumes nothing.
-use Rattle.std.specs.Prelude.{◌≡◌, ℕ, ◌+◌, ◌*◌, ◌/◌, ◌%◌, ◌^◌, ◌≤◌, ◌<◌, List}
+use Rattle.std.specs.Prelude.{◌≡◌, ℕ, ◌*◌, ◌/◌, ◌%◌, ◌^◌, ◌≤◌, ◌<◌, List}
 use Rattle.meaning.specs.Lists.{at, total}
 use Rattle.meaning.specs.Counting.{Counted}
 use Rattle.meaning.specs.Job.{Job, labels, once}

@@ -2,7 +2,6 @@
 // are in specs/Answers.antt; the sections are in specs/Bytes.antt.
 #![tactic(auto)]
 
-
 // What a planner answers: a refusal number, or the numbers of the job's kind.
 #[derive(Clone, Copy)]
 pub enum Answer {

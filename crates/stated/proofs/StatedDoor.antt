@@ -11,7 +11,7 @@ use lib.ListN.{length, drop}
 use mir.Facts.{and_yes, leb_yes}
 use Rattle.meaning.specs.declared.Answer.{Answer}
 use Rattle.meaning.specs.declared.Answer.TheVariants as Says
-use Rattle.meaning.specs.Lists.{at, total}
+use Rattle.meaning.specs.Lists.{total}
 use Rattle.meaning.specs.Cells.{LeastShown, no_way}
 use Rattle.meaning.specs.Job.{Job, job_of, labels, once, stated_share}
 use Rattle.meaning.specs.Lent.{lent_of, room_by, room_of}

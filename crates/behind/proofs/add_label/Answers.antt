@@ -1,7 +1,6 @@
 -- `behind::add_label` meets its contract: the cells from t on are made and those below are as they were, so that each is made by an old one.
 use native.Mathlib.Omega.{arith}
-use borrow.Author.Rules.{rules}
-use Rattle.rows.proofs.Stores.{Descending, descending_none, descending_more, descending_all}
+use Rattle.rows.proofs.Stores.{descending_none, descending_more, descending_all}
 use Rattle.behind.specs.Firsts.{first_by}
 use Rattle.behind.proofs.add_label.Goals as goal
 

@@ -1,14 +1,12 @@
 -- `behind::fill` meets its contract: total 0 alone with no labels, and then a label more each turn.
 use mathlib.Core.Path.{◌≡◌, ◌∙◌}
-use Prim.Native.Nat.{◌-◌, ◌<◌}
+use Prim.Native.Nat.{◌<◌}
 use native.Mathlib.Numerals.{add-one}
 use native.Mathlib.Omega.{arith}
 use lib.ListN.{length}
-use borrow.Author.Rules.{rules}
 use Rattle.meaning.specs.Bounds.{most_labels}
 use Rattle.numbers.specs.TwoSlices.{list_from}
 use Rattle.rows.proofs.Rounds.{rounds_none, rounds_more, rounds_all}
-use Rattle.behind.proofs.Growing.{Growing}
 use Rattle.behind.proofs.fill.Goals as goal
 
 pub loop-i-init : goal.loop-i-init

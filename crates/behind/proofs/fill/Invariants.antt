@@ -1,13 +1,7 @@
 -- `behind::fill` meets its contract: total 0 alone with no labels, and then a label more each turn.
-use mathlib.Core.Path.{◌≡◌, ◌∙◌}
-use Prim.Native.Nat.{◌-◌, ◌<◌}
-use native.Mathlib.Numerals.{add-one}
-use native.Mathlib.Omega.{arith}
+use Prim.Native.Nat.{◌-◌}
 use lib.ListN.{length}
-use borrow.Author.Rules.{rules}
-use Rattle.meaning.specs.Bounds.{most_labels}
 use Rattle.numbers.specs.TwoSlices.{list_from}
-use Rattle.rows.proofs.Rounds.{rounds_none, rounds_more, rounds_all}
 use Rattle.behind.proofs.Growing.{Growing}
 use Rattle.behind.proofs.fill.Given as goal
 

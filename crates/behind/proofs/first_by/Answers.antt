@@ -3,7 +3,6 @@ use mathlib.Core.Path.{◌≡◌}
 use Prim.Native.Nat.{ℕ}
 use mathlib.Core.Bool.{Bool, true, false, not, ◌&&◌}
 use lib.Dec.{eqb}
-use borrow.Author.Rules.{rules}
 use Rattle.meaning.specs.Lists.{if}
 use Rattle.meaning.specs.Cells.{no_way}
 use Rattle.behind.specs.Firsts.{first_by}

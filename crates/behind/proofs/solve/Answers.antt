@@ -1,20 +1,19 @@
 -- `behind::solve` meets its contract: the last cell shows the mark and nothing is picked (`none_behind`), or picks are read off (`labels_found`).
 use mathlib.Core.Path.{◌≡◌, refl, sym, ap, ◌∙◌}
-use Prim.Native.Nat.{ℕ, ◌+◌, ◌-◌, ◌≤◌}
+use Prim.Native.Nat.{◌+◌, ◌-◌, ◌≤◌}
 use native.Mathlib.Nat.{add-sub_cancel}
 use native.Mathlib.Omega.{arith}
-use mathlib.Core.List.{List, [], ◌∷◌, ◌++◌}
+use mathlib.Core.List.{[], ◌∷◌, ◌++◌}
 use lib.ListN.{length, drop, take}
 use lib.Seq.{length-take-le}
 use borrow.Author.Tests.{eqb-true, eqb-false}
 use Rattle.meaning.specs.Lists.{at}
 use Rattle.meaning.specs.Cells.{no_way}
-use Rattle.meaning.specs.Job.{Job, job_of, labels}
+use Rattle.meaning.specs.Job.{job_of, labels}
 use Rattle.numbers.specs.TwoSlices.{list_from}
 use Rattle.rows.proofs.Parts.{front_part, front_room, front_last}
 use Rattle.behind.specs.Firsts.{FirstsGrown, TraceOff}
 use Rattle.behind.proofs.BehindDoor.{Kept, keeps, none_behind, can_trace, labels_found}
-use borrow.Author.Rules.{rules}
 use Rattle.behind.proofs.solve.Goals as goal
 
 picks_long : (c : goal.After-trace_off-arg-1) → length (take c.list_length-n.result c.args.picks.now) ≡ length (list_from c.args.weights.now c.args.wbytes.now)

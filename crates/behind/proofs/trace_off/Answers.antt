@@ -1,15 +1,13 @@
 -- `behind::trace_off` meets its contract: each turn goes on by the label that its total shows, to a total that shows an earlier one.
 use mathlib.Core.Path.{◌≡◌, refl, sym, ◌∙◌}
-use Prim.Native.Nat.{ℕ, ◌-◌, ◌<◌}
+use Prim.Native.Nat.{◌-◌, ◌<◌}
 use native.Mathlib.Omega.{arith}
-use mathlib.Core.List.{List}
 use lib.ListN.{length, length-set}
-use borrow.Author.Rules.{rules}
 use Rattle.meaning.specs.Lists.{at}
 use Rattle.meaning.specs.Cells.{no_way}
 use Rattle.numbers.specs.TwoSlices.{list_from}
 use Rattle.rows.proofs.Stores.{stored_each}
-use Rattle.behind.specs.Firsts.{ShowsLabel, TraceOff, start, taken}
+use Rattle.behind.specs.Firsts.{ShowsLabel, start, taken}
 use Rattle.behind.proofs.trace_off.Goals as goal
 
 -- and that it is below the mark

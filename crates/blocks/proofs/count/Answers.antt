@@ -1,10 +1,8 @@
 -- `blocks::count` meets its contract: the amounts so far are swept, each by the new ways one size before it.
-use Prim.Native.Nat.{◌-◌}
 use native.Mathlib.Omega.{arith}
 use lib.ListN.{length}
-use Rattle.rows.proofs.Stores.{Sweeping, sweeping_none, sweeping_more, sweeping_all}
+use Rattle.rows.proofs.Stores.{sweeping_none, sweeping_more, sweeping_all}
 use Rattle.blocks.specs.Sizes.{ways_of}
-use borrow.Author.Rules.{rules}
 use Rattle.blocks.proofs.count.Goals as goal
 
 pub loop-a-init : goal.loop-a-init

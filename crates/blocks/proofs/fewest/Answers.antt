@@ -17,7 +17,6 @@ use Rattle.numbers.specs.TwoSlices.{list_from}
 use Rattle.rows.proofs.Parts.{front_part, front_room, front_last}
 use Rattle.blocks.specs.Sizes.{Bounded, FewestGrown, TraceDown}
 use Rattle.blocks.proofs.BlocksDoor.{bounded, no_blocks, blocks_laid}
-use borrow.Author.Rules.{rules}
 use Rattle.blocks.proofs.fewest.Goals as goal
 
 -- and the first picks are one for each size

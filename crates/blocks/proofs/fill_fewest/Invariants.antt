@@ -1,15 +1,10 @@
 -- `blocks::fill_fewest` meets its contract: the row so far is grown size by size, from one in which amount 0 shows 0 and all others the mark.
-use mathlib.Core.Path.{◌≡◌, ◌∙◌}
-use Prim.Native.Nat.{ℕ, ◌-◌, ◌<◌}
-use native.Mathlib.Omega.{arith}
-use mathlib.Core.List.{List}
+use Prim.Native.Nat.{◌-◌}
 use lib.ListN.{length}
 use Rattle.meaning.specs.Cells.{no_way}
 use Rattle.numbers.specs.TwoSlices.{list_from}
-use Rattle.rows.proofs.Rounds.{rounds_none, rounds_more, rounds_all}
 use Rattle.blocks.specs.Sizes.{fewer_of}
 use Rattle.blocks.proofs.Growing.{Growing}
-use borrow.Author.Rules.{rules}
 use Rattle.blocks.proofs.fill_fewest.Given as goal
 
 abbrev pub invariant-loop-i : goal.invariant-loop-i

@@ -1,10 +1,8 @@
 -- `blocks::lay` meets its contract: the row is swept stretch by stretch (`sweeping_on`), wherever a stretch ends.
 use Prim.Native.Nat.{◌-◌}
-use native.Mathlib.Omega.{arith}
 use lib.ListN.{length}
-use Rattle.rows.proofs.Stores.{Sweeping, sweeping_none, sweeping_on, sweeping_all}
+use Rattle.rows.proofs.Stores.{Sweeping}
 use Rattle.blocks.specs.Sizes.{fewer_of}
-use borrow.Author.Rules.{rules}
 use Rattle.blocks.proofs.lay.Given as goal
 
 abbrev pub invariant-loop-a : goal.invariant-loop-a

@@ -1,9 +1,7 @@
 -- `blocks::lay_stretch` meets its contract: the amounts so far are swept, each by the new cell one size before it.
-use Prim.Native.Nat.{◌-◌}
 use native.Mathlib.Omega.{arith}
-use Rattle.rows.proofs.Stores.{Sweeping, sweeping_none, sweeping_more, sweeping_all}
+use Rattle.rows.proofs.Stores.{sweeping_none, sweeping_more, sweeping_all}
 use Rattle.blocks.specs.Sizes.{fewer_of}
-use borrow.Author.Rules.{rules}
 use Rattle.blocks.proofs.lay_stretch.Goals as goal
 
 pub loop-a-init : goal.loop-a-init

@@ -2,7 +2,6 @@
 use native.Mathlib.Omega.{arith}
 use borrow.Author.Tests.{lt-leb, le-leb}
 use Rattle.blocks.specs.Sizes.{leaves_fewer}
-use borrow.Author.Rules.{rules}
 use Rattle.blocks.proofs.leads.Goals as goal
 
 pub returns-then-a-w : goal.returns-then-a-w

@@ -1,14 +1,12 @@
 -- `blocks::solve` meets its contract: a job that is let in is of kind 5 or of kind 6, and the slices that its kind isn't lent stay.
 use mathlib.Core.Path.{◌≡◌}
-use Prim.Native.Nat.{ℕ}
-use mathlib.Core.List.{List, [], ◌∷◌}
+use mathlib.Core.List.{[], ◌∷◌}
 use Rattle.meaning.specs.Job.{job_of, block_ways}
 use Rattle.meaning.specs.Lent.{lent_of}
 use Rattle.meaning.specs.Solved.{Unrefused}
 use Rattle.meaning.specs.SolvedIn.{SolvedInCellsBy, SolvedInWords}
 use Rattle.numbers.specs.TwoSlices.{list_from}
 use Rattle.blocks.proofs.BlocksDoor.{asks_blocks, asks_ways}
-use borrow.Author.Rules.{rules}
 use Rattle.blocks.proofs.solve.Goals as goal
 
 pub fewest-requires : goal.fewest-requires

@@ -1,6 +1,6 @@
 -- `blocks::trace_down` meets its contract: the trace has come down to size i; each turn lays one block of it, or passes it.
 use mathlib.Core.Path.{◌≡◌, refl, sym, subst, ◌∙◌}
-use Prim.Native.Nat.{ℕ, ◌+◌, ◌-◌, ◌≤◌, ◌<◌}
+use Prim.Native.Nat.{ℕ, ◌-◌, ◌≤◌, ◌<◌}
 use native.Mathlib.Omega.{arith}
 use mathlib.Core.Bool.{Bool, true, false}
 use mathlib.Core.List.{List}
@@ -10,8 +10,7 @@ use Rattle.meaning.specs.Bounds.{most_budget}
 use Rattle.numbers.specs.TwoSlices.{list_from}
 use Rattle.rows.proofs.Stores.{stored_each}
 use Rattle.blocks.specs.Sizes.{leaves_fewer}
-use Rattle.blocks.proofs.Laying.{DownTo, down_light, down_begins, down_few, down_taken, down_passed}
-use borrow.Author.Rules.{rules}
+use Rattle.blocks.proofs.Laying.{down_light, down_begins, down_few, down_taken, down_passed}
 use Rattle.blocks.proofs.trace_down.Goals as goal
 
 whole : (c : goal.After-slice_known-then-leads-1) → 1 ≤ c.item-w.result

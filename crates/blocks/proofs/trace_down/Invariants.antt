@@ -1,17 +1,10 @@
 -- `blocks::trace_down` meets its contract: the trace has come down to size i; each turn lays one block of it, or passes it.
-use mathlib.Core.Path.{◌≡◌, refl, sym, subst, ◌∙◌}
-use Prim.Native.Nat.{ℕ, ◌+◌, ◌-◌, ◌≤◌, ◌<◌}
-use native.Mathlib.Omega.{arith}
-use mathlib.Core.Bool.{Bool, true, false}
-use mathlib.Core.List.{List}
-use lib.ListN.{length, length-set}
+use mathlib.Core.Path.{◌≡◌}
+use Prim.Native.Nat.{◌+◌, ◌-◌, ◌≤◌, ◌<◌}
+use lib.ListN.{length}
 use Rattle.meaning.specs.Lists.{at}
-use Rattle.meaning.specs.Bounds.{most_budget}
 use Rattle.numbers.specs.TwoSlices.{list_from}
-use Rattle.rows.proofs.Stores.{stored_each}
-use Rattle.blocks.specs.Sizes.{leaves_fewer}
-use Rattle.blocks.proofs.Laying.{DownTo, down_light, down_begins, down_few, down_taken, down_passed}
-use borrow.Author.Rules.{rules}
+use Rattle.blocks.proofs.Laying.{DownTo}
 use Rattle.blocks.proofs.trace_down.Given as goal
 
 abbrev pub invariant-loop-i : goal.invariant-loop-i

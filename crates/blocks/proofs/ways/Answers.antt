@@ -1,12 +1,12 @@
 -- `blocks::ways` meets its contract: the last cell alone decides, by the mark (`too_many_lem`) or the ways that it shows (`ways_counted`).
 use mathlib.Core.Path.{◌≡◌, refl, sym, ◌∙◌}
-use Prim.Native.Nat.{ℕ, ◌+◌, ◌-◌, ◌≤◌, ◌<◌}
+use Prim.Native.Nat.{◌+◌, ◌-◌, ◌≤◌, ◌<◌}
 use native.Mathlib.Omega.{arith}
-use mathlib.Core.List.{List, [], ◌∷◌, ◌++◌}
+use mathlib.Core.List.{[], ◌∷◌, ◌++◌}
 use lib.ListN.{length, drop, take}
 use lib.Seq.{length-take-le}
 use Rattle.meaning.specs.Lists.{at}
-use Rattle.meaning.specs.Job.{Job, job_of, block_ways}
+use Rattle.meaning.specs.Job.{job_of, block_ways}
 use Rattle.meaning.specs.Lent.{lent_of, room_by, room_of}
 use Rattle.meaning.specs.Refusals.{rules_of}
 use Rattle.meaning.specs.Blocks.{too_many}
@@ -15,7 +15,6 @@ use Rattle.numbers.specs.TwoSlices.{list_from}
 use Rattle.rows.proofs.Parts.{front_room, front_last}
 use Rattle.blocks.specs.Sizes.{Bounded, WaysGrown}
 use Rattle.blocks.proofs.BlocksDoor.{bounded, too_many_lem, ways_counted}
-use borrow.Author.Rules.{rules}
 use Rattle.blocks.proofs.ways.Goals as goal
 
 pub slice_bounds-fill_ways-end : goal.slice_bounds-fill_ways-end

@@ -1,7 +1,6 @@
 -- `blocks::ways_of` meets its contract: the sum is made only where it doesn't pass the mark.
 use native.Mathlib.Omega.{arith}
 use Rattle.meaning.specs.Blocks.{too_many}
-use borrow.Author.Rules.{rules}
 use Rattle.blocks.proofs.ways_of.Goals as goal
 
 pub returns-then-rest-without : goal.returns-then-rest-without

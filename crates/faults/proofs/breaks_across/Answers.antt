@@ -1,9 +1,8 @@
 -- `faults::breaks_across` meets its contract, cell by cell up the column.
-use Rattle.std.proofs.Common.{◌-◌, ◌*◌, ◌≤◌, arith, rules}
-use Rattle.meaning.specs.Bytes.{numbers_in}
+use Rattle.std.proofs.Common.{◌*◌, ◌≤◌, arith}
 use Rattle.meaning.proofs.Numbers.{numbers_long}
 use Rattle.faults.proofs.Finding.{finds_low, finds_high}
-use Rattle.faults.proofs.Across.{all_worth, Crossed, crossed_start, crossed_fits, crossed_low, crossed_inside, crossed_outside, all_crossed}
+use Rattle.faults.proofs.Across.{all_worth, crossed_start, crossed_fits, crossed_low, crossed_inside, crossed_outside, all_crossed}
 use Rattle.faults.proofs.breaks_across.Goals as goal
 
 carried_fits : (c : goal.Else-least-cell) → (c.loop-x.least ≤ 281_474_976_710_656) × (c.loop-x.y ≤ 131_072)

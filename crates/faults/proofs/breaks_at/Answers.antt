@@ -1,8 +1,7 @@
 -- `faults::breaks_at` meets its contract, budget by budget.
-use Rattle.std.proofs.Common.{◌-◌, ◌≤◌, arith, rules}
-use Rattle.meaning.specs.Bytes.{numbers_in}
+use Rattle.std.proofs.Common.{arith}
 use Rattle.meaning.proofs.Numbers.{numbers_long}
-use Rattle.faults.proofs.Passes.{CountedLow, FoundSoFar, count_next, count_start, pass_start, pass_next, pass_end}
+use Rattle.faults.proofs.Passes.{count_next, count_start, pass_start, pass_next, pass_end}
 use Rattle.faults.proofs.breaks_at.Goals as goal
 
 pub overflow_add-up : goal.overflow_add-up

@@ -1,8 +1,7 @@
 -- `faults::breaks_block` meets its contract, column by column.
-use Rattle.std.proofs.Common.{◌-◌, arith, rules}
-use Rattle.meaning.specs.Bytes.{numbers_in}
+use Rattle.std.proofs.Common.{arith}
 use Rattle.faults.proofs.Finding.{finds_low, finds_high}
-use Rattle.faults.proofs.Blocks.{ColumnsKept, columns_start, columns_next, columns_all}
+use Rattle.faults.proofs.Blocks.{columns_start, columns_next, columns_all}
 use Rattle.faults.proofs.breaks_block.Goals as goal
 
 pub loop-b-init : goal.loop-b-init

@@ -1,8 +1,7 @@
 -- `faults::breaks_block` meets its contract, column by column.
-use Rattle.std.proofs.Common.{◌-◌, arith, rules}
+use Rattle.std.proofs.Common.{◌-◌}
 use Rattle.meaning.specs.Bytes.{numbers_in}
-use Rattle.faults.proofs.Finding.{finds_low, finds_high}
-use Rattle.faults.proofs.Blocks.{ColumnsKept, columns_start, columns_next, columns_all}
+use Rattle.faults.proofs.Blocks.{ColumnsKept}
 use Rattle.faults.proofs.breaks_block.Given as goal
 
 abbrev pub invariant-loop-b : goal.invariant-loop-b

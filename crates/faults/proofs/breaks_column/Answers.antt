@@ -1,5 +1,4 @@
 -- `faults::breaks_column` meets its contract: within the block, and into the next one where there is one.
-use Rattle.std.proofs.Common.{rules}
 use Rattle.faults.proofs.Finding.{finds_low, finds_high}
 use Rattle.faults.proofs.Blocks.{column_low, column_last, column_found}
 use Rattle.faults.proofs.breaks_column.Goals as goal

@@ -1,5 +1,5 @@
 -- `faults::breaks_few` meets its contract, count by count.
-use Rattle.std.proofs.Common.{◌≡◌, ◌+◌, ◌-◌, ◌<◌, ◌≤◌, sym, refl, arith}
+use Rattle.std.proofs.Common.{◌≡◌, ◌+◌, ◌<◌, ◌≤◌, sym, refl, arith}
 use Rattle.meaning.specs.Bytes.{numbers_in}
 use Rattle.faults.specs.Columns.{CopiesFit}
 use Rattle.faults.proofs.Finding.{finds_low, finds_high}

@@ -1,9 +1,8 @@
 -- `faults::breaks_many` meets its contract, block by block.
-use Rattle.std.proofs.Common.{◌-◌, arith}
-use Rattle.meaning.specs.Bytes.{numbers_in}
+use Rattle.std.proofs.Common.{arith}
 use Rattle.faults.specs.Columns.{CopiesFit}
 use Rattle.faults.proofs.Finding.{finds_low, finds_high}
-use Rattle.faults.proofs.Blocks.{BlocksKept, blocks_start, blocks_next, blocks_all}
+use Rattle.faults.proofs.Blocks.{blocks_start, blocks_next, blocks_all}
 use Rattle.faults.proofs.breaks_many.Goals as goal
 
 -- so many copies fit

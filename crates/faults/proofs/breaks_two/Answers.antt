@@ -1,10 +1,9 @@
 -- `faults::breaks_two` meets its contract: the budgets where one count fits, and then, budget by budget, those where both do.
-use Rattle.std.proofs.Common.{◌-◌, ◌≤◌, arith, rules}
-use Rattle.meaning.specs.Bytes.{numbers_in}
+use Rattle.std.proofs.Common.{arith}
 use Rattle.meaning.proofs.Numbers.{numbers_long}
 use Rattle.faults.proofs.Finding.{finds_low}
-use Rattle.faults.proofs.Passes.{CountedLow, count_next, count_start}
-use Rattle.faults.proofs.Pairs.{BothFound, pair_start, pair_next, pair_end, light_low, two_found}
+use Rattle.faults.proofs.Passes.{count_next, count_start}
+use Rattle.faults.proofs.Pairs.{pair_start, pair_next, pair_end, light_low, two_found}
 use Rattle.faults.proofs.breaks_two.Goals as goal
 
 pub returns-then-breaks_at : goal.returns-then-breaks_at

@@ -1,10 +1,8 @@
 -- `faults::breaks_two` meets its contract: the budgets where one count fits, and then, budget by budget, those where both do.
-use Rattle.std.proofs.Common.{◌-◌, ◌≤◌, arith, rules}
+use Rattle.std.proofs.Common.{◌-◌, ◌≤◌}
 use Rattle.meaning.specs.Bytes.{numbers_in}
-use Rattle.meaning.proofs.Numbers.{numbers_long}
-use Rattle.faults.proofs.Finding.{finds_low}
-use Rattle.faults.proofs.Passes.{CountedLow, count_next, count_start}
-use Rattle.faults.proofs.Pairs.{BothFound, pair_start, pair_next, pair_end, light_low, two_found}
+use Rattle.faults.proofs.Passes.{CountedLow}
+use Rattle.faults.proofs.Pairs.{BothFound}
 use Rattle.faults.proofs.breaks_two.Given as goal
 
 abbrev pub invariant-loop-c : goal.invariant-loop-c

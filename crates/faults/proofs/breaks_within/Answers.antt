@@ -1,9 +1,8 @@
 -- `faults::breaks_within` meets its contract, cell by cell up the column.
-use Rattle.std.proofs.Common.{◌-◌, ◌≤◌, arith, rules}
-use Rattle.meaning.specs.Bytes.{numbers_in}
+use Rattle.std.proofs.Common.{arith}
 use Rattle.meaning.proofs.Numbers.{numbers_long}
 use Rattle.faults.proofs.Finding.{finds_low, finds_high}
-use Rattle.faults.proofs.Within.{ColumnPassed, passed_start, low_here, passed_next, all_passed}
+use Rattle.faults.proofs.Within.{passed_start, low_here, passed_next, all_passed}
 use Rattle.faults.proofs.breaks_within.Goals as goal
 
 pub loop-c-init : goal.loop-c-init

@@ -1,9 +1,7 @@
 -- `faults::breaks_within` meets its contract, cell by cell up the column.
-use Rattle.std.proofs.Common.{◌-◌, ◌≤◌, arith, rules}
+use Rattle.std.proofs.Common.{◌-◌, ◌≤◌}
 use Rattle.meaning.specs.Bytes.{numbers_in}
-use Rattle.meaning.proofs.Numbers.{numbers_long}
-use Rattle.faults.proofs.Finding.{finds_low, finds_high}
-use Rattle.faults.proofs.Within.{ColumnPassed, passed_start, low_here, passed_next, all_passed}
+use Rattle.faults.proofs.Within.{ColumnPassed}
 use Rattle.faults.proofs.breaks_within.Given as goal
 
 abbrev pub invariant-loop-c : goal.invariant-loop-c

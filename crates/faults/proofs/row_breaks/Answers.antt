@@ -1,5 +1,5 @@
 -- `faults::row_breaks` meets its contract: what is found for the weight and the copies that fit holds for the label's own.
-use Rattle.std.proofs.Common.{◌≡◌, ◌-◌, Bool, arith, rules}
+use Rattle.std.proofs.Common.{◌≡◌, ◌-◌, Bool, arith}
 use Rattle.meaning.specs.Bytes.{numbers_in}
 use Rattle.meaning.specs.Certificates.{some_of}
 use Rattle.faults.specs.LowRows.{low_in}

@@ -1,5 +1,4 @@
 -- `faults::stretch_breaks` meets its contract: from where the label fits on, the row is passed against itself.
-use Rattle.std.proofs.Common.{rules}
 use Rattle.meaning.specs.Bytes.{numbers_in}
 use Rattle.faults.proofs.Rule.{too_heavy, stretch_found}
 use Rattle.faults.proofs.stretch_breaks.Goals as goal

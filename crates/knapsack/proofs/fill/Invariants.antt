@@ -1,15 +1,9 @@
 -- `knapsack::fill` meets its contract: the rows so far are filled, and the last of them is capped, which the next asks (`filled_capped`).
-use mathlib.Core.Path.{◌≡◌, refl, ◌∙◌}
-use Prim.Native.Nat.{ℕ, ◌+◌, ◌-◌, ◌*◌, ◌≤◌, ◌<◌}
-use native.Mathlib.Nat.{zero-mul}
-use native.Mathlib.Omega.{arith}
-use mathlib.Core.List.{List}
+use mathlib.Core.Path.{◌≡◌}
+use Prim.Native.Nat.{◌-◌, ◌*◌, ◌≤◌}
 use lib.ListN.{length}
-use borrow.Author.Rules.{rules}
 use Rattle.numbers.specs.TwoSlices.{list_from}
 use Rattle.knapsack.specs.Tables.{limit_of, Filled}
-use Rattle.rows.proofs.AnyRows.{one_row_more}
-use Rattle.knapsack.proofs.FullRows.{rows_within, filled_none, filled_more, filled_capped}
 use Rattle.knapsack.proofs.fill.Given as goal
 
 abbrev pub invariant-loop-i : goal.invariant-loop-i

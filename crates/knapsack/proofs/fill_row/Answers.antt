@@ -1,15 +1,13 @@
 -- `knapsack::fill_row` meets its contract: the row so far is made label by label, and is capped, which the next asks (`climbing_capped`).
 use mathlib.Core.Path.{◌≡◌, ◌∙◌}
-use Prim.Native.Nat.{ℕ, ◌-◌, ◌<◌}
+use Prim.Native.Nat.{◌<◌}
 use native.Mathlib.Omega.{arith}
-use mathlib.Core.List.{List}
 use lib.ListN.{length}
-use borrow.Author.Rules.{rules}
 use Rattle.numbers.specs.TwoSlices.{list_from}
 use Rattle.rows.proofs.Rounds.{rounds_none, rounds_more, rounds_all}
 use Rattle.rows.proofs.Stores.{stored_each}
 use Rattle.rows.specs.Bounded.{Bounded}
-use Rattle.knapsack.proofs.FreeRow.{Climbing, climbing_capped}
+use Rattle.knapsack.proofs.FreeRow.{climbing_capped}
 use Rattle.knapsack.proofs.fill_row.Goals as goal
 
 pub loop-i-init : goal.loop-i-init

@@ -1,15 +1,8 @@
 -- `knapsack::fill_row` meets its contract: the row so far is made label by label, and is capped, which the next asks (`climbing_capped`).
-use mathlib.Core.Path.{◌≡◌, ◌∙◌}
-use Prim.Native.Nat.{ℕ, ◌-◌, ◌<◌}
-use native.Mathlib.Omega.{arith}
-use mathlib.Core.List.{List}
+use Prim.Native.Nat.{◌-◌}
 use lib.ListN.{length}
-use borrow.Author.Rules.{rules}
 use Rattle.numbers.specs.TwoSlices.{list_from}
-use Rattle.rows.proofs.Rounds.{rounds_none, rounds_more, rounds_all}
-use Rattle.rows.proofs.Stores.{stored_each}
-use Rattle.rows.specs.Bounded.{Bounded}
-use Rattle.knapsack.proofs.FreeRow.{Climbing, climbing_capped}
+use Rattle.knapsack.proofs.FreeRow.{Climbing}
 use Rattle.knapsack.proofs.fill_row.Given as goal
 
 abbrev pub invariant-loop-i : goal.invariant-loop-i

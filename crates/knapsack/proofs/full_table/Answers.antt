@@ -6,9 +6,8 @@ use native.Mathlib.Omega.{arith}
 use mathlib.Core.List.{List, [], ◌∷◌, ◌++◌}
 use lib.ListN.{length, drop, take}
 use lib.Seq.{length-take-le}
-use borrow.Author.Rules.{rules}
 use Rattle.meaning.specs.Lists.{at}
-use Rattle.meaning.specs.Job.{Job, Knapsack, packing, job_of, labels}
+use Rattle.meaning.specs.Job.{Job, packing, job_of, labels}
 use Rattle.meaning.specs.Lent.{cell_count}
 use Rattle.meaning.specs.Bounds.{most_budget}
 use Rattle.meaning.proofs.Laws.{number_of, kind_number}

@@ -1,10 +1,8 @@
 -- `knapsack::solve` meets its contract: a job of kind 3 that is let in has no copies (`job_free`), and any other is below kind 3 (`any_below`).
 use mathlib.Core.Path.{◌≡◌}
-use Prim.Native.Nat.{ℕ}
-use mathlib.Core.List.{List, [], ◌∷◌}
-use borrow.Author.Rules.{rules}
+use mathlib.Core.List.{[], ◌∷◌}
 use Rattle.meaning.specs.declared.Way.TheVariants.{Full}
-use Rattle.meaning.specs.Job.{Job, job_of, packing, free}
+use Rattle.meaning.specs.Job.{job_of, packing, free}
 use Rattle.numbers.specs.TwoSlices.{list_from}
 use Rattle.meaning.specs.Lent.{lent_of}
 use Rattle.meaning.specs.Solved.{UnrefusedBy}

@@ -5,13 +5,11 @@ use mathlib.Core.Path.{◌≡◌, refl}
 use Prim.Native.Nat.{ℕ, ◌+◌, ◌-◌, ◌*◌, ◌≤◌, ◌<◌}
 use native.Mathlib.Omega.{arith}
 use mathlib.Core.List.{List}
-use lib.ListN.{length, drop, length-set}
-use borrow.Author.Rules.{rules}
-use Rattle.meaning.specs.Lists.{at}
+use lib.ListN.{length, length-set}
 use Rattle.meaning.specs.Bounds.{most_budget}
 use Rattle.numbers.specs.TwoSlices.{list_from}
 use Rattle.knapsack.specs.Tables.{row_of}
-use Rattle.rows.specs.Traces.{TraceBack, begin}
+use Rattle.rows.specs.Traces.{begin}
 use Rattle.knapsack.proofs.FullRows.{rows_within}
 use Rattle.rows.proofs.AnyRows.{trace_more}
 use Rattle.knapsack.proofs.trace_back.Goals as goal

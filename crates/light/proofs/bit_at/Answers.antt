@@ -3,7 +3,6 @@ use mathlib.Core.Path.{sym}
 use Prim.Native.Nat.{◌+◌, ◌*◌, ◌/◌, ◌%◌}
 use native.Mathlib.Omega.{arith}
 use Rattle.rows.proofs.Bits.{bit_of, bit_in}
-use borrow.Author.Rules.{rules}
 use Rattle.light.proofs.bit_at.Goals as goal
 
 pub returns : goal.returns

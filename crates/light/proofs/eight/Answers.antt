@@ -2,7 +2,6 @@
 use native.Mathlib.Omega.{arith}
 use Rattle.meaning.specs.Lists.{at}
 use Rattle.light.proofs.Turns.{eight_spaced}
-use borrow.Author.Rules.{rules}
 use Rattle.light.proofs.eight.Goals as goal
 
 pub returns : goal.returns

@@ -1,7 +1,6 @@
 -- `light::exchange` meets its contract, which says what it does.
 use mathlib.Core.Path.{refl}
 use Rattle.light.specs.Bits.{unequal, exchanged}
-use borrow.Author.Rules.{rules}
 use Rattle.light.proofs.exchange.Goals as goal
 
 pub returns : goal.returns

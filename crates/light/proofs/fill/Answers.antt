@@ -1,13 +1,12 @@
 -- `light::fill` meets its contract: one label more (`lighting_more`), and each still fits 32 bits (`row_fits`).
 use mathlib.Core.Path.{◌≡◌, refl, ap, ◌∙◌}
-use Prim.Native.Nat.{ℕ, ◌+◌, ◌-◌, ◌*◌, ◌≤◌, ◌<◌}
+use Prim.Native.Nat.{ℕ, ◌+◌, ◌*◌, ◌≤◌, ◌<◌}
 use native.Mathlib.Omega.{arith}
 use mathlib.Core.List.{List}
 use lib.ListN.{length}
-use borrow.Author.Rules.{rules}
 use Rattle.numbers.specs.TwoSlices.{list_from}
 use Rattle.rows.proofs.Parts.{part_long}
-use Rattle.light.proofs.Labels.{Lighting, row_fits, lighting_none, lighting_room, lighting_more}
+use Rattle.light.proofs.Labels.{row_fits, lighting_none, lighting_room, lighting_more}
 use Rattle.light.proofs.fill.Goals as goal
 
 pub loop-i-init : goal.loop-i-init

@@ -4,7 +4,6 @@ use native.Mathlib.Omega.{arith}
 use Rattle.meaning.specs.Lists.{at}
 use Rattle.light.specs.Bits.{Few}
 use Rattle.light.proofs.Turns.{four_spaced}
-use borrow.Author.Rules.{rules}
 use Rattle.light.proofs.four.Goals as goal
 
 pub returns : goal.returns

@@ -3,7 +3,6 @@ use mathlib.Core.Path.{ap}
 use Prim.Native.Nat.{ℕ, ◌+◌, ◌-◌, ◌/◌, ◌^◌}
 use native.Mathlib.Omega.{arith}
 use Rattle.light.proofs.Windows.{shl_twice, joined_fits}
-use borrow.Author.Rules.{rules}
 use Rattle.light.proofs.joined.Goals as goal
 
 pub overflow_add-result : goal.overflow_add-result

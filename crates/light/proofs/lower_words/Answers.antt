@@ -1,7 +1,6 @@
 -- `light::lower_words` meets its contract: zeros, and over the highest of them what is left of the bits (`lowered`).
 use native.Mathlib.Omega.{arith}
 use Rattle.light.proofs.Blocks.{lowered}
-use borrow.Author.Rules.{rules}
 use Rattle.light.proofs.lower_words.Goals as goal
 
 pub returns : goal.returns

@@ -2,8 +2,7 @@
 use mathlib.Core.Path.{◌∙◌}
 use Prim.Native.Nat.{◌+◌, ◌-◌}
 use native.Mathlib.Omega.{arith}
-use borrow.Author.Rules.{rules}
-use Rattle.light.proofs.Rising.{Falling, falling_none, falling_fits, falling_more, falling_all}
+use Rattle.light.proofs.Rising.{falling_none, falling_fits, falling_more, falling_all}
 use Rattle.light.proofs.raise_few.Goals as goal
 
 pub loop-k-init : goal.loop-k-init

@@ -1,9 +1,5 @@
 -- `light::raise_few` meets its contract: the cells from k on are raised by old ones, and their bits are in hand (`falling_more`).
-use mathlib.Core.Path.{◌∙◌}
-use Prim.Native.Nat.{◌+◌, ◌-◌}
-use native.Mathlib.Omega.{arith}
-use borrow.Author.Rules.{rules}
-use Rattle.light.proofs.Rising.{Falling, falling_none, falling_fits, falling_more, falling_all}
+use Rattle.light.proofs.Rising.{Falling}
 use Rattle.light.proofs.raise_few.Given as goal
 
 abbrev pub invariant-loop-k : goal.invariant-loop-k

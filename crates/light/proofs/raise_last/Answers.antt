@@ -1,7 +1,6 @@
 -- `light::raise_last` meets its contract: a few cells (`risen_high`), or 64 of which some are raised already (`risen_over`).
 use native.Mathlib.Omega.{arith}
 use Rattle.light.proofs.Blocks.{risen_high, risen_over}
-use borrow.Author.Rules.{rules}
 use Rattle.light.proofs.raise_last.Goals as goal
 
 pub raise_word-requires : goal.raise_word-requires

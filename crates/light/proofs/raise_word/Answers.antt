@@ -2,8 +2,7 @@
 use mathlib.Core.Path.{refl}
 use Prim.Native.Nat.{◌+◌, ◌-◌}
 use native.Mathlib.Omega.{arith}
-use borrow.Author.Rules.{rules}
-use Rattle.light.proofs.Rising.{Summing, summing_none, summing_more, Raising, raising_none, raising_more, raising_few, raising_all}
+use Rattle.light.proofs.Rising.{summing_none, summing_more, raising_none, raising_more, raising_few, raising_all}
 use Rattle.light.proofs.raise_word.Goals as goal
 
 pub loop-k-init : goal.loop-k-init

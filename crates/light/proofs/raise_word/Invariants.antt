@@ -1,9 +1,6 @@
 -- `light::raise_word` meets its contract: first the sums of the old row (`summing_more`), then cell by cell what they raise (`raising_more`).
-use mathlib.Core.Path.{refl}
-use Prim.Native.Nat.{◌+◌, ◌-◌}
-use native.Mathlib.Omega.{arith}
-use borrow.Author.Rules.{rules}
-use Rattle.light.proofs.Rising.{Summing, summing_none, summing_more, Raising, raising_none, raising_more, raising_few, raising_all}
+use Prim.Native.Nat.{◌-◌}
+use Rattle.light.proofs.Rising.{Summing, Raising}
 use Rattle.light.proofs.raise_word.Given as goal
 
 abbrev pub invariant-loop-k : goal.invariant-loop-k

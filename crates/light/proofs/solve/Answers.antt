@@ -5,7 +5,6 @@ use native.Mathlib.Omega.{arith}
 use mathlib.Core.List.{List, [], ◌∷◌}
 use lib.ListN.{get_or-append, length, drop, take}
 use lib.Seq.{length-take-le}
-use borrow.Author.Rules.{rules}
 use Rattle.meaning.specs.Job.{Job, job_of, labels}
 use Rattle.meaning.specs.Bounds.{most_budget}
 use Rattle.numbers.specs.TwoSlices.{list_from}

@@ -7,8 +7,7 @@ use mathlib.Core.List.{List}
 use lib.ListN.{length}
 use Rattle.meaning.specs.Bounds.{most_budget}
 use Rattle.numbers.specs.TwoSlices.{list_from}
-use Rattle.light.proofs.Picks.{Tracing, tracing_none, tracing_more}
-use borrow.Author.Rules.{rules}
+use Rattle.light.proofs.Picks.{tracing_none, tracing_more}
 use Rattle.light.proofs.trace_bits.Goals as goal
 
 -- and its words are within the words

@@ -2,7 +2,6 @@
 use mathlib.Core.Path.{◌≡◌, ap, ◌∙◌}
 use Prim.Native.Nat.{ℕ}
 use Rattle.light.specs.Bits.{exchanged, turned}
-use borrow.Author.Rules.{rules}
 use Rattle.light.proofs.turn.Goals as goal
 
 pub returns : goal.returns

@@ -2,9 +2,8 @@
 use mathlib.Core.Path.{◌∙◌}
 use native.Mathlib.Omega.{arith}
 use Rattle.meaning.specs.Lists.{at}
-use Rattle.light.specs.Bits.{Few, turned}
+use Rattle.light.specs.Bits.{Few}
 use Rattle.light.proofs.Turns.{columns, turned_columns}
-use borrow.Author.Rules.{rules}
 use Rattle.light.proofs.word.Goals as goal
 
 pub returns : goal.returns

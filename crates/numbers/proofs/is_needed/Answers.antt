@@ -1,5 +1,4 @@
 -- `numbers::is_needed` meets its contract: each arm is told which count is needed.
-use borrow.Author.Rules.{rules}
 use Rattle.meaning.specs.Bytes.{is_needed}
 use Rattle.numbers.proofs.is_needed.Goals as goal
 

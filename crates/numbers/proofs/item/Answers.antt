@@ -1,7 +1,6 @@
 -- `numbers::item` meets its contract, by the two laws of what stands at a place: within the numbers, and past them.
 use mathlib.Core.Path.{sym, ◌∙◌}
 use native.Mathlib.Omega.{arith}
-use borrow.Author.Rules.{rules}
 use Rattle.meaning.proofs.Numbers.{numbers_long}
 use Rattle.numbers.proofs.TwoSlices.{list_long, list_first, list_rest}
 use Rattle.numbers.proofs.item.Goals as goal

@@ -1,6 +1,5 @@
 -- `numbers::list_length` meets its contract, by the law of a handed list's length.
 use mathlib.Core.Path.{sym}
-use borrow.Author.Rules.{rules}
 use Rattle.numbers.proofs.TwoSlices.{list_long}
 use Rattle.numbers.proofs.list_length.Goals as goal
 

@@ -2,8 +2,6 @@
 use mathlib.Core.Path.{◌≡◌, sym}
 use mathlib.Core.Bool.{true, false}
 use native.Mathlib.Omega.{arith}
-use borrow.Author.Tests.{not-true, not-false}
-use borrow.Author.Rules.{rules}
 use Rattle.meaning.specs.Bytes.{whole_section}
 use Rattle.meaning.proofs.Numbers.{section_cut, section_unneeded, section_short, section_whole}
 use Rattle.numbers.proofs.read_section.Goals as goal

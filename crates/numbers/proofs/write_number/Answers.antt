@@ -1,6 +1,5 @@
 -- `numbers::write_number` meets its contract: its four stores stand in a row.
 use native.Mathlib.Omega.{arith}
-use borrow.Author.Rules.{rules}
 use lib.ListN.{length-set}
 use Rattle.meaning.specs.Bytes.{bytes_of}
 use Rattle.numbers.proofs.Placed.{four_stores}

@@ -1,15 +1,10 @@
 -- `numbers::write_section` meets its contract. The loop's invariant: after the count, the slice holds the numbers passed, and elsewhere
 -- what it held when the loop began. The measure is how many numbers are left.
-use Prim.Native.Nat.{◌+◌, ◌*◌, ◌-◌, ◌≤◌}
-use mathlib.Core.Path.{◌≡◌, refl, ◌∙◌}
-use native.Mathlib.Omega.{arith}
-use borrow.Author.Rules.{rules}
+use Prim.Native.Nat.{◌-◌, ◌≤◌}
+use mathlib.Core.Path.{◌≡◌}
 use lib.ListN.{length, take}
-use Rattle.meaning.specs.Bytes.{bytes_of_all, section_bytes}
-use Rattle.meaning.proofs.Numbers.{section_long}
+use Rattle.meaning.specs.Bytes.{bytes_of_all}
 use Rattle.numbers.specs.Placed.{HoldsAt}
-use Rattle.numbers.proofs.Placed.{nothing}
-use Rattle.numbers.proofs.Sections.{turn, whole}
 use Rattle.numbers.proofs.write_section.Given as goal
 
 abbrev pub invariant-loop-i : goal.invariant-loop-i

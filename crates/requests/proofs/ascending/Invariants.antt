@@ -1,13 +1,9 @@
 -- `requests::ascending` meets its contract: the whole test is the test of what is left, from the least number that may come next.
-use mathlib.Core.Path.{◌≡◌, refl, sym, ◌∙◌}
-use Prim.Native.Nat.{ℕ, ◌-◌, ◌<◌}
-use native.Mathlib.Omega.{arith}
-use mathlib.Core.List.{List}
-use lib.ListN.{length, drop}
-use borrow.Author.Rules.{rules}
+use mathlib.Core.Path.{◌≡◌}
+use Prim.Native.Nat.{◌-◌}
+use lib.ListN.{drop}
 use Rattle.meaning.specs.Refusals.{ascending_from}
 use Rattle.numbers.specs.TwoSlices.{list_from}
-use Rattle.requests.proofs.Judging.{ascends, descends, all_ascend}
 use Rattle.requests.proofs.ascending.Given as goal
 
 abbrev pub invariant-loop-i : goal.invariant-loop-i

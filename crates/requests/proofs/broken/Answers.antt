@@ -1,6 +1,5 @@
 -- `requests::broken` meets its contract, case by case.
 use Rattle.requests.specs.Reading.{broken_of}
-use borrow.Author.Rules.{rules}
 use Rattle.requests.proofs.broken.Goals as goal
 
 pub returns-in-Part : goal.returns-in-Part

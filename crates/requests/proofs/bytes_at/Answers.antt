@@ -2,7 +2,6 @@
 use mathlib.Core.Path.{refl}
 use Rattle.meaning.specs.Bytes.{between}
 use Rattle.requests.specs.Reading.{bytes_at}
-use borrow.Author.Rules.{rules}
 use Rattle.requests.proofs.bytes_at.Goals as goal
 
 pub returns : goal.returns

@@ -1,12 +1,8 @@
 -- `requests::bytes_within` meets its contract: what was tested so far is the promise of the part that was passed.
 use Prim.Native.Nat.{◌-◌}
-use native.Mathlib.Omega.{arith}
 use lib.ListN.{take}
-use borrow.Author.Rules.{rules}
 use Rattle.meaning.specs.Bytes.{numbers_in}
-use Rattle.meaning.proofs.Numbers.{numbers_long}
 use Rattle.requests.specs.Judging.{EachWithin}
-use Rattle.requests.proofs.Judging.{none_tested, one_tested, all_tested}
 use Rattle.requests.proofs.bytes_within.Given as goal
 
 abbrev pub invariant-loop-i : goal.invariant-loop-i

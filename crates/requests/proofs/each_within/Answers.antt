@@ -1,5 +1,4 @@
 -- `requests::each_within` meets its contract: a list is its numbers and those in its bytes, and each part is tested.
-use borrow.Author.Rules.{rules}
 use Rattle.numbers.specs.TwoSlices.{list_from}
 use Rattle.requests.proofs.Judging.{joined}
 use Rattle.requests.proofs.each_within.Goals as goal

@@ -1,7 +1,6 @@
 -- `requests::has_sum` meets its contract: a sum is positive where the numbers are not all 0.
 use Rattle.numbers.specs.TwoSlices.{list_from}
 use Rattle.requests.proofs.Judging.{not_all_0}
-use borrow.Author.Rules.{rules}
 use Rattle.requests.proofs.has_sum.Goals as goal
 
 pub returns : goal.returns

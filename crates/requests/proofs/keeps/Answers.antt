@@ -2,7 +2,6 @@
 use mathlib.Core.Path.{refl}
 use Rattle.meaning.specs.Refusals.{positive, anything}
 use Rattle.rules.specs.Ruling.{rule_from}
-use borrow.Author.Rules.{rules}
 use Rattle.requests.proofs.keeps.Goals as goal
 
 pub returns-in-Positive : goal.returns-in-Positive

@@ -1,6 +1,5 @@
 -- `requests::lists_fit` meets its contract: the second length is asked where the first fits.
 use Rattle.requests.proofs.Judging.{both_fit, first_fails}
-use borrow.Author.Rules.{rules}
 use Rattle.requests.proofs.lists_fit.Goals as goal
 
 pub returns-then-values-members : goal.returns-then-values-members

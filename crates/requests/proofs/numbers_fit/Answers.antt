@@ -2,10 +2,7 @@
 use mathlib.Core.List.{[], ◌∷◌}
 use mathlib.Core.Path.{◌≡◌, sym, ◌∙◌}
 use mathlib.Core.Bool.{true}
-use Prim.Native.Nat.{ℕ}
-use borrow.Author.Tests.{not-true, not-false}
-use borrow.Author.Rules.{rules}
-use Rattle.meaning.specs.Job.{Job, job_of}
+use Rattle.meaning.specs.Job.{job_of}
 use Rattle.meaning.specs.Bounds.{most_value}
 use Rattle.meaning.specs.Refusals.{each_within}
 use Rattle.numbers.specs.TwoSlices.{list_from, job_from}

@@ -1,9 +1,5 @@
 -- `requests::numbers_within` meets its contract: what was tested so far is the promise of the part that was passed.
-use Prim.Native.Nat.{◌-◌}
 use native.Mathlib.Omega.{arith}
-use lib.ListN.{length, take}
-use borrow.Author.Rules.{rules}
-use Rattle.requests.specs.Judging.{EachWithin}
 use Rattle.requests.proofs.Judging.{none_tested, one_tested, all_tested}
 use Rattle.requests.proofs.numbers_within.Goals as goal
 

@@ -1,7 +1,6 @@
 -- `requests::q_fits` meets its contract: the second bound is asked where the first was kept.
 use mathlib.Core.Path.{refl}
 use borrow.Author.Tests.{le-leb, lt-leb}
-use borrow.Author.Rules.{rules}
 use Rattle.requests.proofs.q_fits.Goals as goal
 
 pub returns-then-bounds-q : goal.returns-then-bounds-q

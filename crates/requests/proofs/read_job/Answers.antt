@@ -11,7 +11,6 @@ use Rattle.meaning.proofs.Budgets.{some_budget}
 use Rattle.requests.specs.Reading.{ReadAs}
 use Rattle.requests.proofs.Reading.{Whole, breaks, broken_1, broken_2, broken_3, broken_4, broken_5, left_over, parts_read}
 use Rattle.requests.proofs.Reading.{one_inside, last_inside, last_there}
-use borrow.Author.Rules.{rules}
 use Rattle.requests.proofs.read_job.Goals as goal
 
 pub returns-in_default : goal.returns-in_default

@@ -6,7 +6,6 @@ use lib.ListN.{length}
 use Rattle.meaning.specs.Lists.{at}
 use Rattle.meaning.specs.Bounds.{most_value}
 use Rattle.rows.proofs.Counts.{greatest_any, greatest_bundles, part_fits}
-use borrow.Author.Rules.{rules}
 use Rattle.rows.proofs.add_any_number.Goals as goal
 
 pub overflow_mul-v : goal.overflow_mul-v

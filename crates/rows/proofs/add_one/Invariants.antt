@@ -1,9 +1,6 @@
 -- `rows::add_one` meets its contract: the cells from c on are stored and those below are as they were, so that each is raised by an old one.
-use Prim.Native.Nat.{◌-◌}
-use native.Mathlib.Omega.{arith}
-use borrow.Author.Rules.{rules}
 use Rattle.rows.specs.Rows.{raised_by}
-use Rattle.rows.proofs.Stores.{Descending, descending_none, descending_more, descending_all}
+use Rattle.rows.proofs.Stores.{Descending}
 use Rattle.rows.proofs.add_one.Given as goal
 
 abbrev pub invariant-loop-c : goal.invariant-loop-c

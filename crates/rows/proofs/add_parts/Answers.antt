@@ -1,10 +1,9 @@
 -- `rows::add_parts` meets its contract: a row with up to m of the label holds up to m and a part of it, once the part is raised (`greatest_part`).
 use mathlib.Core.Path.{◌≡◌, refl, ◌∙◌}
-use Prim.Native.Nat.{ℕ, ◌-◌, ◌*◌, ◌%◌, ◌≤◌, min}
+use Prim.Native.Nat.{◌*◌, ◌%◌, min}
 use native.Mathlib.Nat.{mod-eq_of_lt}
 use native.Mathlib.Omega.{arith}
 use lib.ListN.{length}
-use borrow.Author.Rules.{rules}
 use Rattle.meaning.specs.Lists.{at}
 use Rattle.meaning.specs.Bounds.{most_value, most_budget}
 use Rattle.rows.specs.Rows.{GreatestRow, Repeated, Capped}

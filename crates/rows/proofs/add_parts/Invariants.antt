@@ -1,14 +1,9 @@
 -- `rows::add_parts` meets its contract: a row with up to m of the label holds up to m and a part of it, once the part is raised (`greatest_part`).
-use mathlib.Core.Path.{◌≡◌, refl, ◌∙◌}
-use Prim.Native.Nat.{ℕ, ◌-◌, ◌*◌, ◌%◌, ◌≤◌, min}
-use native.Mathlib.Nat.{mod-eq_of_lt}
-use native.Mathlib.Omega.{arith}
+use mathlib.Core.Path.{◌≡◌}
+use Prim.Native.Nat.{ℕ, ◌-◌, ◌≤◌, min}
 use lib.ListN.{length}
-use borrow.Author.Rules.{rules}
 use Rattle.meaning.specs.Lists.{at}
-use Rattle.meaning.specs.Bounds.{most_value, most_budget}
-use Rattle.rows.specs.Rows.{GreatestRow, Repeated, Capped}
-use Rattle.rows.proofs.Counts.{greatest_part, PartFits, part_fits, raised_capped}
+use Rattle.rows.specs.Rows.{GreatestRow, Capped}
 use Rattle.rows.proofs.add_parts.Given as goal
 
 abbrev pub invariant-loop-m : goal.invariant-loop-m

@@ -1,14 +1,9 @@
 -- `rows::bundle` meets its contract: a row with fewer than m of the label holds fewer than twice as many, once m are raised (`greatest_part`).
-use mathlib.Core.Path.{◌≡◌, refl, ◌∙◌}
-use Prim.Native.Nat.{ℕ, ◌+◌, ◌-◌, ◌*◌, ◌%◌, ◌≤◌, ◌<◌}
-use native.Mathlib.Nat.{mod-eq_of_lt, mul-one, one-mul, mul_assoc, mul-le-mul_right}
-use native.Mathlib.Omega.{arith}
+use mathlib.Core.Path.{◌≡◌}
+use Prim.Native.Nat.{◌-◌, ◌*◌, ◌≤◌, ◌<◌}
 use lib.ListN.{length}
-use borrow.Author.Rules.{rules}
 use Rattle.meaning.specs.Lists.{at}
-use Rattle.meaning.specs.Bounds.{most_budget, most_value}
 use Rattle.rows.specs.Rows.{GreatestRow, Capped}
-use Rattle.rows.proofs.Counts.{greatest_none, greatest_part, PartFits, part_fits, raised_capped}
 use Rattle.rows.proofs.bundle.Given as goal
 
 abbrev pub invariant-loop-m : goal.invariant-loop-m

@@ -1,9 +1,7 @@
 -- `rows::clear` meets its contract: the words so far are 0, and the others as they were.
 use mathlib.Core.Path.{refl}
-use Prim.Native.Nat.{◌-◌}
 use native.Mathlib.Omega.{arith}
-use borrow.Author.Rules.{rules}
-use Rattle.rows.proofs.Stores.{Storing, storing_none, storing_more, storing_all}
+use Rattle.rows.proofs.Stores.{storing_none, storing_more, storing_all}
 use Rattle.rows.proofs.clear.Goals as goal
 
 pub loop-m-init : goal.loop-m-init

@@ -1,11 +1,8 @@
 -- `rows::climb` meets its contract: the row is swept stretch by stretch (`sweeping_on`), and stays capped.
-use Prim.Native.Nat.{◌-◌}
 use native.Mathlib.Omega.{arith}
 use lib.ListN.{length}
-use borrow.Author.Rules.{rules}
-use Rattle.meaning.specs.Lists.{at}
-use Rattle.rows.specs.Rows.{raised_by, Capped}
-use Rattle.rows.proofs.Stores.{Sweeping, sweeping_none, sweeping_on, sweeping_all}
+use Rattle.rows.specs.Rows.{raised_by}
+use Rattle.rows.proofs.Stores.{sweeping_none, sweeping_on, sweeping_all}
 use Rattle.rows.proofs.climb.Goals as goal
 
 pub loop-c-init : goal.loop-c-init

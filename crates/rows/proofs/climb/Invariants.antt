@@ -1,11 +1,9 @@
 -- `rows::climb` meets its contract: the row is swept stretch by stretch (`sweeping_on`), and stays capped.
 use Prim.Native.Nat.{◌-◌}
-use native.Mathlib.Omega.{arith}
 use lib.ListN.{length}
-use borrow.Author.Rules.{rules}
 use Rattle.meaning.specs.Lists.{at}
 use Rattle.rows.specs.Rows.{raised_by, Capped}
-use Rattle.rows.proofs.Stores.{Sweeping, sweeping_none, sweeping_on, sweeping_all}
+use Rattle.rows.proofs.Stores.{Sweeping}
 use Rattle.rows.proofs.climb.Given as goal
 
 abbrev pub invariant-loop-c : goal.invariant-loop-c

@@ -1,10 +1,9 @@
 -- `rows::copy` meets its contract: the cells so far are stored, and the row that is read lies before them, as it was.
 use mathlib.Core.Path.{refl}
-use Prim.Native.Nat.{◌+◌, ◌-◌}
+use Prim.Native.Nat.{◌+◌}
 use native.Mathlib.Omega.{arith}
-use borrow.Author.Rules.{rules}
 use Rattle.meaning.specs.Lists.{at}
-use Rattle.rows.proofs.Stores.{Storing, storing_none, storing_more, storing_all}
+use Rattle.rows.proofs.Stores.{storing_none, storing_more, storing_all}
 use Rattle.rows.proofs.copy.Goals as goal
 
 pub loop-c-init : goal.loop-c-init

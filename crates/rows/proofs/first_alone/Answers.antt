@@ -1,6 +1,5 @@
 -- `rows::first_alone` meets its contract: 0 in every word, and 1 over the first.
 use native.Mathlib.Omega.{arith}
-use borrow.Author.Rules.{rules}
 use Rattle.rows.proofs.Stores.{alone, stored_each}
 use Rattle.rows.proofs.first_alone.Goals as goal
 

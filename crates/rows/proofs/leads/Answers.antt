@@ -2,7 +2,6 @@
 use Prim.Native.Nat.{◌-◌}
 use native.Mathlib.Omega.{arith}
 use borrow.Author.Tests.{lt-leb, le-leb}
-use borrow.Author.Rules.{rules}
 use Rattle.meaning.specs.Bounds.{most_value, most_budget}
 use Rattle.rows.specs.Rows.{Capped, leads_on}
 use Rattle.rows.proofs.leads.Goals as goal

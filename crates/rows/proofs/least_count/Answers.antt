@@ -1,12 +1,9 @@
 -- `rows::least_count` meets its contract: no fewer are worth the goal; some count is, so that budget and goal are left for one more (`goes_on`).
 use native.Mathlib.Nat.{mul-add, mul-zero}
-use mathlib.Core.Path.{◌≡◌}
-use Prim.Native.Nat.{ℕ, ◌+◌, ◌*◌, ◌<◌}
+use Prim.Native.Nat.{◌+◌}
 use native.Mathlib.Omega.{arith}
-use borrow.Author.Rules.{rules}
 use Rattle.meaning.specs.Lists.{at}
 use Rattle.meaning.specs.Bounds.{most_budget}
-use Rattle.rows.specs.Rows.{Worth}
 use Rattle.rows.proofs.LeastCounts.{found, GoesOn, goes_on}
 use Rattle.rows.proofs.least_count.Goals as goal
 

@@ -1,6 +1,5 @@
 -- `rows::mark_rest` meets its contract: the mark in every cell, and 0 over the first.
 use native.Mathlib.Omega.{arith}
-use borrow.Author.Rules.{rules}
 use Rattle.meaning.specs.Cells.{no_way}
 use Rattle.rows.proofs.Stores.{alone, stored_each}
 use Rattle.rows.proofs.mark_rest.Goals as goal

@@ -4,7 +4,6 @@ use Prim.Native.Nat.{◌-◌, ◌/◌, ◌≤◌}
 use native.Mathlib.Nat.{div-eq_of_lt, le-div_iff_mul-le, one-mul}
 use native.Mathlib.Omega.{arith}
 use Rattle.meaning.specs.Bounds.{most_budget}
-use borrow.Author.Rules.{rules}
 use Rattle.rows.proofs.most_held.Goals as goal
 
 pub overflow_cast-budget : goal.overflow_cast-budget

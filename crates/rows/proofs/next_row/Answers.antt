@@ -1,10 +1,8 @@
 -- `rows::next_row` meets its contract: copied and raised, the row holds up to one of the label, and the parts add the others (`next_made`).
 use mathlib.Core.Path.{◌∙◌}
-use Prim.Native.Nat.{ℕ, ◌+◌, ◌*◌, ◌≤◌, ◌<◌}
+use Prim.Native.Nat.{◌+◌, ◌*◌, ◌≤◌, ◌<◌}
 use native.Mathlib.Omega.{arith}
 use lib.ListN.{length}
-use borrow.Author.Rules.{rules}
-use Rattle.meaning.specs.Lists.{at}
 use Rattle.meaning.specs.Bounds.{most_value, most_budget}
 use Rattle.rows.specs.Rows.{Capped}
 use Rattle.rows.proofs.Parts.{part_long}

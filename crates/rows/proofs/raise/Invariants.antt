@@ -1,11 +1,8 @@
 -- `rows::raise` meets its contract: each cell so far is made of two of the row before, which lies before all stores and is as it was.
-use mathlib.Core.Path.{◌≡◌, refl, ap, ◌∙◌}
 use Prim.Native.Nat.{ℕ, ◌+◌, ◌-◌, max}
-use native.Mathlib.Omega.{arith}
 use mathlib.Core.List.{List}
-use borrow.Author.Rules.{rules}
 use Rattle.meaning.specs.Lists.{at}
-use Rattle.rows.proofs.Stores.{Storing, storing_none, storing_more, storing_all}
+use Rattle.rows.proofs.Stores.{Storing}
 use Rattle.rows.proofs.raise.Given as goal
 
 -- the better of none of the label and one

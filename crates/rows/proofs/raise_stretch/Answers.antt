@@ -2,11 +2,9 @@
 use Prim.Native.Nat.{◌-◌}
 use native.Mathlib.Omega.{arith}
 use lib.ListN.{length}
-use borrow.Author.Rules.{rules}
-use Rattle.meaning.specs.Lists.{at}
 use Rattle.meaning.specs.Bounds.{most_budget, most_value}
 use Rattle.rows.specs.Rows.{raised_by, Capped}
-use Rattle.rows.proofs.Stores.{Sweeping, sweeping_none, sweeping_more, sweeping_all, capped_raised}
+use Rattle.rows.proofs.Stores.{sweeping_none, sweeping_more, sweeping_all, capped_raised}
 use Rattle.rows.proofs.raise_stretch.Goals as goal
 
 pub loop-c-init : goal.loop-c-init

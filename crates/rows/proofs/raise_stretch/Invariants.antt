@@ -1,12 +1,9 @@
 -- `rows::raise_stretch` meets its contract: the cells so far are swept by the new ones w places before them, and the row stays capped.
 use Prim.Native.Nat.{◌-◌}
-use native.Mathlib.Omega.{arith}
 use lib.ListN.{length}
-use borrow.Author.Rules.{rules}
 use Rattle.meaning.specs.Lists.{at}
-use Rattle.meaning.specs.Bounds.{most_budget, most_value}
 use Rattle.rows.specs.Rows.{raised_by, Capped}
-use Rattle.rows.proofs.Stores.{Sweeping, sweeping_none, sweeping_more, sweeping_all, capped_raised}
+use Rattle.rows.proofs.Stores.{Sweeping}
 use Rattle.rows.proofs.raise_stretch.Given as goal
 
 abbrev pub invariant-loop-c : goal.invariant-loop-c

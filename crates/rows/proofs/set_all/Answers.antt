@@ -1,9 +1,7 @@
 -- `rows::set_all` meets its contract: the cells so far are x, and the others as they were.
 use mathlib.Core.Path.{refl}
-use Prim.Native.Nat.{◌-◌}
 use native.Mathlib.Omega.{arith}
-use borrow.Author.Rules.{rules}
-use Rattle.rows.proofs.Stores.{Storing, storing_none, storing_more, storing_all}
+use Rattle.rows.proofs.Stores.{storing_none, storing_more, storing_all}
 use Rattle.rows.proofs.set_all.Goals as goal
 
 pub loop-c-init : goal.loop-c-init

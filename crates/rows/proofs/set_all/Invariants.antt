@@ -1,9 +1,6 @@
 -- `rows::set_all` meets its contract: the cells so far are x, and the others as they were.
-use mathlib.Core.Path.{refl}
 use Prim.Native.Nat.{◌-◌}
-use native.Mathlib.Omega.{arith}
-use borrow.Author.Rules.{rules}
-use Rattle.rows.proofs.Stores.{Storing, storing_none, storing_more, storing_all}
+use Rattle.rows.proofs.Stores.{Storing}
 use Rattle.rows.proofs.set_all.Given as goal
 
 abbrev pub invariant-loop-c : goal.invariant-loop-c

@@ -1,7 +1,6 @@
 -- `rules::blocks_room` meets its contract, kind by kind.
 use native.Mathlib.Omega.{arith}
 use Rattle.rules.proofs.Places.{ways_needed}
-use borrow.Author.Rules.{rules}
 use Rattle.rules.proofs.blocks_room.Goals as goal
 
 pub returns-then-kind-eq5 : goal.returns-then-kind-eq5

@@ -1,6 +1,5 @@
 -- `rules::blocks_rules` meets its contract: kinds 5 and 6 have the same rules.
 use mathlib.Core.Bool.{false}
-use borrow.Author.Rules.{rules}
 use Rattle.meaning.specs.Bounds.{most_sizes, most_budget}
 use Rattle.meaning.specs.Refusals.{rules_of}
 use Rattle.rules.specs.Ruling.{rule_from}

@@ -5,7 +5,6 @@ use Rattle.meaning.specs.Job.{packing}
 use Rattle.meaning.specs.Bounds.{most_labels, most_budget}
 use Rattle.meaning.proofs.Laws.{kind_number}
 use Rattle.rules.proofs.Places.{one_row, all_rows, few_cells}
-use borrow.Author.Rules.{rules}
 use Rattle.rules.proofs.knapsack_room.Goals as goal
 
 pub returns-then-kind-eq3 : goal.returns-then-kind-eq3

@@ -2,7 +2,6 @@
 use native.Mathlib.Omega.{arith}
 use Rattle.meaning.specs.Bounds.{most_labels, most_budget}
 use Rattle.rules.proofs.Places.{few_words, light_needed}
-use borrow.Author.Rules.{rules}
 use Rattle.rules.proofs.light_room.Goals as goal
 
 pub overflow_mul-result : goal.overflow_mul-result

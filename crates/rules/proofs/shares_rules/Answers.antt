@@ -1,6 +1,5 @@
 -- `rules::shares_rules` meets its contract: the rules of weights alone, with a sum that has to be positive.
 use mathlib.Core.Bool.{true}
-use borrow.Author.Rules.{rules}
 use Rattle.meaning.specs.Bounds.{most_claims, most_shared}
 use Rattle.meaning.specs.Refusals.{rules_of}
 use Rattle.rules.specs.Ruling.{rule_from}

@@ -1,6 +1,5 @@
 -- `rules::sums_room` meets its contract: a bit for each total, whatever n is (`bits_needed`).
 use Rattle.rules.proofs.Places.{bits_needed}
-use borrow.Author.Rules.{rules}
 use Rattle.rules.proofs.sums_room.Goals as goal
 
 pub returns : goal.returns

@@ -1,6 +1,5 @@
 -- `rules::sums_rules` meets its contract: the rules of weights alone, with nothing asked of their sum.
 use mathlib.Core.Bool.{false}
-use borrow.Author.Rules.{rules}
 use Rattle.meaning.specs.Bounds.{most_labels, most_budget}
 use Rattle.meaning.specs.Refusals.{rules_of}
 use Rattle.rules.specs.Ruling.{rule_from}

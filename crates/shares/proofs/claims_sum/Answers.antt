@@ -1,9 +1,5 @@
 -- `claims_sum` gives S, the sum of the claims.
-use mathlib.Core.Path.{◌≡◌}
-use Prim.Native.Nat.{ℕ, ◌*◌, ◌-◌, ◌≤◌}
 use native.Mathlib.Omega.{arith}
-use mathlib.Core.List.{List}
-use lib.ListN.{take}
 use borrow.Author.Rules.{rules}
 use Rattle.meaning.specs.Lists.{sum}
 use Rattle.meaning.specs.Bounds.{most_claims}

@@ -1,13 +1,8 @@
 -- `claims_sum` gives S, the sum of the claims.
 use mathlib.Core.Path.{◌≡◌}
-use Prim.Native.Nat.{ℕ, ◌*◌, ◌-◌, ◌≤◌}
-use native.Mathlib.Omega.{arith}
-use mathlib.Core.List.{List}
+use Prim.Native.Nat.{◌*◌, ◌-◌, ◌≤◌}
 use lib.ListN.{take}
-use borrow.Author.Rules.{rules}
 use Rattle.meaning.specs.Lists.{sum}
-use Rattle.meaning.specs.Bounds.{most_claims}
-use Rattle.meaning.proofs.Loops.{sum_step, sum_done}
 use Rattle.numbers.specs.TwoSlices.{list_from}
 use Rattle.shares.proofs.claims_sum.Given as goal
 

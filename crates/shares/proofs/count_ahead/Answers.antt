@@ -1,8 +1,7 @@
 -- `count_ahead` counts the labels at a border or before it.
 use mathlib.Core.Path.{◌≡◌, ap, ◌∙◌}
-use Prim.Native.Nat.{ℕ, ◌+◌, ◌-◌, ◌≤◌}
+use Prim.Native.Nat.{ℕ, ◌+◌}
 use native.Mathlib.Omega.{arith}
-use lib.ListN.{length}
 use mir.Val.{bool_byte}
 use borrow.Author.Rules.{rules}
 use Rattle.meaning.specs.Lists.{up_to, tally}

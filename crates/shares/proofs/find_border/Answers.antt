@@ -1,13 +1,11 @@
 -- `find_border` finds where the units run out.
-use mathlib.Core.Path.{◌≡◌, ap, ◌∙◌}
-use Prim.Native.Nat.{◌+◌, ◌-◌, ◌*◌, ◌/◌, ◌≤◌, ◌<◌}
+use mathlib.Core.Path.{ap, ◌∙◌}
+use Prim.Native.Nat.{◌+◌, ◌-◌, ◌/◌, ◌≤◌, ◌<◌}
 use native.Mathlib.Omega.{arith}
 use lib.Dec.{eqb}
 use mir.Val.{bool_byte}
-use borrow.Author.Rules.{rules}
-use borrow.Author.Tests.{ltb-true, ltb-false}
 use Rattle.meaning.specs.Job.{Job, job_of, labels}
-use Rattle.shares.specs.Borders.{claims_job, Reaches, count_of, NoLower}
+use Rattle.shares.specs.Borders.{claims_job, Reaches}
 use Rattle.shares.proofs.Starts.{one_at_most}
 use Rattle.shares.proofs.Borders.{next_lowest, not_at_least, none_found, some_span}
 use Rattle.shares.proofs.Borders.{low_up, high_down, still_some, none_between, just_enough}

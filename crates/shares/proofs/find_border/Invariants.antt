@@ -1,17 +1,8 @@
 -- `find_border` finds where the units run out.
-use mathlib.Core.Path.{◌≡◌, ap, ◌∙◌}
-use mathlib.Core.Logic.{inl, inr}
-use Prim.Native.Nat.{◌+◌, ◌-◌, ◌*◌, ◌/◌, ◌≤◌, ◌<◌}
-use native.Mathlib.Omega.{arith}
-use lib.Dec.{eqb}
+use mathlib.Core.Path.{◌≡◌}
+use Prim.Native.Nat.{◌+◌, ◌-◌, ◌*◌, ◌≤◌, ◌<◌}
 use mir.Val.{bool_byte}
-use borrow.Author.Rules.{rules}
-use borrow.Author.Tests.{ltb-true, ltb-false}
-use Rattle.meaning.specs.Job.{Job, job_of, labels}
-use Rattle.shares.specs.Borders.{claims_job, Reaches, count_of, NoLower}
-use Rattle.shares.proofs.Starts.{one_at_most}
-use Rattle.shares.proofs.Borders.{next_lowest, not_at_least, none_found, some_span}
-use Rattle.shares.proofs.Borders.{low_up, high_down, still_some, none_between, just_enough}
+use Rattle.shares.specs.Borders.{claims_job, count_of, NoLower}
 use Rattle.shares.proofs.find_border.Given as goal
 
 abbrev pub invariant-loop-found : goal.invariant-loop-found

@@ -3,7 +3,6 @@ use mathlib.Core.Path.{ap, ◌∙◌}
 use Prim.Native.Nat.{ℕ, ◌+◌}
 use native.Mathlib.Omega.{arith}
 use lib.Dec.{ltb}
-use borrow.Author.Rules.{rules}
 use Rattle.meaning.proofs.Tally.{one_or_none}
 use Rattle.shares.specs.Borders.{ahead_of, gets_of}
 use Rattle.shares.proofs.Starts.{one_at_most}

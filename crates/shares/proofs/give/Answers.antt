@@ -1,15 +1,13 @@
 -- `give` makes the shares of the starts: the units go to the labels at the border or before it, and to the first ones next behind it.
 use mathlib.Core.Path.{◌≡◌, refl, ◌∙◌}
-use Prim.Native.Nat.{◌+◌, ◌-◌, ◌≤◌, ◌<◌}
+use Prim.Native.Nat.{◌+◌, ◌<◌}
 use native.Mathlib.Omega.{arith}
 use lib.Dec.{eqb}
-use lib.ListN.{length, length-set}
+use lib.ListN.{length-set}
 use mir.Val.{bool_byte}
-use borrow.Author.Rules.{rules}
 use Rattle.meaning.specs.Lists.{at, sum}
-use Rattle.meaning.specs.Job.{Job, job_of, labels}
+use Rattle.meaning.specs.Job.{job_of, labels}
 use Rattle.meaning.specs.Shares.{share_of}
-use Rattle.rows.specs.Rows.{Stored}
 use Rattle.rows.proofs.Stores.{stored_each, stored_none, stored_up}
 use Rattle.shares.specs.Borders.{claims_job, behind_of}
 use Rattle.shares.proofs.Starts.{share_within, share_given, shares_made, remainder_within}

@@ -1,7 +1,5 @@
 -- `raised` takes a remainder for the greatest if it is below the bound.
-use mathlib.Core.Path.{◌≡◌}
 use native.Mathlib.Omega.{arith}
-use borrow.Author.Rules.{rules}
 use borrow.Author.Tests.{lt-ltb, le-ltb}
 use Rattle.meaning.specs.Lists.{if}
 use Rattle.shares.proofs.raised.Goals as goal

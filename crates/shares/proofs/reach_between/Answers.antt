@@ -1,11 +1,9 @@
 -- `reach_between` finds the least and the greatest of the remainders between two numbers.
 use mathlib.Core.Path.{◌≡◌}
-use Prim.Native.Nat.{◌-◌, ◌≤◌}
 use native.Mathlib.Omega.{arith}
 use lib.ListN.{length}
-use borrow.Author.Rules.{rules}
 use Rattle.meaning.specs.Job.{Job, job_of, labels}
-use Rattle.shares.specs.Borders.{claims_job, Reaches}
+use Rattle.shares.specs.Borders.{claims_job}
 use Rattle.shares.proofs.Starts.{start_kept, reaches_none, reaches_more}
 use Rattle.shares.proofs.reach_between.Goals as goal
 

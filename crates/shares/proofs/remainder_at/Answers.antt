@@ -1,11 +1,10 @@
 -- `remainder_at` gives the remainder of a label of the job.
 use mathlib.Core.Path.{◌≡◌, sym, ◌∙◌}
 use Prim.Native.Nat.{◌/◌, ◌%◌}
-use Rattle.meaning.specs.Job.{Job, job_of}
+use Rattle.meaning.specs.Job.{job_of}
 use Rattle.meaning.specs.Shares.{start_of, remainder_of}
 use Rattle.shares.specs.Borders.{claims_job}
 use Rattle.shares.proofs.Starts.{over_claimed}
-use borrow.Author.Rules.{rules}
 use Rattle.shares.proofs.remainder_at.Goals as goal
 
 pub remainder-requires : goal.remainder-requires

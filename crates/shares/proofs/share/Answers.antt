@@ -1,8 +1,6 @@
 -- `share` turns the claims into shares and gives the spare.
 use mathlib.Core.Path.{◌≡◌, sym}
 use native.Mathlib.Omega.{arith}
-use borrow.Author.Rules.{rules}
-use Rattle.meaning.specs.Job.{Job}
 use Rattle.meaning.specs.Shares.{spare_of}
 use Rattle.shares.specs.Borders.{claims_job}
 use Rattle.shares.proofs.Starts.{none_spare}

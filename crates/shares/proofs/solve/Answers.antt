@@ -3,8 +3,7 @@ use mathlib.Core.Path.{◌≡◌, sym, ◌∙◌}
 use native.Mathlib.Omega.{arith}
 use lib.ListN.{length, take}
 use lib.Seq.{length-take-le}
-use borrow.Author.Rules.{rules}
-use Rattle.meaning.specs.Job.{Job, job_of, labels}
+use Rattle.meaning.specs.Job.{job_of, labels}
 use Rattle.shares.specs.Borders.{claims_job}
 use Rattle.shares.proofs.SharesDoor.{Ready, ready, shared}
 use Rattle.shares.proofs.solve.Goals as goal

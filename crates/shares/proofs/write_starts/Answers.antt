@@ -3,15 +3,13 @@ use mathlib.Core.Path.{◌≡◌, refl, ◌∙◌}
 use Prim.Native.Nat.{◌+◌, ◌-◌, ◌/◌, ◌%◌, ◌≤◌, ◌<◌}
 use native.Mathlib.Nat.{mod-lt}
 use native.Mathlib.Omega.{arith}
-use lib.ListN.{length, take, length-set}
-use borrow.Author.Rules.{rules}
+use lib.ListN.{take, length-set}
 use Rattle.meaning.specs.Lists.{sum}
-use Rattle.meaning.specs.Job.{Job, job_of, labels}
+use Rattle.meaning.specs.Job.{job_of, labels}
 use Rattle.meaning.specs.Shares.{start_of, remainder_of}
 use Rattle.numbers.specs.TwoSlices.{list_from}
-use Rattle.rows.specs.Rows.{Stored}
 use Rattle.rows.proofs.Stores.{stored_each, stored_none, stored_up}
-use Rattle.shares.specs.Borders.{claims_job, Reaches}
+use Rattle.shares.specs.Borders.{claims_job}
 use Rattle.shares.proofs.Starts.{starts, member_within, start_within, over_claimed, spare_step, spare_done, reaches_none, reaches_all}
 use Rattle.shares.proofs.write_starts.Goals as goal
 

@@ -1,18 +1,12 @@
 -- `write_starts` keeps every start, and gives the spare and how far the remainders reach.
-use mathlib.Core.Path.{◌≡◌, refl, ◌∙◌}
-use Prim.Native.Nat.{◌+◌, ◌-◌, ◌/◌, ◌%◌, ◌≤◌, ◌<◌}
-use native.Mathlib.Nat.{mod-lt}
-use native.Mathlib.Omega.{arith}
-use lib.ListN.{length, take, length-set}
-use borrow.Author.Rules.{rules}
+use mathlib.Core.Path.{◌≡◌}
+use Prim.Native.Nat.{◌+◌, ◌-◌, ◌≤◌}
+use lib.ListN.{length, take}
 use Rattle.meaning.specs.Lists.{sum}
-use Rattle.meaning.specs.Job.{Job, job_of, labels}
-use Rattle.meaning.specs.Shares.{start_of, remainder_of}
-use Rattle.numbers.specs.TwoSlices.{list_from}
+use Rattle.meaning.specs.Shares.{start_of}
 use Rattle.rows.specs.Rows.{Stored}
-use Rattle.rows.proofs.Stores.{stored_each, stored_none, stored_up}
 use Rattle.shares.specs.Borders.{claims_job, Reaches}
-use Rattle.shares.proofs.Starts.{starts, member_within, start_within, over_claimed, spare_step, spare_done, reaches_none, reaches_all}
+use Rattle.shares.proofs.Starts.{starts}
 use Rattle.shares.proofs.write_starts.Given as goal
 
 abbrev pub invariant-loop-i : goal.invariant-loop-i

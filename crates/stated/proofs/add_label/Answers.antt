@@ -1,7 +1,6 @@
 -- `stated::add_label` meets its contract: it is asked for room only where it makes a row.
 use mathlib.Core.Path.{refl}
 use native.Mathlib.Omega.{arith}
-use borrow.Author.Rules.{rules}
 use Rattle.stated.specs.LeastWeights.{aside, row_made}
 use Rattle.stated.proofs.add_label.Goals as goal
 

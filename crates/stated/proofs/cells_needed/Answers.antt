@@ -1,6 +1,6 @@
 -- `stated::cells_needed` meets its contract: it is one of the measures.
 use mathlib.Core.List.{[], ◌∷◌}
-use Rattle.meaning.specs.Job.{Job, job_of, has_q}
+use Rattle.meaning.specs.Job.{job_of, has_q}
 use Rattle.meaning.specs.Lists.{if}
 use Rattle.numbers.specs.TwoSlices.{list_from}
 use Rattle.stated.proofs.StatedDoor.{Kept, asked_keeps}

@@ -1,14 +1,8 @@
 -- `stated::count_remaining` meets its contract: m of the first i labels remain.
-use mathlib.Core.Path.{◌≡◌, sym}
-use Prim.Native.Nat.{ℕ, ◌+◌, ◌-◌, ◌≤◌, ◌<◌}
-use native.Mathlib.Omega.{arith}
-use mathlib.Core.List.{List}
-use lib.ListN.{length}
-use borrow.Author.Rules.{rules}
+use mathlib.Core.Path.{◌≡◌}
+use Prim.Native.Nat.{◌-◌, ◌≤◌}
 use Rattle.numbers.specs.TwoSlices.{list_from}
 use Rattle.stated.specs.LeastWeights.{row_of}
-use Rattle.stated.proofs.Fitting.{count_fits}
-use Rattle.stated.proofs.Filling.{row_none, row_count}
 use Rattle.stated.proofs.count_remaining.Given as goal
 
 abbrev pub invariant-loop-i : goal.invariant-loop-i

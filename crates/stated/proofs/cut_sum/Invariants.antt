@@ -1,18 +1,11 @@
 -- `stated::cut_sum` meets its contract: the sum so far and that of the cut values from label i on stay the same together.
-use mathlib.Core.Path.{◌≡◌, sym, ap, ◌∙◌}
-use Prim.Native.Nat.{ℕ, ◌+◌, ◌-◌, ◌*◌, ◌/◌, ◌≤◌, ◌<◌}
-use native.Mathlib.Nat.{div-le_self}
-use native.Mathlib.Omega.{arith}
-use mathlib.Core.List.{List}
-use lib.ListN.{length, drop}
-use borrow.Author.Rules.{rules}
-use Rattle.meaning.specs.Lists.{at, sum}
+use mathlib.Core.Path.{◌≡◌}
+use Prim.Native.Nat.{◌+◌, ◌-◌, ◌*◌, ◌≤◌}
+use lib.ListN.{drop}
+use Rattle.meaning.specs.Lists.{sum}
 use Rattle.meaning.specs.Bounds.{most_value}
 use Rattle.meaning.specs.Cuts.{that_fit, cut_by}
-use Rattle.meaning.proofs.Sections.{limit32}
 use Rattle.numbers.specs.TwoSlices.{list_from}
-use Rattle.stated.proofs.Fitting.{sum_fits}
-use Rattle.stated.proofs.Measuring.{cut_at, cut_long, none_on, sum_on}
 use Rattle.stated.proofs.cut_sum.Given as goal
 
 abbrev pub invariant-loop-i : goal.invariant-loop-i

@@ -1,13 +1,9 @@
 -- `stated::greatest_value` meets its contract: the greater of p and of the greatest value from label i on stays the same.
-use mathlib.Core.Path.{◌≡◌, ap}
-use Prim.Native.Nat.{ℕ, ◌-◌, ◌≤◌, ◌<◌, max}
-use native.Mathlib.Omega.{arith}
-use mathlib.Core.List.{List}
-use lib.ListN.{length, drop}
-use borrow.Author.Rules.{rules}
+use mathlib.Core.Path.{◌≡◌}
+use Prim.Native.Nat.{◌-◌, ◌≤◌, max}
+use lib.ListN.{drop}
 use Rattle.numbers.specs.TwoSlices.{list_from}
 use Rattle.meaning.specs.Cuts.{that_fit, greatest_of}
-use Rattle.stated.proofs.Measuring.{none_on, greatest_on}
 use Rattle.stated.proofs.greatest_value.Given as goal
 
 abbrev pub invariant-loop-i : goal.invariant-loop-i

@@ -1,9 +1,7 @@
 -- `stated::highest` meets its contract: the totals above are marked, and total 0 isn't, so that the search ends.
 use mathlib.Core.Path.{◌≡◌, sym, ap, ◌∙◌}
-use Prim.Native.Nat.{ℕ, ◌<◌}
+use Prim.Native.Nat.{◌<◌}
 use native.Mathlib.Omega.{arith}
-use lib.ListN.{length}
-use borrow.Author.Rules.{rules}
 use borrow.Author.Tests.{eqb-true, eqb-false}
 use Rattle.meaning.specs.Lists.{at}
 use Rattle.meaning.specs.Cells.{no_way}

@@ -1,13 +1,9 @@
 -- `stated::highest` meets its contract: the totals above are marked, and total 0 isn't, so that the search ends.
-use mathlib.Core.Path.{◌≡◌, sym, ap, ◌∙◌}
+use mathlib.Core.Path.{◌≡◌}
 use Prim.Native.Nat.{ℕ, ◌<◌}
-use native.Mathlib.Omega.{arith}
 use lib.ListN.{length}
-use borrow.Author.Rules.{rules}
-use borrow.Author.Tests.{eqb-true, eqb-false}
 use Rattle.meaning.specs.Lists.{at}
 use Rattle.meaning.specs.Cells.{no_way}
-use Rattle.rows.proofs.Stores.{by}
 use Rattle.stated.proofs.highest.Given as goal
 
 abbrev pub invariant-loop-t : goal.invariant-loop-t

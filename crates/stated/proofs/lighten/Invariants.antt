@@ -1,11 +1,8 @@
 -- `stated::lighten` meets its contract: each cell so far is made of two of the row before, which lies before all stores and is as it was.
-use mathlib.Core.Path.{◌≡◌, refl, ap, ap₂, ◌∙◌}
 use Prim.Native.Nat.{ℕ, ◌+◌, ◌-◌}
-use native.Mathlib.Omega.{arith}
 use mathlib.Core.List.{List}
-use borrow.Author.Rules.{rules}
 use Rattle.meaning.specs.Lists.{at}
-use Rattle.rows.proofs.Stores.{Storing, storing_none, storing_more, storing_all}
+use Rattle.rows.proofs.Stores.{Storing}
 use Rattle.stated.specs.LeastWeights.{lighter}
 use Rattle.stated.proofs.lighten.Given as goal
 

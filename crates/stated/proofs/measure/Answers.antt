@@ -3,7 +3,6 @@ use mathlib.Core.Path.{◌≡◌, ap, ap₂}
 use Prim.Native.Nat.{ℕ, ◌+◌, ◌*◌}
 use native.Mathlib.Omega.{arith}
 use mathlib.Core.List.{List, [], ◌∷◌}
-use borrow.Author.Rules.{rules}
 use Rattle.meaning.specs.Job.{Job, job_of, labels, has_q}
 use Rattle.meaning.specs.Lists.{if}
 use Rattle.meaning.specs.Cuts.{remain_of, remain, divisor, cut_values, cut_sum, stated_cells}

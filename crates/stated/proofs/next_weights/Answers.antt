@@ -1,7 +1,6 @@
 -- `stated::next_weights` meets its contract: a copied front and the rest made by the rule are the next row (`next_made`).
 use Prim.Native.Nat.{◌-◌}
 use native.Mathlib.Omega.{arith}
-use borrow.Author.Rules.{rules}
 use Rattle.stated.proofs.Lightening.{next_made}
 use Rattle.stated.proofs.next_weights.Goals as goal
 

@@ -1,13 +1,12 @@
 -- `stated::solve` meets its contract: `pack` is handed the needed cells and picks (`roomy`), and what it leaves is the promise (`solved`).
 use mathlib.Core.Path.{◌≡◌, sym, ◌∙◌}
-use Prim.Native.Nat.{ℕ, ◌≤◌}
+use Prim.Native.Nat.{◌≤◌}
 use native.Mathlib.Omega.{arith}
-use mathlib.Core.List.{List, [], ◌∷◌}
+use mathlib.Core.List.{[], ◌∷◌}
 use lib.ListN.{length, take}
 use lib.Seq.{length-take-le}
-use borrow.Author.Rules.{rules}
 use Rattle.meaning.specs.Lists.{if}
-use Rattle.meaning.specs.Job.{Job, job_of, labels, has_q}
+use Rattle.meaning.specs.Job.{job_of, labels, has_q}
 use Rattle.meaning.specs.Cuts.{cut_by}
 use Rattle.numbers.specs.TwoSlices.{list_from}
 use Rattle.stated.specs.LeastWeights.{Roomy}

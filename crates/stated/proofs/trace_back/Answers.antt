@@ -4,15 +4,14 @@ use Prim.Native.Nat.{ℕ, suc, ◌+◌, ◌-◌, ◌*◌, ◌/◌, ◌≤◌, �
 use native.Mathlib.Nat.{div-le_self}
 use native.Mathlib.Omega.{arith}
 use mathlib.Core.List.{List}
-use lib.ListN.{length, length-set, drop}
+use lib.ListN.{length, length-set}
 use lib.Seq.{drop-length}
-use borrow.Author.Rules.{rules}
 use Rattle.meaning.specs.Lists.{at}
 use Rattle.meaning.specs.Cuts.{cut_by}
 use Rattle.meaning.proofs.EachLabel.{product_one}
 use Rattle.numbers.specs.TwoSlices.{list_from}
 use Rattle.stated.specs.LeastWeights.{row_of, cell_of}
-use Rattle.stated.specs.ReadOff.{apart, TraceBack, begin}
+use Rattle.stated.specs.ReadOff.{apart, begin}
 use Rattle.stated.proofs.Measuring.{cut_at}
 use Rattle.stated.proofs.Filling.{last_row, row_within, row_back, row_past, apart_few, pick_within}
 use Rattle.stated.proofs.Tracing.{trace_more}

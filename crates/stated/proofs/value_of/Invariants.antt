@@ -1,18 +1,10 @@
 -- `stated::value_of` meets its contract: the value is that of the first i labels.
-use mathlib.Core.Path.{◌≡◌, sym, ap, ap₂, ◌∙◌}
-use Prim.Native.Nat.{ℕ, ◌+◌, ◌-◌, ◌*◌, ◌≤◌, ◌<◌}
-use native.Mathlib.Omega.{arith}
-use mathlib.Core.List.{List}
+use mathlib.Core.Path.{◌≡◌}
+use Prim.Native.Nat.{◌-◌, ◌*◌, ◌≤◌}
 use lib.ListN.{length, take}
-use lib.Seq.{take_all}
-use borrow.Author.Rules.{rules}
-use Rattle.meaning.specs.Lists.{at, total}
+use Rattle.meaning.specs.Lists.{total}
 use Rattle.meaning.specs.Bounds.{most_value}
-use Rattle.meaning.proofs.Totals.{total_none}
-use Rattle.meaning.proofs.EachLabel.{total_next, product_one}
-use Rattle.meaning.proofs.Sections.{limit32}
 use Rattle.numbers.specs.TwoSlices.{list_from}
-use Rattle.stated.proofs.Fitting.{sum_fits}
 use Rattle.stated.proofs.value_of.Given as goal
 
 abbrev pub invariant-loop-i : goal.invariant-loop-i

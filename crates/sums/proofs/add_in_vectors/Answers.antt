@@ -2,8 +2,7 @@
 use Prim.Native.Nat.{◌+◌, ◌-◌, ◌*◌}
 use native.Mathlib.Omega.{arith}
 use lib.ListN.{length}
-use borrow.Author.Rules.{rules}
-use Rattle.sums.proofs.Words.{added_none, AddingBits, adding_none, adding_more}
+use Rattle.sums.proofs.Words.{added_none, adding_none, adding_more}
 use Rattle.sums.proofs.add_in_vectors.Goals as goal
 
 pub returns-then-m-le-FEW : goal.returns-then-m-le-FEW

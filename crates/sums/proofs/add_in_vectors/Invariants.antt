@@ -1,9 +1,5 @@
 -- `sums::add_in_vectors` meets its contract: where the words are many, each takes the bits of two old words; where they are few, none does.
-use Prim.Native.Nat.{◌+◌, ◌-◌, ◌*◌}
-use native.Mathlib.Omega.{arith}
-use lib.ListN.{length}
-use borrow.Author.Rules.{rules}
-use Rattle.sums.proofs.Words.{added_none, AddingBits, adding_none, adding_more}
+use Rattle.sums.proofs.Words.{AddingBits}
 use Rattle.sums.proofs.add_in_vectors.Given as goal
 
 abbrev pub invariant-loop-m : goal.invariant-loop-m

@@ -1,11 +1,8 @@
 -- `sums::add_words` meets its contract: from the highest word down, so that what a word takes is still the old one q words below it.
 use mathlib.Core.Path.{◌≡◌}
-use Prim.Native.Nat.{◌-◌, ◌*◌, ◌≤◌}
-use native.Mathlib.Omega.{arith}
-use lib.ListN.{length, length-set}
-use borrow.Author.Rules.{rules}
+use Prim.Native.Nat.{◌*◌, ◌≤◌}
+use lib.ListN.{length}
 use Rattle.sums.specs.Words.{Added}
-use Rattle.sums.proofs.Words.{new_words, added_more, added_all}
 use Rattle.sums.proofs.add_words.Given as goal
 
 abbrev pub invariant-loop-m : goal.invariant-loop-m

@@ -1,11 +1,9 @@
 -- `sums::count_totals` meets its contract: the ones of the words so far are their bits that are set, and stay within 32 bits.
 use mathlib.Core.Path.{◌≡◌}
-use Prim.Native.Nat.{ℕ, ◌+◌, ◌-◌, ◌*◌, ◌≤◌}
+use Prim.Native.Nat.{◌+◌, ◌*◌, ◌≤◌}
 use native.Mathlib.Omega.{arith}
-use mathlib.Core.List.{List}
 use lib.Count.{ones}
 use lib.ListN.{length}
-use borrow.Author.Rules.{rules}
 use Rattle.meaning.specs.Lists.{at, up_to, tally}
 use Rattle.meaning.specs.Bounds.{most_budget}
 use Rattle.meaning.proofs.Tally.{tally_most}

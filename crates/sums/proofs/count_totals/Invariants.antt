@@ -1,16 +1,9 @@
 -- `sums::count_totals` meets its contract: the ones of the words so far are their bits that are set, and stay within 32 bits.
 use mathlib.Core.Path.{◌≡◌}
-use Prim.Native.Nat.{ℕ, ◌+◌, ◌-◌, ◌*◌, ◌≤◌}
-use native.Mathlib.Omega.{arith}
-use mathlib.Core.List.{List}
-use lib.Count.{ones}
+use Prim.Native.Nat.{◌-◌, ◌*◌, ◌≤◌}
 use lib.ListN.{length}
-use borrow.Author.Rules.{rules}
-use Rattle.meaning.specs.Lists.{at, up_to, tally}
-use Rattle.meaning.specs.Bounds.{most_budget}
-use Rattle.meaning.proofs.Tally.{tally_most}
+use Rattle.meaning.specs.Lists.{up_to, tally}
 use Rattle.sums.specs.Words.{is_set}
-use Rattle.sums.proofs.Ones.{word_counted}
 use Rattle.sums.proofs.count_totals.Given as goal
 
 abbrev pub invariant-loop-m : goal.invariant-loop-m

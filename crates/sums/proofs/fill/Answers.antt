@@ -1,14 +1,8 @@
 -- `sums::fill` meets its contract: total 0 alone with no labels, and then a label more each turn.
 use mathlib.Core.Path.{◌≡◌, ◌∙◌}
-use Prim.Native.Nat.{◌-◌}
 use native.Mathlib.Omega.{arith}
 use lib.ListN.{length}
-use borrow.Author.Rules.{rules}
-use Rattle.numbers.specs.TwoSlices.{list_from}
-use Rattle.meaning.specs.Lists.{at}
-use Rattle.rows.specs.Rows.{FirstAlone}
-use Rattle.rows.proofs.Rounds.{Rounds, rounds_none, rounds_more, rounds_all}
-use Rattle.sums.specs.Words.{Added}
+use Rattle.rows.proofs.Rounds.{rounds_none, rounds_more, rounds_all}
 use Rattle.sums.proofs.fill.Goals as goal
 
 pub loop-i-init : goal.loop-i-init

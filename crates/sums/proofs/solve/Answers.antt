@@ -4,8 +4,7 @@ use mathlib.Core.Path.{◌≡◌, sym, ◌∙◌}
 use Prim.Native.Nat.{◌+◌, ◌/◌, ◌≤◌}
 use lib.ListN.{take, length}
 use lib.Seq.{length-take-le}
-use borrow.Author.Rules.{rules}
-use Rattle.meaning.specs.Job.{Job, job_of}
+use Rattle.meaning.specs.Job.{job_of}
 use Rattle.numbers.specs.TwoSlices.{weights_from}
 use Rattle.sums.proofs.Meant.{small, roomy, solved}
 use Rattle.sums.proofs.solve.Goals as goal

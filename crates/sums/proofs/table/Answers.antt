@@ -3,7 +3,6 @@ use mathlib.Core.List.{[], ◌∷◌}
 use mathlib.Core.Path.{◌∙◌}
 use native.Mathlib.Omega.{arith}
 use lib.ListN.{length}
-use borrow.Author.Rules.{rules}
 use Rattle.meaning.specs.Job.{job_of, labels}
 use Rattle.meaning.specs.Bounds.{most_budget}
 use Rattle.numbers.specs.TwoSlices.{weights_from}

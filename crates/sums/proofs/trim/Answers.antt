@@ -1,5 +1,4 @@
 -- `sums::trim` meets its contract: the last word loses the bits above the budget.
-use borrow.Author.Rules.{rules}
 use Rattle.sums.proofs.Words.{trimmed}
 use Rattle.sums.proofs.trim.Goals as goal
 
