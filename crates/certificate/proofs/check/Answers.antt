@@ -2,13 +2,11 @@
 use mathlib.Core.List.{List, [], ◌∷◌}
 use mathlib.Core.Path.{◌≡◌, sym, ap, ◌∙◌}
 use Prim.Native.Nat.{ℕ}
-use borrow.Author.Rules.{rules}
 use Rattle.meaning.specs.Job.{Job, job_of}
 use Rattle.meaning.specs.Bytes.{JobRead, readable}
 use Rattle.meaning.specs.Certificates.{HasCertificates, verdict_of, verdict_on_job}
 use Rattle.meaning.proofs.Budgets.{verdict_ignores}
 use Rattle.numbers.specs.TwoSlices.{job_from}
-use Rattle.requests.specs.declared.Parts.{Parts}
 use Rattle.requests.specs.Reading.{PartsOf}
 use Rattle.requests.proofs.Reading.{lists_cut, unread, read_in}
 use Rattle.verdicts.specs.Asked.{knapsack_in}

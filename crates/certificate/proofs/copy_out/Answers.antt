@@ -2,7 +2,6 @@
 use mathlib.Core.Path.{sym}
 use native.Mathlib.Omega.{arith}
 use lib.Seq.{length-take-le}
-use borrow.Author.Rules.{rules}
 use Rattle.certificate.proofs.Copying.{Roomy, short_picks, short_cells, short_out, picks_taken, cells_taken, picks_long, cells_long, copied}
 use Rattle.certificate.proofs.copy_out.Goals as goal
 

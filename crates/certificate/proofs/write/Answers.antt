@@ -4,7 +4,6 @@ use mathlib.Core.Path.{subst}
 use Rattle.meaning.specs.Job.{Job}
 use Rattle.meaning.specs.Writer.{Writes}
 use Rattle.numbers.proofs.TwoSlices.{job_of_lists}
-use borrow.Author.Rules.{rules}
 use Rattle.certificate.proofs.write.Goals as goal
 
 pub returns : goal.returns

@@ -1,7 +1,4 @@
 -- `certificate::write_bytes` meets its contract: what the bytes are read as is written for, part by part.
-use mathlib.Core.List.{List}
-use Prim.Native.Nat.{ℕ}
-use borrow.Author.Rules.{rules}
 use Rattle.meaning.proofs.Budgets.{writer_ignores}
 use Rattle.requests.specs.Reading.{PartsOf}
 use Rattle.requests.proofs.Reading.{lists_cut, unread, read_in}

@@ -2,7 +2,6 @@
 use mathlib.Core.List.{[], ◌∷◌}
 use mathlib.Core.Path.{◌≡◌, sym, ◌∙◌}
 use native.Mathlib.Omega.{arith}
-use borrow.Author.Rules.{rules}
 use Rattle.meaning.specs.Job.{Job, job_of, labels}
 use Rattle.meaning.specs.Certificates.{HasCertificates, certificate_cells}
 use Rattle.numbers.specs.TwoSlices.{job_from}

@@ -3,7 +3,6 @@ use native.Mathlib.Omega.{arith}
 use Rattle.meaning.specs.Answers.{answer_numbers}
 use Rattle.meaning.specs.Host.{first_number}
 use Rattle.meaning.proofs.Tally.{one_or_none}
-use borrow.Author.Rules.{rules}
 use Rattle.host.proofs.first_number.Goals as goal
 
 pub returns-in-Refused : goal.returns-in-Refused

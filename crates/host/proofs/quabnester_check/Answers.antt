@@ -3,7 +3,6 @@ use mathlib.Core.Path.{ap, ◌∙◌}
 use Rattle.meaning.specs.Answers.{VerdictNumbers}
 use Rattle.meaning.specs.Certificates.{Checked}
 use Rattle.meaning.specs.Host.{refusal_number}
-use borrow.Author.Rules.{rules}
 use Rattle.host.proofs.quabnester_check.Goals as goal
 
 pub returns : goal.returns

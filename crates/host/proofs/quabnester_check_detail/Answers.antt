@@ -4,7 +4,6 @@ use Prim.Native.Nat.{◌+◌}
 use Rattle.meaning.specs.Answers.{VerdictNumbers}
 use Rattle.meaning.specs.Certificates.{Checked}
 use Rattle.meaning.specs.Host.{value_or_place}
-use borrow.Author.Rules.{rules}
 use Rattle.host.proofs.quabnester_check_detail.Goals as goal
 
 pub returns : goal.returns

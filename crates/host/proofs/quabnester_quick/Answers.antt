@@ -7,7 +7,6 @@ use Rattle.meaning.specs.declared.Quick.{Quick}
 use Rattle.meaning.specs.Answers.{quick_numbers}
 use Rattle.meaning.specs.Quick.{Filled}
 use Rattle.meaning.specs.Host.{QuickHost}
-use borrow.Author.Rules.{rules}
 use Rattle.host.proofs.quabnester_quick.Goals as goal
 
 -- the numbers of an answer that is known to be this case

@@ -1,5 +1,4 @@
 -- `host::quabnester_solve_full` meets its contract: the planner's answer by the full way, as numbers.
-use borrow.Author.Rules.{rules}
 use Rattle.host.proofs.quabnester_solve_full.Goals as goal
 
 pub returns : goal.returns

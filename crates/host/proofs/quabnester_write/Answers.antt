@@ -1,6 +1,5 @@
 -- `host::quabnester_write` meets its contract: the writer's answer as numbers.
 use Rattle.meaning.specs.Answers.{written_numbers}
-use borrow.Author.Rules.{rules}
 use Rattle.host.proofs.quabnester_write.Goals as goal
 
 pub returns-in-Bytes : goal.returns-in-Bytes

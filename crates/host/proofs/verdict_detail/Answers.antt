@@ -2,7 +2,6 @@
 use native.Mathlib.Omega.{arith}
 use Rattle.meaning.specs.Answers.{verdict_numbers}
 use Rattle.meaning.specs.Host.{value_or_place}
-use borrow.Author.Rules.{rules}
 use Rattle.host.proofs.verdict_detail.Goals as goal
 
 pub returns-in-Accepted : goal.returns-in-Accepted

@@ -1,7 +1,6 @@
 -- `host::verdict_refusal` meets its contract, case by case.
 use Rattle.meaning.specs.Answers.{verdict_numbers}
 use Rattle.meaning.specs.Host.{refusal_number}
-use borrow.Author.Rules.{rules}
 use Rattle.host.proofs.verdict_refusal.Goals as goal
 
 pub returns-in-Accepted : goal.returns-in-Accepted

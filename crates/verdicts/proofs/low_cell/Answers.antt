@@ -1,17 +1,14 @@
 -- `verdicts::low_cell` meets its contract: at every way out, rule 14 is kept at every cell before.
-use mathlib.Core.Path.{◌≡◌, sym, ap, ◌∙◌}
-use mathlib.Core.List.{List}
+use mathlib.Core.Path.{◌≡◌, sym, ◌∙◌}
 use Prim.Native.Nat.{ℕ, ◌≤◌, ◌<◌, ◌+◌, ◌-◌, ◌/◌}
 use native.Mathlib.Omega.{arith}
-use borrow.Author.Rules.{rules}
 use lib.ListN.{length}
-use Rattle.meaning.specs.Bytes.{numbers_in}
 use Rattle.meaning.specs.Job.{Job, Knapsack, job_of}
 use Rattle.meaning.specs.Certificates.{certificate_cells}
 use Rattle.meaning.proofs.Numbers.{numbers_long}
-use Rattle.verdicts.specs.Asked.{bytes_job, knapsack_in, Run, Together}
+use Rattle.verdicts.specs.Asked.{bytes_job, knapsack_in, Run}
 use Rattle.verdicts.proofs.LowRows.{Tabled, tabled_not_3, together_start, together_less, together_run, together_next}
-use Rattle.verdicts.proofs.LowCells.{KeptBelow, Narrowed, kept_start, narrow_start, narrow_within, narrow_from, two_left}
+use Rattle.verdicts.proofs.LowCells.{kept_start, narrow_start, narrow_within, narrow_from, two_left}
 use Rattle.verdicts.proofs.LowCells.{half_low, half_kept, found_low, run_passed, none_found}
 use Rattle.verdicts.proofs.low_cell.Goals as goal
 

@@ -1,20 +1,14 @@
 -- `verdicts::over_picked` meets its contract: the labels before have no more picks than they may.
 use mathlib.Core.Path.{◌≡◌, sym, ap, ◌∙◌}
-use mathlib.Core.Option.{none}
-use Prim.Native.Nat.{ℕ, ◌≤◌, ◌<◌, ◌-◌}
+use Prim.Native.Nat.{◌<◌}
 use native.Mathlib.Omega.{arith}
 use borrow.Author.Tests.{lt-ltb, le-ltb}
-use mathlib.Core.Bool.{Bool, true, false}
-use mathlib.Core.List.{List}
-use lib.Dec.{ltb}
+use mathlib.Core.Bool.{true, false}
 use lib.ListN.{length}
-use Rattle.meaning.specs.Lists.{at}
-use Rattle.meaning.specs.Job.{Job}
 use Rattle.meaning.specs.Bytes.{numbers_in}
-use Rattle.meaning.specs.Certificates.{first, most_picks, over_picked}
+use Rattle.meaning.specs.Certificates.{first, over_picked}
 use Rattle.meaning.proofs.Numbers.{numbers_long}
 use Rattle.meaning.proofs.Searches.{first_start, first_fails, first_passes}
-use Rattle.verdicts.specs.Asked.{knapsack_in}
 use Rattle.verdicts.specs.Searching.{place_of}
 use Rattle.verdicts.proofs.over_picked.Invariants.{over}
 use Rattle.verdicts.proofs.over_picked.Goals as goal
@@ -38,7 +32,7 @@ returns-then-most_picks-number_in c j copies-are n-is =
     let there : c.loop-i.i < length (numbers_in c.args.picks.now) = omega (arith, numbers_long c.args.picks.now) in
     let picks = c.args.picks.now in
     let is_over : over c.args.kind j picks c.loop-i.i ≡ true =
-        lt-ltb _ _ (omega (arith, c.if-most_picks-number_in.true, c.most_picks.ensures j copies-are, c.number_in.ensures)) in
+    lt-ltb _ _ (omega (arith, c.if-most_picks-number_in.true, c.most_picks.ensures j copies-are, c.number_in.ensures)) in
     let found = first_passes (over c.args.kind j picks) c.loop-i.i (c.loop-i.invariant.1 j copies-are) is_over _ there in
     sym (ap (first (over c.args.kind j picks)) n-is ∙ found)
 
@@ -47,7 +41,7 @@ loop-i-preserved c = (
   omega arith,
   λ j copies-are.
       let not_over : over c.args.kind j c.args.picks.now c.loop-i.i ≡ false =
-          le-ltb _ _ (omega (arith, c.if-most_picks-number_in.false, c.most_picks.ensures j copies-are, c.number_in.ensures)) in
+      le-ltb _ _ (omega (arith, c.if-most_picks-number_in.false, c.most_picks.ensures j copies-are, c.number_in.ensures)) in
       first_fails _ c.loop-i.i (c.loop-i.invariant.1 j copies-are) not_over,
 )
 

@@ -1,21 +1,15 @@
 -- `verdicts::over_picked` meets its contract: the labels before have no more picks than they may.
-use mathlib.Core.Path.{◌≡◌, sym, ap, ◌∙◌}
+use mathlib.Core.Path.{◌≡◌}
 use mathlib.Core.Option.{none}
-use Prim.Native.Nat.{ℕ, ◌≤◌, ◌<◌, ◌-◌}
-use native.Mathlib.Omega.{arith}
-use borrow.Author.Tests.{lt-ltb, le-ltb}
-use mathlib.Core.Bool.{Bool, true, false}
+use Prim.Native.Nat.{ℕ, ◌≤◌, ◌-◌}
+use mathlib.Core.Bool.{Bool}
 use mathlib.Core.List.{List}
 use lib.Dec.{ltb}
-use lib.ListN.{length}
 use Rattle.meaning.specs.Lists.{at}
 use Rattle.meaning.specs.Job.{Job}
 use Rattle.meaning.specs.Bytes.{numbers_in}
-use Rattle.meaning.specs.Certificates.{first, most_picks, over_picked}
-use Rattle.meaning.proofs.Numbers.{numbers_long}
-use Rattle.meaning.proofs.Searches.{first_start, first_fails, first_passes}
+use Rattle.meaning.specs.Certificates.{first, most_picks}
 use Rattle.verdicts.specs.Asked.{knapsack_in}
-use Rattle.verdicts.specs.Searching.{place_of}
 use Rattle.verdicts.proofs.over_picked.Given as goal
 
 -- label i has more picks than it may

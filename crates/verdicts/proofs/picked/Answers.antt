@@ -1,11 +1,10 @@
 -- `verdicts::picked` meets its contract: the sum over the labels so far grows by the next, and stays within 64 bits.
-use Prim.Native.Nat.{◌≤◌, ◌<◌, ◌-◌, ◌*◌}
+use Prim.Native.Nat.{◌<◌, ◌*◌}
 use native.Mathlib.Omega.{arith}
-use borrow.Author.Rules.{rules}
 use lib.ListN.{length}
 use Rattle.meaning.specs.Bytes.{numbers_in}
 use Rattle.meaning.proofs.Numbers.{numbers_long}
-use Rattle.verdicts.proofs.PickedSums.{SumSoFar, sum_none, sum_all, NextSum, sum_next}
+use Rattle.verdicts.proofs.PickedSums.{sum_none, sum_all, NextSum, sum_next}
 use Rattle.verdicts.proofs.picked.Goals as goal
 
 -- both numbers are read

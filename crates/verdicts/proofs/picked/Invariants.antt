@@ -1,11 +1,7 @@
 -- `verdicts::picked` meets its contract: the sum over the labels so far grows by the next, and stays within 64 bits.
-use Prim.Native.Nat.{◌≤◌, ◌<◌, ◌-◌, ◌*◌}
-use native.Mathlib.Omega.{arith}
-use borrow.Author.Rules.{rules}
-use lib.ListN.{length}
+use Prim.Native.Nat.{◌≤◌, ◌-◌}
 use Rattle.meaning.specs.Bytes.{numbers_in}
-use Rattle.meaning.proofs.Numbers.{numbers_long}
-use Rattle.verdicts.proofs.PickedSums.{SumSoFar, sum_none, sum_all, NextSum, sum_next}
+use Rattle.verdicts.proofs.PickedSums.{SumSoFar}
 use Rattle.verdicts.proofs.picked.Given as goal
 
 abbrev pub invariant-loop-i : goal.invariant-loop-i

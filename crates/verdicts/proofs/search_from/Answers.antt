@@ -1,6 +1,5 @@
 -- `verdicts::search_from` meets its contract.
 use mathlib.Core.Path.{sym, ◌∙◌}
-use borrow.Author.Rules.{rules}
 use Rattle.verdicts.proofs.LowCells.{from_start, from_end}
 use Rattle.verdicts.proofs.search_from.Goals as goal
 

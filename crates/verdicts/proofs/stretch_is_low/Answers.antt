@@ -1,11 +1,11 @@
 -- `verdicts::stretch_is_low` meets its contract: the labels before are at fault nowhere.
 use mathlib.Core.Path.{◌≡◌, sym, ◌∙◌}
-use Prim.Native.Nat.{◌≤◌, ◌<◌, ◌-◌}
+use Prim.Native.Nat.{◌<◌}
 use native.Mathlib.Omega.{arith}
 use lib.ListN.{length}
 use Rattle.meaning.specs.Bytes.{numbers_in}
 use Rattle.meaning.proofs.Numbers.{numbers_long}
-use Rattle.verdicts.proofs.LowRows.{LabelsKept, at_fault, labels_start, labels_next, label_told, stretch_low, stretch_kept}
+use Rattle.verdicts.proofs.LowRows.{at_fault, labels_start, labels_next, label_told, stretch_low, stretch_kept}
 use Rattle.verdicts.proofs.stretch_is_low.Goals as goal
 
 pub loop-i-init : goal.loop-i-init

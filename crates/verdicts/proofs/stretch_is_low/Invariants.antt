@@ -1,11 +1,7 @@
 -- `verdicts::stretch_is_low` meets its contract: the labels before are at fault nowhere.
-use mathlib.Core.Path.{◌≡◌, sym, ◌∙◌}
-use Prim.Native.Nat.{◌≤◌, ◌<◌, ◌-◌}
-use native.Mathlib.Omega.{arith}
-use lib.ListN.{length}
+use Prim.Native.Nat.{◌≤◌, ◌-◌}
 use Rattle.meaning.specs.Bytes.{numbers_in}
-use Rattle.meaning.proofs.Numbers.{numbers_long}
-use Rattle.verdicts.proofs.LowRows.{LabelsKept, at_fault, labels_start, labels_next, label_told, stretch_low, stretch_kept}
+use Rattle.verdicts.proofs.LowRows.{LabelsKept}
 use Rattle.verdicts.proofs.stretch_is_low.Given as goal
 
 abbrev pub invariant-loop-i : goal.invariant-loop-i
