@@ -2,7 +2,7 @@
 use mathlib.Core.List.{List, [], ◌∷◌}
 use mathlib.Core.Path.{◌≡◌, refl}
 use mathlib.Core.Logic.{inl, inr}
-use Prim.Native.Nat.{ℕ, suc, ◌≤◌}
+use Prim.Native.Nat.{ℕ}
 use native.Mathlib.Omega.{arith}
 use Rattle.meaning.specs.Job.{Job, job_of, all_kinds}
 use Rattle.meaning.specs.Lent.{Lent, lent_of}
@@ -12,7 +12,6 @@ use Rattle.meaning.proofs.Laws.{no_kind, solved_no_kind}
 use Rattle.meaning.proofs.Ways.{either_way}
 use Rattle.numbers.specs.TwoSlices.{job_from}
 use Rattle.planner.proofs.Preamble.{of_arm}
-use borrow.Author.Rules.{rules}
 use Rattle.planner.proofs.decide.Goals as goal
 
 pub returns-in-4 : goal.returns-in-4

@@ -2,7 +2,6 @@
 use Rattle.meaning.specs.Job.{job_of}
 use Rattle.meaning.specs.SolvedIn.{SolvedInCellsBy}
 use Rattle.meaning.proofs.Ways.{from_full}
-use borrow.Author.Rules.{rules}
 use Rattle.planner.proofs.pack.Goals as goal
 
 pub returns-then-goes_light : goal.returns-then-goes_light

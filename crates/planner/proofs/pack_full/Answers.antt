@@ -15,7 +15,6 @@ use Rattle.rules.specs.Places.{NeededFor}
 use Rattle.rules.proofs.Places.{needed_within}
 use Rattle.rules.proofs.Ruling.{KnapsackOf, knapsack_of}
 use Rattle.planner.proofs.Preamble.{LowestBy, asked, let_in, turned_away, unneeded}
-use borrow.Author.Rules.{rules}
 use Rattle.planner.proofs.pack_full.Goals as goal
 
 pub returns-then-refused-ne0 : goal.returns-then-refused-ne0

@@ -13,7 +13,6 @@ use Rattle.numbers.specs.TwoSlices.{job_from, list_from}
 use Rattle.rules.specs.Places.{NeededBy}
 use Rattle.rules.proofs.Places.{needed_within}
 use Rattle.planner.proofs.Preamble.{Lowest, asked, let_in, turned_away, without_copies}
-use borrow.Author.Rules.{rules}
 use Rattle.planner.proofs.pack_light.Goals as goal
 
 pub returns-then-refused-ne0 : goal.returns-then-refused-ne0

@@ -1,6 +1,5 @@
 -- `planner::reach` meets its contract: kind 4 is turned away by 3 to 6, or let in to `sums`.
 use mathlib.Core.Path.{◌≡◌, refl, subst}
-use mathlib.Core.Option.{some}
 use Prim.Native.Nat.{ℕ}
 use mathlib.Core.Bool.{false}
 use mathlib.Core.List.{List, [], ◌∷◌}
@@ -12,7 +11,6 @@ use Rattle.meaning.specs.Solved.{Unrefused}
 use Rattle.meaning.specs.SolvedIn.{SolvedInWords}
 use Rattle.numbers.specs.TwoSlices.{job_from, weights_from}
 use Rattle.planner.proofs.Preamble.{Lowest, asked, let_in, turned_away, unneeded, weights_alone}
-use borrow.Author.Rules.{rules}
 use Rattle.planner.proofs.reach.Goals as goal
 
 pub returns-then-refused-ne0 : goal.returns-then-refused-ne0

@@ -1,7 +1,6 @@
 -- `planner::refusal` meets its contract: 3 to 5 are asked, and then 6.
 use mathlib.Core.Path.{sym, ◌∙◌}
 use Rattle.planner.proofs.Preamble.{room_unasked, has_the_room, lacks_the_room}
-use borrow.Author.Rules.{rules}
 use Rattle.planner.proofs.refusal.Goals as goal
 
 pub returns-then-refused-ne0 : goal.returns-then-refused-ne0

@@ -4,7 +4,6 @@ use Prim.Native.Nat.{ℕ}
 use mathlib.Core.Bool.{true}
 use mathlib.Core.List.{List, [], ◌∷◌}
 use lib.ListN.{length}
-use borrow.Author.Tests.{not-true, not-false}
 use Rattle.meaning.specs.Job.{Job, all_kinds, job_of, kind_of, labels, sharing}
 use Rattle.meaning.specs.Lent.{Lent, lent_of, room_by, room_of}
 use Rattle.meaning.specs.Refusals.{claims_fit, rules_of, weight_rules}
@@ -13,7 +12,6 @@ use Rattle.meaning.specs.SolvedIn.{SolvedInPicks}
 use Rattle.numbers.specs.TwoSlices.{job_from, weights_from}
 use Rattle.rules.specs.Places.{NeededBy}
 use Rattle.planner.proofs.Preamble.{Lowest, asked, let_in, no_claims, turned_away, unneeded, weights_alone}
-use borrow.Author.Rules.{rules}
 use Rattle.planner.proofs.share.Goals as goal
 
 pub returns-then-refused-ne0 : goal.returns-then-refused-ne0

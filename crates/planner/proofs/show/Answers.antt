@@ -12,7 +12,6 @@ use Rattle.meaning.specs.SolvedIn.{SolvedInCellsBy}
 use Rattle.numbers.specs.TwoSlices.{job_from, weights_from}
 use Rattle.rules.specs.Places.{NeededBy}
 use Rattle.planner.proofs.Preamble.{Lowest, asked, let_in, turned_away, unneeded, weights_alone}
-use borrow.Author.Rules.{rules}
 use Rattle.planner.proofs.show.Goals as goal
 
 pub returns-then-refused-ne0 : goal.returns-then-refused-ne0

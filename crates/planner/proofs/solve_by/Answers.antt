@@ -5,7 +5,6 @@ use Rattle.meaning.specs.Job.{Job}
 use Rattle.meaning.specs.Lent.{Lent, lent_of}
 use Rattle.meaning.specs.Solved.{SolvedBy}
 use Rattle.numbers.proofs.TwoSlices.{job_of_lists}
-use borrow.Author.Rules.{rules}
 use Rattle.planner.proofs.solve_by.Goals as goal
 
 pub returns : goal.returns

@@ -1,5 +1,4 @@
 -- `planner::solve_bytes` meets its contract: the answer that is told.
-use borrow.Author.Rules.{rules}
 use Rattle.planner.proofs.solve_bytes.Goals as goal
 
 pub returns : goal.returns

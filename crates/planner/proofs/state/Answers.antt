@@ -10,7 +10,6 @@ use Rattle.meaning.specs.SolvedIn.{SolvedInCellsBy}
 use Rattle.numbers.specs.TwoSlices.{job_from, stated_from}
 use Rattle.planner.proofs.Preamble.{Lowest, let_in, turned_away, without_copies}
 use Rattle.planner.proofs.Stating.{stated_lowest}
-use borrow.Author.Rules.{rules}
 use Rattle.planner.proofs.state.Goals as goal
 
 pub returns-then-refused-ne0 : goal.returns-then-refused-ne0

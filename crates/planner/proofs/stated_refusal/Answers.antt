@@ -4,16 +4,13 @@ use Prim.Native.Nat.{ℕ}
 use native.Mathlib.Omega.{arith}
 use mathlib.Core.Bool.{false, true}
 use mathlib.Core.List.{List}
-use borrow.Author.Tests.{not-true, not-false}
 use Rattle.meaning.specs.Job.{Job, job_of, labels, once, packing, stated_share, kind_of, all_kinds}
 use Rattle.meaning.specs.Cuts.{stated_cells}
 use Rattle.meaning.specs.Refusals.{job_refusal, rules_of}
 use Rattle.numbers.specs.TwoSlices.{list_from}
-use Rattle.rules.specs.declared.Rules.{Rules}
 use Rattle.rules.specs.Ruling.{rules_from}
 use Rattle.planner.proofs.Stating.{as_kind_1, asks_room, bare, bare_is, bare_passes, few_cells, few_picks, fits, job, q_outside}
 use Rattle.planner.proofs.Stating.{room_enough, then_room}
-use borrow.Author.Rules.{rules}
 use Rattle.planner.proofs.stated_refusal.Goals as goal
 
 pub returns-then-refused-ne0 : goal.returns-then-refused-ne0

@@ -2,7 +2,6 @@
 use Rattle.requests.specs.Reading.{PartsOf}
 use Rattle.requests.proofs.Reading.{lists_cut, read_in, unread}
 use Rattle.planner.proofs.Telling.{told_read, told_unread}
-use borrow.Author.Rules.{rules}
 use Rattle.planner.proofs.tell.Goals as goal
 
 pub returns-in_default : goal.returns-in_default
