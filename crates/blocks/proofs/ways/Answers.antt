@@ -45,7 +45,7 @@ bounds-words-width c =
     let lent : length (take (c.args.budget + 1) c.args.words.now) ≡ c.args.budget + 1 = length-take-le (c.args.budget + 1) c.args.words.now words_room in
     let row_long : length c.fill_ways.new.words ≡ c.args.budget + 1 = c.fill_ways.auto.words ∙ lent in
     let inside : c.args.budget + 1 - 1 < length (c.fill_ways.new.words ++ drop (c.args.budget + 1) c.args.words.now) = omega (arith, front_room c.fill_ways.new.words c.args.words.now (c.args.budget + 1) row_long) in
-    inside
+    omega (arith, inside)
 
 pub returns-then-words-width : goal.returns-then-words-width
 unfolding job_of lent_of room_by room_of rules_of too_many
