@@ -26,7 +26,6 @@ pub loop-i-init : goal.loop-i-init
 unfolding tally up_to
 loop-i-init c = search rules
 
--- CLAUSES ['claimed_value', 'start_value']
 pub remainder_at-rest-requires : goal.remainder_at-rest-requires
 unfolding job_of labels
 remainder_at-rest-requires c =

@@ -12,7 +12,6 @@ loop-i-init c =
     let job : Job = claims_job c.args.budget c.args.weights.now c.args.wbytes.now in
     (omega arith, reaches_none job c.args.low c.args.high c.requires.1)
 
--- CLAUSES ['claimed_value', 'start_value']
 pub remainder_at-rest-requires : goal.remainder_at-rest-requires
 unfolding job_of labels
 remainder_at-rest-requires c =
