@@ -1,8 +1,8 @@
 -- A job of a kind, asked about 3 to 6 by the rules and the room that an arm chose: turned away with a number, or let in to the crate of its kind.
 -- Assumes nothing.
-use mathlib.Core.Path.{◌≡◌, refl, sym, ap, ◌∙◌}
+use mathlib.Core.Path.{◌≡◌, refl, sym, ap, subst, ◌∙◌}
 use mathlib.Core.Option.{some}
-use Prim.Native.Nat.{ℕ, zero, suc, ◌≤◌}
+use Prim.Native.Nat.{ℕ, zero, suc, ◌≤◌, min}
 use native.Mathlib.Omega.{arith}
 use mathlib.Core.Bool.{Bool, true, false, not}
 use mathlib.Core.List.{List, [], ◌∷◌}
@@ -14,11 +14,12 @@ use Rattle.meaning.specs.declared.Answer.TheVariants as Says
 use Rattle.meaning.specs.declared.Way.{Way}
 use Rattle.meaning.specs.declared.Way.TheVariants.{Light}
 use Rattle.meaning.specs.Lists.{if}
-use Rattle.meaning.specs.Job.{Job, Kind, labels, job_of, kind_of}
+use Rattle.meaning.specs.Job.{Job, Knapsack, Kind, packing, labels, job_of, kind_of}
+use Rattle.meaning.specs.Bounds.{most_labels, most_budget}
 use Rattle.meaning.specs.Lent as places
 use Rattle.meaning.specs.Lent.{Lent, room_by, room_of}
 use Rattle.meaning.specs.Refusals as meaning
-use Rattle.meaning.specs.Refusals.{bounds_fit, claims_fit, job_refusal, kind_refusal, lists_fit, room_fits, rules_of}
+use Rattle.meaning.specs.Refusals.{bounds_fit, claims_fit, job_refusal, kind_refusal, knapsack_rules, lists_fit, room_fits, rules_of}
 use Rattle.meaning.specs.Solved.{Outcome, SolvedBy, UnrefusedBy}
 use Rattle.meaning.proofs.Laws.{solved_kind, turned_down}
 use Rattle.meaning.proofs.Ways.{either_way}
@@ -28,6 +29,7 @@ use Rattle.rules.specs.declared.Room.{Room}
 use Rattle.rules.specs.declared.Rules.{Rules}
 use Rattle.rules.specs.Ruling.{rules_from}
 use Rattle.rules.specs.Places.{NeededFor, has_room, room_from}
+use Rattle.rules.proofs.Places.{needed_within}
 use Rattle.requests.proofs.Judging.{earlier_given, later_within, none_earlier}
 
 -- ---- 6 is asked after 3 to 5
@@ -95,6 +97,45 @@ module _ {way : Way} (k : Kind) (j : Job) (lent : Lent) (rules : Rules) (needs_s
         ap (λ (there : Bool). if there 0 6)
         (same_room (room_by way k j) room cells words picks lent needed by.in_cells by.in_words by.in_picks));
   }
+
+  -- the labels counted, and the room that so many need
+  pub asked_counted : (n : ℕ) → n ≡ labels j → kind_of j.kind_number ≡ some k → rules_from rules needs_sum ≡ rules_of k
+      → NeededFor way k n j.budget room
+      → leb (room_by way k j).cells cells ≡ leb (room_by way k j).cells (length lent.cells)
+      → leb (room_by way k j).words words ≡ leb (room_by way k j).words (length lent.words)
+      → leb (room_by way k j).picks picks ≡ leb (room_by way k j).picks (length lent.picks)
+      → r ≡ job_refusal (rules_from rules needs_sum) j (if (has_room room cells words picks) 0 6) → LowestBy way k j lent r
+  asked_counted n n-is of_kind its_rules needed in_cells in_words in_picks =
+      asked record {
+        of_kind = of_kind;
+        its_rules = its_rules;
+        its_room = λ few small. subst (λ (m : ℕ). NeededFor way k m j.budget room) n-is needed;
+        in_cells = in_cells;
+        in_words = in_words;
+        in_picks = in_picks;
+      }
+
+-- a knapsack's room is counted for no more labels and budget than its rules let in
+pub asked_knapsack : {way : Way} (x : Knapsack) (j : Job) (lent : Lent) (rules : Rules) (room : Room) (cells words picks r n : ℕ)
+    → n ≡ labels j → kind_of j.kind_number ≡ some (packing x) → rules_from rules false ≡ rules_of (packing x)
+    → NeededFor way (packing x) (min n most_labels) (min j.budget most_budget) room
+    → leb (room_by way (packing x) j).cells cells ≡ leb (room_by way (packing x) j).cells (length lent.cells)
+    → leb (room_by way (packing x) j).words words ≡ leb (room_by way (packing x) j).words (length lent.words)
+    → leb (room_by way (packing x) j).picks picks ≡ leb (room_by way (packing x) j).picks (length lent.picks)
+    → r ≡ job_refusal (rules_from rules false) j (if (has_room room cells words picks) 0 6) → LowestBy way (packing x) j lent r
+unfolding rules_of knapsack_rules
+asked_knapsack {way = way} x j lent rules room cells words picks r n n-is of_kind its_rules needed in_cells in_words in_picks =
+    asked (packing x) j lent rules false room cells words picks r
+    record {
+      of_kind = of_kind;
+      its_rules = its_rules;
+      its_room = λ few small.
+          needed_within way (packing x) (labels j) j.budget room few small
+          (subst (λ (m : ℕ). NeededFor way (packing x) (min m most_labels) (min j.budget most_budget) room) n-is needed);
+      in_cells = in_cells;
+      in_words = in_words;
+      in_picks = in_picks;
+    }
 
 -- ---- what comes of it
 

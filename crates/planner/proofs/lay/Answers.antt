@@ -8,7 +8,7 @@ use Rattle.meaning.specs.Lent.{Lent, lent_of}
 use Rattle.meaning.specs.Solved.{Unrefused}
 use Rattle.numbers.specs.TwoSlices.{job_from, weights_from}
 use Rattle.rules.specs.Places.{NeededBy}
-use Rattle.planner.proofs.Preamble.{Lowest, asked, let_in, turned_away, weights_alone}
+use Rattle.planner.proofs.Preamble.{Lowest, asked_counted, let_in, turned_away, weights_alone}
 use Rattle.planner.proofs.Laying.{LaidKind, five_or_six, laid_alone, laid_claims, laid_in, laid_kind, laid_room, laid_rules}
 use Rattle.planner.proofs.lay.Goals as goal
 
@@ -20,19 +20,9 @@ returns-then-refused-ne0 c =
     let lent : Lent = lent_of c.args.cells.now c.args.words.now c.args.picks.now in
     let one_of_two : LaidKind c.args.kind = five_or_six c.args.kind c.requires.0 c.requires.1 in
     let lowest : Lowest one_of_two.which job lent c.refusal-refused.result = let k = one_of_two.is in
-    let room = c.blocks_room-room in
-    asked one_of_two.which job lent _ false room.result _ _ _ c.refusal-refused.result
-    (record {
-      of_kind = laid_kind k;
-      its_rules = laid_rules k _ c.blocks_rules-rules.ensures;
-      its_room = λ few small.
-          subst (λ (n : ℕ). NeededBy one_of_two.which n c.args.budget room.result) c.list_length-n.ensures
-          (laid_room k _ _ _ room.ensures);
-      in_cells = refl;
-      in_words = refl;
-      in_picks = refl;
-    })
-    (c.refusal-refused.ensures c.args.kind false) in
+    asked_counted one_of_two.which job lent _ false c.blocks_room-room.result _ _ _ c.refusal-refused.result _ c.list_length-n.ensures
+    (laid_kind k) (laid_rules k _ c.blocks_rules-rules.ensures) (laid_room k _ _ _ c.blocks_room-room.ensures)
+    refl refl refl (c.refusal-refused.ensures c.args.kind false) in
     turned_away lowest c.if-refused-ne0.true
 
 pub solve-requires : goal.solve-requires
@@ -44,19 +34,9 @@ solve-requires c =
     let lent : Lent = lent_of c.args.cells.now c.args.words.now c.args.picks.now in
     let one_of_two : LaidKind c.args.kind = five_or_six c.args.kind c.requires.0 c.requires.1 in
     let lowest : Lowest one_of_two.which job lent c.refusal-refused.result = let k = one_of_two.is in
-    let room = c.blocks_room-room in
-    asked one_of_two.which job lent _ false room.result _ _ _ c.refusal-refused.result
-    (record {
-      of_kind = laid_kind k;
-      its_rules = laid_rules k _ c.blocks_rules-rules.ensures;
-      its_room = λ few small.
-          subst (λ (n : ℕ). NeededBy one_of_two.which n c.args.budget room.result) c.list_length-n.ensures
-          (laid_room k _ _ _ room.ensures);
-      in_cells = refl;
-      in_words = refl;
-      in_picks = refl;
-    })
-    (c.refusal-refused.ensures c.args.kind false) in
+    asked_counted one_of_two.which job lent _ false c.blocks_room-room.result _ _ _ c.refusal-refused.result _ c.list_length-n.ensures
+    (laid_kind k) (laid_rules k _ c.blocks_rules-rules.ensures) (laid_room k _ _ _ c.blocks_room-room.ensures)
+    refl refl refl (c.refusal-refused.ensures c.args.kind false) in
     let alone : job ≡ bare = let (no-values, no_copies) = laid_alone one_of_two.is in
     weights_alone c.args.kind c.args.budget _ _ _ no-values no_copies lowest c.if-refused-ne0.false in
     let k = one_of_two.is in
@@ -72,19 +52,9 @@ returns c =
     let lent : Lent = lent_of c.args.cells.now c.args.words.now c.args.picks.now in
     let one_of_two : LaidKind c.args.kind = five_or_six c.args.kind c.requires.0 c.requires.1 in
     let lowest : Lowest one_of_two.which job lent c.refusal-refused.result = let k = one_of_two.is in
-    let room = c.blocks_room-room in
-    asked one_of_two.which job lent _ false room.result _ _ _ c.refusal-refused.result
-    (record {
-      of_kind = laid_kind k;
-      its_rules = laid_rules k _ c.blocks_rules-rules.ensures;
-      its_room = λ few small.
-          subst (λ (n : ℕ). NeededBy one_of_two.which n c.args.budget room.result) c.list_length-n.ensures
-          (laid_room k _ _ _ room.ensures);
-      in_cells = refl;
-      in_words = refl;
-      in_picks = refl;
-    })
-    (c.refusal-refused.ensures c.args.kind false) in
+    asked_counted one_of_two.which job lent _ false c.blocks_room-room.result _ _ _ c.refusal-refused.result _ c.list_length-n.ensures
+    (laid_kind k) (laid_rules k _ c.blocks_rules-rules.ensures) (laid_room k _ _ _ c.blocks_room-room.ensures)
+    refl refl refl (c.refusal-refused.ensures c.args.kind false) in
     let alone : job ≡ bare = let (no-values, no_copies) = laid_alone one_of_two.is in
     weights_alone c.args.kind c.args.budget _ _ _ no-values no_copies lowest c.if-refused-ne0.false in
     rw alone c.solve.ensures

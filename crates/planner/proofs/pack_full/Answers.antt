@@ -14,7 +14,7 @@ use Rattle.knapsack.proofs.KnapsackDoor.{words_needed}
 use Rattle.rules.specs.Places.{NeededFor}
 use Rattle.rules.proofs.Places.{needed_within}
 use Rattle.rules.proofs.Ruling.{KnapsackOf, knapsack_of}
-use Rattle.planner.proofs.Preamble.{LowestBy, asked, let_in, turned_away, unneeded}
+use Rattle.planner.proofs.Preamble.{LowestBy, asked_knapsack, let_in, turned_away, unneeded}
 use Rattle.planner.proofs.pack_full.Goals as goal
 
 pub returns-then-refused-ne0 : goal.returns-then-refused-ne0
@@ -25,20 +25,11 @@ returns-then-refused-ne0 c words =
     let one_of_three : KnapsackOf c.args.kind = knapsack_of c.args.kind c.requires.0 c.requires.1 in
     let kind : Kind = packing one_of_three.knapsack in
     let lent : List ℕ → Lent = λ words. lent_of c.args.cells.now words c.args.picks.now in
-    let lowest : (words : List ℕ) → LowestBy Full kind job (lent words) c.refusal-refused.result = λ words. let k = one_of_three in
-    let room = c.knapsack_room-room in
-    asked kind job (lent words) _ false room.result _ 0 _ c.refusal-refused.result
-    (record {
-      of_kind = k.of_kind;
-      its_rules = c.knapsack_rules-rules.ensures k.knapsack k.of_kind;
-      its_room = λ few small. needed_within Full _ _ _ _ few small
-          (subst (λ (n : ℕ). NeededFor Full kind (min n most_labels) (min c.args.budget most_budget) room.result) c.list_length-n.ensures
-          (room.ensures k.knapsack k.of_kind));
-      in_cells = refl;
-      in_words = unneeded (room_by Full kind job).words 0 _ (words_needed k.knapsack job);
-      in_picks = refl;
-    })
-    (c.refusal-refused.ensures c.args.kind false) in
+    let lowest : (words : List ℕ) → LowestBy Full kind job (lent words) c.refusal-refused.result = λ words.
+    let k = one_of_three in
+    asked_knapsack k.knapsack job (lent words) _ c.knapsack_room-room.result _ 0 _ c.refusal-refused.result _ c.list_length-n.ensures
+    k.of_kind (c.knapsack_rules-rules.ensures k.knapsack k.of_kind) (c.knapsack_room-room.ensures k.knapsack k.of_kind)
+    refl (unneeded (room_by Full kind job).words 0 _ (words_needed k.knapsack job)) refl (c.refusal-refused.ensures c.args.kind false) in
     turned_away (lowest words) c.if-refused-ne0.true
 
 pub solve-requires : goal.solve-requires
@@ -49,18 +40,9 @@ solve-requires c =
     let one_of_three : KnapsackOf c.args.kind = knapsack_of c.args.kind c.requires.0 c.requires.1 in
     let kind : Kind = packing one_of_three.knapsack in
     let lent : List ℕ → Lent = λ words. lent_of c.args.cells.now words c.args.picks.now in
-    let lowest : (words : List ℕ) → LowestBy Full kind job (lent words) c.refusal-refused.result = λ words. let k = one_of_three in
-    let room = c.knapsack_room-room in
-    asked kind job (lent words) _ false room.result _ 0 _ c.refusal-refused.result
-    (record {
-      of_kind = k.of_kind;
-      its_rules = c.knapsack_rules-rules.ensures k.knapsack k.of_kind;
-      its_room = λ few small. needed_within Full _ _ _ _ few small
-          (subst (λ (n : ℕ). NeededFor Full kind (min n most_labels) (min c.args.budget most_budget) room.result) c.list_length-n.ensures
-          (room.ensures k.knapsack k.of_kind));
-      in_cells = refl;
-      in_words = unneeded (room_by Full kind job).words 0 _ (words_needed k.knapsack job);
-      in_picks = refl;
-    })
-    (c.refusal-refused.ensures c.args.kind false) in
+    let lowest : (words : List ℕ) → LowestBy Full kind job (lent words) c.refusal-refused.result = λ words.
+    let k = one_of_three in
+    asked_knapsack k.knapsack job (lent words) _ c.knapsack_room-room.result _ 0 _ c.refusal-refused.result _ c.list_length-n.ensures
+    k.of_kind (c.knapsack_rules-rules.ensures k.knapsack k.of_kind) (c.knapsack_room-room.ensures k.knapsack k.of_kind)
+    refl (unneeded (room_by Full kind job).words 0 _ (words_needed k.knapsack job)) refl (c.refusal-refused.ensures c.args.kind false) in
     record { knapsack = one_of_three.knapsack; unrefused = let_in (lowest []) c.if-refused-ne0.false refl }

@@ -12,7 +12,7 @@ use Rattle.meaning.specs.Solved.{Unrefused}
 use Rattle.numbers.specs.TwoSlices.{job_from, list_from}
 use Rattle.rules.specs.Places.{NeededBy}
 use Rattle.rules.proofs.Places.{needed_within}
-use Rattle.planner.proofs.Preamble.{Lowest, asked, let_in, turned_away, without_copies}
+use Rattle.planner.proofs.Preamble.{Lowest, asked_knapsack, let_in, turned_away, without_copies}
 use Rattle.planner.proofs.pack_light.Goals as goal
 
 pub returns-then-refused-ne0 : goal.returns-then-refused-ne0
@@ -21,19 +21,9 @@ returns-then-refused-ne0 c =
     let job : Job = job_from 1 (c.args.budget ∷ []) c.args.weights.now c.args.wbytes.now
     c.args.values.now c.args.vbytes.now c.args.copies.now c.args.cbytes.now in
     let lent : Lent = lent_of c.args.cells.now c.args.words.now c.args.picks.now in
-    let lowest : Lowest (packing once) job lent c.refusal-refused.result = let room = c.light_room-room in
-    asked (packing once) job lent _ false room.result _ _ _ c.refusal-refused.result
-    (record {
-      of_kind = refl;
-      its_rules = c.knapsack_rules-rules.ensures once refl;
-      its_room = λ few small. needed_within Light _ _ _ _ few small
-          (subst (λ (n : ℕ). NeededBy (packing once) (min n most_labels) (min c.args.budget most_budget) room.result)
-          c.list_length-n.ensures room.ensures);
-      in_cells = refl;
-      in_words = refl;
-      in_picks = refl;
-    })
-    (c.refusal-refused.ensures 1 false) in
+    let lowest : Lowest (packing once) job lent c.refusal-refused.result =
+    asked_knapsack once job lent _ c.light_room-room.result _ _ _ c.refusal-refused.result _ c.list_length-n.ensures
+    refl (c.knapsack_rules-rules.ensures once refl) c.light_room-room.ensures refl refl refl (c.refusal-refused.ensures 1 false) in
     turned_away lowest c.if-refused-ne0.true
 
 pub solve-requires : goal.solve-requires
@@ -43,19 +33,9 @@ solve-requires c =
     let job : Job = job_from 1 (c.args.budget ∷ []) c.args.weights.now c.args.wbytes.now
     c.args.values.now c.args.vbytes.now c.args.copies.now c.args.cbytes.now in
     let lent : Lent = lent_of c.args.cells.now c.args.words.now c.args.picks.now in
-    let lowest : Lowest (packing once) job lent c.refusal-refused.result = let room = c.light_room-room in
-    asked (packing once) job lent _ false room.result _ _ _ c.refusal-refused.result
-    (record {
-      of_kind = refl;
-      its_rules = c.knapsack_rules-rules.ensures once refl;
-      its_room = λ few small. needed_within Light _ _ _ _ few small
-          (subst (λ (n : ℕ). NeededBy (packing once) (min n most_labels) (min c.args.budget most_budget) room.result)
-          c.list_length-n.ensures room.ensures);
-      in_cells = refl;
-      in_words = refl;
-      in_picks = refl;
-    })
-    (c.refusal-refused.ensures 1 false) in
+    let lowest : Lowest (packing once) job lent c.refusal-refused.result =
+    asked_knapsack once job lent _ c.light_room-room.result _ _ _ c.refusal-refused.result _ c.list_length-n.ensures
+    refl (c.knapsack_rules-rules.ensures once refl) c.light_room-room.ensures refl refl refl (c.refusal-refused.ensures 1 false) in
     let alone : job ≡ bare = without_copies 1 (c.args.budget ∷ []) _ _ _ refl lowest c.if-refused-ne0.false in
     subst (λ (j : Job). Unrefused (packing once) j lent) alone (let_in lowest c.if-refused-ne0.false refl)
 
@@ -66,18 +46,8 @@ returns c =
     let job : Job = job_from 1 (c.args.budget ∷ []) c.args.weights.now c.args.wbytes.now
     c.args.values.now c.args.vbytes.now c.args.copies.now c.args.cbytes.now in
     let lent : Lent = lent_of c.args.cells.now c.args.words.now c.args.picks.now in
-    let lowest : Lowest (packing once) job lent c.refusal-refused.result = let room = c.light_room-room in
-    asked (packing once) job lent _ false room.result _ _ _ c.refusal-refused.result
-    (record {
-      of_kind = refl;
-      its_rules = c.knapsack_rules-rules.ensures once refl;
-      its_room = λ few small. needed_within Light _ _ _ _ few small
-          (subst (λ (n : ℕ). NeededBy (packing once) (min n most_labels) (min c.args.budget most_budget) room.result)
-          c.list_length-n.ensures room.ensures);
-      in_cells = refl;
-      in_words = refl;
-      in_picks = refl;
-    })
-    (c.refusal-refused.ensures 1 false) in
+    let lowest : Lowest (packing once) job lent c.refusal-refused.result =
+    asked_knapsack once job lent _ c.light_room-room.result _ _ _ c.refusal-refused.result _ c.list_length-n.ensures
+    refl (c.knapsack_rules-rules.ensures once refl) c.light_room-room.ensures refl refl refl (c.refusal-refused.ensures 1 false) in
     let alone : job ≡ bare = without_copies 1 (c.args.budget ∷ []) _ _ _ refl lowest c.if-refused-ne0.false in
     rw alone c.solve.ensures

@@ -10,7 +10,7 @@ use Rattle.meaning.specs.Refusals.{claims_fit, rules_of, weight_rules}
 use Rattle.meaning.specs.Solved.{Unrefused}
 use Rattle.meaning.specs.SolvedIn.{SolvedInWords}
 use Rattle.numbers.specs.TwoSlices.{job_from, weights_from}
-use Rattle.planner.proofs.Preamble.{Lowest, asked, let_in, turned_away, unneeded, weights_alone}
+use Rattle.planner.proofs.Preamble.{Lowest, asked_counted, let_in, turned_away, unneeded, weights_alone}
 use Rattle.planner.proofs.reach.Goals as goal
 
 pub returns-then-refused-ne0 : goal.returns-then-refused-ne0
@@ -19,16 +19,10 @@ returns-then-refused-ne0 c cells picks =
     let job : Job = job_from 4 (c.args.budget ∷ []) c.args.weights.now c.args.wbytes.now
     c.args.values.now c.args.vbytes.now c.args.copies.now c.args.cbytes.now in
     let lent : List ℕ → List ℕ → Lent = λ cells picks. lent_of cells c.args.words.now picks in
-    let lowest : (cells picks : List ℕ) → Lowest subset_sums job (lent cells picks) c.refusal-refused.result = λ cells picks. asked subset_sums job (lent cells picks) _ false c.sums_room-room.result 0 _ 0 c.refusal-refused.result
-    (record {
-      of_kind = refl;
-      its_rules = c.sums_rules-rules.ensures.0;
-      its_room = λ few small. c.sums_room-room.ensures (labels job);
-      in_cells = unneeded 0 0 (length cells) refl;
-      in_words = refl;
-      in_picks = unneeded 0 0 (length picks) refl;
-    })
-    (c.refusal-refused.ensures 4 false) in
+    let lowest : (cells picks : List ℕ) → Lowest subset_sums job (lent cells picks) c.refusal-refused.result = λ cells picks.
+    asked_counted subset_sums job (lent cells picks) _ false c.sums_room-room.result 0 _ 0 c.refusal-refused.result (labels job) refl
+    refl c.sums_rules-rules.ensures.0 (c.sums_room-room.ensures (labels job))
+    (unneeded 0 0 (length cells) refl) refl (unneeded 0 0 (length picks) refl) (c.refusal-refused.ensures 4 false) in
     turned_away (lowest cells picks) c.if-refused-ne0.true
 
 pub solve-requires : goal.solve-requires
@@ -38,16 +32,10 @@ solve-requires c =
     let job : Job = job_from 4 (c.args.budget ∷ []) c.args.weights.now c.args.wbytes.now
     c.args.values.now c.args.vbytes.now c.args.copies.now c.args.cbytes.now in
     let lent : List ℕ → List ℕ → Lent = λ cells picks. lent_of cells c.args.words.now picks in
-    let lowest : (cells picks : List ℕ) → Lowest subset_sums job (lent cells picks) c.refusal-refused.result = λ cells picks. asked subset_sums job (lent cells picks) _ false c.sums_room-room.result 0 _ 0 c.refusal-refused.result
-    (record {
-      of_kind = refl;
-      its_rules = c.sums_rules-rules.ensures.0;
-      its_room = λ few small. c.sums_room-room.ensures (labels job);
-      in_cells = unneeded 0 0 (length cells) refl;
-      in_words = refl;
-      in_picks = unneeded 0 0 (length picks) refl;
-    })
-    (c.refusal-refused.ensures 4 false) in
+    let lowest : (cells picks : List ℕ) → Lowest subset_sums job (lent cells picks) c.refusal-refused.result = λ cells picks.
+    asked_counted subset_sums job (lent cells picks) _ false c.sums_room-room.result 0 _ 0 c.refusal-refused.result (labels job) refl
+    refl c.sums_rules-rules.ensures.0 (c.sums_room-room.ensures (labels job))
+    (unneeded 0 0 (length cells) refl) refl (unneeded 0 0 (length picks) refl) (c.refusal-refused.ensures 4 false) in
     let alone : job ≡ bare = weights_alone 4 c.args.budget _ _ _ refl refl (lowest [] []) c.if-refused-ne0.false in
     subst (λ (j : Job). Unrefused subset_sums j (lent [] [])) alone (let_in (lowest [] []) c.if-refused-ne0.false refl)
 
@@ -58,15 +46,9 @@ returns c =
     let job : Job = job_from 4 (c.args.budget ∷ []) c.args.weights.now c.args.wbytes.now
     c.args.values.now c.args.vbytes.now c.args.copies.now c.args.cbytes.now in
     let lent : List ℕ → List ℕ → Lent = λ cells picks. lent_of cells c.args.words.now picks in
-    let lowest : (cells picks : List ℕ) → Lowest subset_sums job (lent cells picks) c.refusal-refused.result = λ cells picks. asked subset_sums job (lent cells picks) _ false c.sums_room-room.result 0 _ 0 c.refusal-refused.result
-    (record {
-      of_kind = refl;
-      its_rules = c.sums_rules-rules.ensures.0;
-      its_room = λ few small. c.sums_room-room.ensures (labels job);
-      in_cells = unneeded 0 0 (length cells) refl;
-      in_words = refl;
-      in_picks = unneeded 0 0 (length picks) refl;
-    })
-    (c.refusal-refused.ensures 4 false) in
+    let lowest : (cells picks : List ℕ) → Lowest subset_sums job (lent cells picks) c.refusal-refused.result = λ cells picks.
+    asked_counted subset_sums job (lent cells picks) _ false c.sums_room-room.result 0 _ 0 c.refusal-refused.result (labels job) refl
+    refl c.sums_rules-rules.ensures.0 (c.sums_room-room.ensures (labels job))
+    (unneeded 0 0 (length cells) refl) refl (unneeded 0 0 (length picks) refl) (c.refusal-refused.ensures 4 false) in
     let alone : job ≡ bare = weights_alone 4 c.args.budget _ _ _ refl refl (lowest [] []) c.if-refused-ne0.false in
     rw alone c.solve.ensures

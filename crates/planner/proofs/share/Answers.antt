@@ -11,7 +11,7 @@ use Rattle.meaning.specs.Solved.{Unrefused}
 use Rattle.meaning.specs.SolvedIn.{SolvedInPicks}
 use Rattle.numbers.specs.TwoSlices.{job_from, weights_from}
 use Rattle.rules.specs.Places.{NeededBy}
-use Rattle.planner.proofs.Preamble.{Lowest, asked, let_in, no_claims, turned_away, unneeded, weights_alone}
+use Rattle.planner.proofs.Preamble.{Lowest, asked_counted, let_in, no_claims, turned_away, unneeded, weights_alone}
 use Rattle.planner.proofs.share.Goals as goal
 
 pub returns-then-refused-ne0 : goal.returns-then-refused-ne0
@@ -20,18 +20,10 @@ returns-then-refused-ne0 c cells words =
     let job : Job = job_from 7 (c.args.budget ∷ []) c.args.weights.now c.args.wbytes.now
     c.args.values.now c.args.vbytes.now c.args.copies.now c.args.cbytes.now in
     let lent : List ℕ → List ℕ → Lent = λ cells words. lent_of cells words c.args.picks.now in
-    let lowest : (cells words : List ℕ) → Lowest sharing job (lent cells words) c.refusal-refused.result = λ cells words. let room = c.shares_room-room in
-    asked sharing job (lent cells words) _ true room.result 0 0 _ c.refusal-refused.result
-    (record {
-      of_kind = refl;
-      its_rules = c.shares_rules-rules.ensures;
-      its_room = λ few small.
-          subst (λ (n : ℕ). NeededBy sharing n c.args.budget room.result) c.list_length-n.ensures (room.ensures c.args.budget);
-      in_cells = unneeded 0 0 (length cells) refl;
-      in_words = unneeded 0 0 (length words) refl;
-      in_picks = refl;
-    })
-    (c.refusal-refused.ensures 7 true) in
+    let lowest : (cells words : List ℕ) → Lowest sharing job (lent cells words) c.refusal-refused.result = λ cells words.
+    asked_counted sharing job (lent cells words) _ true c.shares_room-room.result 0 0 _ c.refusal-refused.result _ c.list_length-n.ensures
+    refl c.shares_rules-rules.ensures (c.shares_room-room.ensures c.args.budget)
+    (unneeded 0 0 (length cells) refl) (unneeded 0 0 (length words) refl) refl (c.refusal-refused.ensures 7 true) in
     turned_away (lowest cells words) c.if-refused-ne0.true
 
 pub returns-then-not-has_sum : goal.returns-then-not-has_sum
@@ -41,18 +33,10 @@ returns-then-not-has_sum c cells words =
     c.args.values.now c.args.vbytes.now c.args.copies.now c.args.cbytes.now in
     let claimed : c.has_sum.result ≡ claims_fit (rules_of sharing) job = c.has_sum.ensures in
     let lent : List ℕ → List ℕ → Lent = λ cells words. lent_of cells words c.args.picks.now in
-    let lowest : (cells words : List ℕ) → Lowest sharing job (lent cells words) c.refusal-refused.result = λ cells words. let room = c.shares_room-room in
-    asked sharing job (lent cells words) _ true room.result 0 0 _ c.refusal-refused.result
-    (record {
-      of_kind = refl;
-      its_rules = c.shares_rules-rules.ensures;
-      its_room = λ few small.
-          subst (λ (n : ℕ). NeededBy sharing n c.args.budget room.result) c.list_length-n.ensures (room.ensures c.args.budget);
-      in_cells = unneeded 0 0 (length cells) refl;
-      in_words = unneeded 0 0 (length words) refl;
-      in_picks = refl;
-    })
-    (c.refusal-refused.ensures 7 true) in
+    let lowest : (cells words : List ℕ) → Lowest sharing job (lent cells words) c.refusal-refused.result = λ cells words.
+    asked_counted sharing job (lent cells words) _ true c.shares_room-room.result 0 0 _ c.refusal-refused.result _ c.list_length-n.ensures
+    refl c.shares_rules-rules.ensures (c.shares_room-room.ensures c.args.budget)
+    (unneeded 0 0 (length cells) refl) (unneeded 0 0 (length words) refl) refl (c.refusal-refused.ensures 7 true) in
     no_claims (lowest cells words) c.if-refused-ne0.false (sym claimed ∙ c.if-not-has_sum.true)
 
 pub solve-requires : goal.solve-requires
@@ -62,18 +46,10 @@ solve-requires c =
     let job : Job = job_from 7 (c.args.budget ∷ []) c.args.weights.now c.args.wbytes.now
     c.args.values.now c.args.vbytes.now c.args.copies.now c.args.cbytes.now in
     let lent : List ℕ → List ℕ → Lent = λ cells words. lent_of cells words c.args.picks.now in
-    let lowest : (cells words : List ℕ) → Lowest sharing job (lent cells words) c.refusal-refused.result = λ cells words. let room = c.shares_room-room in
-    asked sharing job (lent cells words) _ true room.result 0 0 _ c.refusal-refused.result
-    (record {
-      of_kind = refl;
-      its_rules = c.shares_rules-rules.ensures;
-      its_room = λ few small.
-          subst (λ (n : ℕ). NeededBy sharing n c.args.budget room.result) c.list_length-n.ensures (room.ensures c.args.budget);
-      in_cells = unneeded 0 0 (length cells) refl;
-      in_words = unneeded 0 0 (length words) refl;
-      in_picks = refl;
-    })
-    (c.refusal-refused.ensures 7 true) in
+    let lowest : (cells words : List ℕ) → Lowest sharing job (lent cells words) c.refusal-refused.result = λ cells words.
+    asked_counted sharing job (lent cells words) _ true c.shares_room-room.result 0 0 _ c.refusal-refused.result _ c.list_length-n.ensures
+    refl c.shares_rules-rules.ensures (c.shares_room-room.ensures c.args.budget)
+    (unneeded 0 0 (length cells) refl) (unneeded 0 0 (length words) refl) refl (c.refusal-refused.ensures 7 true) in
     let alone : job ≡ bare = weights_alone 7 c.args.budget _ _ _ refl refl (lowest [] []) c.if-refused-ne0.false in
     let claimed : c.has_sum.result ≡ claims_fit (rules_of sharing) job = c.has_sum.ensures in
     subst (λ (j : Job). Unrefused sharing j (lent [] [])) alone
@@ -86,17 +62,9 @@ returns c =
     let job : Job = job_from 7 (c.args.budget ∷ []) c.args.weights.now c.args.wbytes.now
     c.args.values.now c.args.vbytes.now c.args.copies.now c.args.cbytes.now in
     let lent : List ℕ → List ℕ → Lent = λ cells words. lent_of cells words c.args.picks.now in
-    let lowest : (cells words : List ℕ) → Lowest sharing job (lent cells words) c.refusal-refused.result = λ cells words. let room = c.shares_room-room in
-    asked sharing job (lent cells words) _ true room.result 0 0 _ c.refusal-refused.result
-    (record {
-      of_kind = refl;
-      its_rules = c.shares_rules-rules.ensures;
-      its_room = λ few small.
-          subst (λ (n : ℕ). NeededBy sharing n c.args.budget room.result) c.list_length-n.ensures (room.ensures c.args.budget);
-      in_cells = unneeded 0 0 (length cells) refl;
-      in_words = unneeded 0 0 (length words) refl;
-      in_picks = refl;
-    })
-    (c.refusal-refused.ensures 7 true) in
+    let lowest : (cells words : List ℕ) → Lowest sharing job (lent cells words) c.refusal-refused.result = λ cells words.
+    asked_counted sharing job (lent cells words) _ true c.shares_room-room.result 0 0 _ c.refusal-refused.result _ c.list_length-n.ensures
+    refl c.shares_rules-rules.ensures (c.shares_room-room.ensures c.args.budget)
+    (unneeded 0 0 (length cells) refl) (unneeded 0 0 (length words) refl) refl (c.refusal-refused.ensures 7 true) in
     let alone : job ≡ bare = weights_alone 7 c.args.budget _ _ _ refl refl (lowest [] []) c.if-refused-ne0.false in
     rw alone c.solve.ensures

@@ -11,7 +11,7 @@ use Rattle.meaning.specs.Solved.{Unrefused}
 use Rattle.meaning.specs.SolvedIn.{SolvedInCellsBy}
 use Rattle.numbers.specs.TwoSlices.{job_from, weights_from}
 use Rattle.rules.specs.Places.{NeededBy}
-use Rattle.planner.proofs.Preamble.{Lowest, asked, let_in, turned_away, unneeded, weights_alone}
+use Rattle.planner.proofs.Preamble.{Lowest, asked_counted, let_in, turned_away, unneeded, weights_alone}
 use Rattle.planner.proofs.show.Goals as goal
 
 pub returns-then-refused-ne0 : goal.returns-then-refused-ne0
@@ -20,18 +20,9 @@ returns-then-refused-ne0 c words =
     let job : Job = job_from 8 (c.args.budget ∷ []) c.args.weights.now c.args.wbytes.now
     c.args.values.now c.args.vbytes.now c.args.copies.now c.args.cbytes.now in
     let lent : List ℕ → Lent = λ words. lent_of c.args.cells.now words c.args.picks.now in
-    let lowest : (words : List ℕ) → Lowest labels_behind job (lent words) c.refusal-refused.result = λ words. let room = c.row_room-room in
-    asked labels_behind job (lent words) _ false room.result _ 0 _ c.refusal-refused.result
-    (record {
-      of_kind = refl;
-      its_rules = c.sums_rules-rules.ensures.1;
-      its_room = λ few small.
-          subst (λ (n : ℕ). NeededBy labels_behind n c.args.budget room.result) c.list_length-n.ensures room.ensures.1;
-      in_cells = refl;
-      in_words = unneeded 0 0 (length words) refl;
-      in_picks = refl;
-    })
-    (c.refusal-refused.ensures 8 false) in
+    let lowest : (words : List ℕ) → Lowest labels_behind job (lent words) c.refusal-refused.result = λ words.
+    asked_counted labels_behind job (lent words) _ false c.row_room-room.result _ 0 _ c.refusal-refused.result _ c.list_length-n.ensures
+    refl c.sums_rules-rules.ensures.1 c.row_room-room.ensures.1 refl (unneeded 0 0 (length words) refl) refl (c.refusal-refused.ensures 8 false) in
     turned_away (lowest words) c.if-refused-ne0.true
 
 pub solve-requires : goal.solve-requires
@@ -41,18 +32,9 @@ solve-requires c =
     let job : Job = job_from 8 (c.args.budget ∷ []) c.args.weights.now c.args.wbytes.now
     c.args.values.now c.args.vbytes.now c.args.copies.now c.args.cbytes.now in
     let lent : List ℕ → Lent = λ words. lent_of c.args.cells.now words c.args.picks.now in
-    let lowest : (words : List ℕ) → Lowest labels_behind job (lent words) c.refusal-refused.result = λ words. let room = c.row_room-room in
-    asked labels_behind job (lent words) _ false room.result _ 0 _ c.refusal-refused.result
-    (record {
-      of_kind = refl;
-      its_rules = c.sums_rules-rules.ensures.1;
-      its_room = λ few small.
-          subst (λ (n : ℕ). NeededBy labels_behind n c.args.budget room.result) c.list_length-n.ensures room.ensures.1;
-      in_cells = refl;
-      in_words = unneeded 0 0 (length words) refl;
-      in_picks = refl;
-    })
-    (c.refusal-refused.ensures 8 false) in
+    let lowest : (words : List ℕ) → Lowest labels_behind job (lent words) c.refusal-refused.result = λ words.
+    asked_counted labels_behind job (lent words) _ false c.row_room-room.result _ 0 _ c.refusal-refused.result _ c.list_length-n.ensures
+    refl c.sums_rules-rules.ensures.1 c.row_room-room.ensures.1 refl (unneeded 0 0 (length words) refl) refl (c.refusal-refused.ensures 8 false) in
     let alone : job ≡ bare = weights_alone 8 c.args.budget _ _ _ refl refl (lowest []) c.if-refused-ne0.false in
     subst (λ (j : Job). Unrefused labels_behind j (lent [])) alone (let_in (lowest []) c.if-refused-ne0.false refl)
 
@@ -63,17 +45,8 @@ returns c =
     let job : Job = job_from 8 (c.args.budget ∷ []) c.args.weights.now c.args.wbytes.now
     c.args.values.now c.args.vbytes.now c.args.copies.now c.args.cbytes.now in
     let lent : List ℕ → Lent = λ words. lent_of c.args.cells.now words c.args.picks.now in
-    let lowest : (words : List ℕ) → Lowest labels_behind job (lent words) c.refusal-refused.result = λ words. let room = c.row_room-room in
-    asked labels_behind job (lent words) _ false room.result _ 0 _ c.refusal-refused.result
-    (record {
-      of_kind = refl;
-      its_rules = c.sums_rules-rules.ensures.1;
-      its_room = λ few small.
-          subst (λ (n : ℕ). NeededBy labels_behind n c.args.budget room.result) c.list_length-n.ensures room.ensures.1;
-      in_cells = refl;
-      in_words = unneeded 0 0 (length words) refl;
-      in_picks = refl;
-    })
-    (c.refusal-refused.ensures 8 false) in
+    let lowest : (words : List ℕ) → Lowest labels_behind job (lent words) c.refusal-refused.result = λ words.
+    asked_counted labels_behind job (lent words) _ false c.row_room-room.result _ 0 _ c.refusal-refused.result _ c.list_length-n.ensures
+    refl c.sums_rules-rules.ensures.1 c.row_room-room.ensures.1 refl (unneeded 0 0 (length words) refl) refl (c.refusal-refused.ensures 8 false) in
     let alone : job ≡ bare = weights_alone 8 c.args.budget _ _ _ refl refl (lowest []) c.if-refused-ne0.false in
     rw alone c.solve.ensures
