@@ -1,12 +1,13 @@
 -- Certificate bytes, read section by section: where they break, and where they come to the end.
 -- Assumes nothing.
-use mathlib.Core.Path.{◌≡◌, sym, ◌∙◌}
+use mathlib.Core.Path.{◌≡◌, sym, ap, ◌∙◌}
 use Prim.Native.Nat.{ℕ, ◌≤◌, ◌<◌}
 use mathlib.Core.List.{List}
 use lib.ListN.{length}
 use borrow.Author.Tests.{lt-ltb, le-ltb}
 use Rattle.meaning.specs.declared.Verdict.{Verdict}
 use Rattle.meaning.specs.declared.Verdict.TheVariants.{Refused}
+use Rattle.meaning.specs.declared.Section.{Section}
 use Rattle.meaning.specs.declared.Section.TheVariants.{Part, Broken}
 use Rattle.meaning.specs.declared.Needed.TheVariants.{Exactly}
 use Rattle.meaning.specs.Lists.{if}
@@ -30,6 +31,11 @@ held needed b p start count next e =
       part_within = within (Exactly needed) b p start count next e;
       long = section_numbers b start count next f.ends f.inside ∙ needed_count needed count f.right;
     }
+
+-- a section was read with the count that is due
+pub asked_as : {found : Section} (due n : ℕ) (b : List ℕ) (p : ℕ) → due ≡ n → found ≡ read_section (Exactly n) b p
+    → read_section (Exactly due) b p ≡ found
+asked_as due n b p many read = ap (λ (m : ℕ). read_section (Exactly m) b p) many ∙ sym read
 
 module _ (k : Knapsack) (j : Job) (b : List ℕ) where
   abbrev after_cells : List ℕ → List ℕ → ℕ → Verdict

@@ -22,7 +22,7 @@ use Rattle.meaning.proofs.Searches.{none_pass, none_passes, passing, some_passes
 use Rattle.meaning.proofs.Valid.{Valid, value_rule, weight_rule}
 use Rattle.meaning.proofs.Covering.{rule_14_free}
 use Rattle.faults.specs.LowRows.{Budgets, RowThere, below_count, below_one, low_in}
-use Rattle.verdicts.specs.Asked.{InRow, Together, knapsack_in}
+use Rattle.verdicts.specs.Asked.{InRow, Run, Together, knapsack_in}
 use Rattle.verdicts.proofs.Taken.{taken_free, taken_limited, taken_once}
 
 -- ---- kinds 1 and 2: a table
@@ -106,6 +106,12 @@ module _ (j : Job) where
     together_run once run_is from last h t = row_run from run last (run_is once_tabled) h t
     together_run limited run_is from last h t = row_run from run last (run_is limited_tabled) h t
     together_run free run_is from last h t = tt
+
+    -- and from any place where a cell is left it has one, and none past the last
+    pub run_there : (k : Knapsack) → (Tabled k → run ≡ width) → (from last count : ℕ) → 1 ≤ run → from < count → certificate_cells k j ≡ count
+        → last ≡ min (from + run) count → Together k j from from → Run k j from last
+    run_there k run_is from last count some left counted last_is t =
+        record { some = omega arith; inside = omega arith; together = together_run k run_is from last (omega arith) t }
 
     pub together_next : (k : Knapsack) → (Tabled k → run ≡ width) → (from last : ℕ) → last ≡ min (from + run) (certificate_cells k j)
         → from < certificate_cells k j → Together k j from from → Together k j last last

@@ -1,5 +1,5 @@
 -- `certificate::judge` meets its contract: each section is read with the count that it needs, and the picks and cells found are judged.
-use mathlib.Core.Path.{◌≡◌, sym, ap, ◌∙◌}
+use mathlib.Core.Path.{◌≡◌, ◌∙◌}
 use mathlib.Core.List.{List}
 use Prim.Native.Nat.{ℕ, ◌≤◌, ◌/◌}
 use native.Mathlib.Omega.{arith}
@@ -12,8 +12,8 @@ use Rattle.meaning.proofs.Numbers.{numbers_long}
 use Rattle.numbers.specs.TwoSlices.{list_from}
 use Rattle.requests.proofs.Reading.{SectionNumbers, Whole}
 use Rattle.verdicts.specs.Asked.{bytes_job, knapsack_in}
-use Rattle.certificate.proofs.Counting.{RoomCounted, few_labels, room_asked, cells_needed, few_cells}
-use Rattle.certificate.proofs.Reading.{Held, held, picks_broken, cells_broken, left_over, all_read}
+use Rattle.certificate.proofs.Counting.{few_labels, room_asked, cells_needed, few_cells}
+use Rattle.certificate.proofs.Reading.{Held, held, asked_as, picks_broken, cells_broken, left_over, all_read}
 use Rattle.certificate.proofs.judge.Goals as goal
 
 pub knapsack_room-needed-requires : goal.knapsack_room-needed-requires
@@ -32,7 +32,8 @@ unfolding job_of labels list_from
 returns-in_default c =
     let job : Job = bytes_job c.args.kind c.args.budget c.args.weights.now c.args.values.now c.args.copies.now in
     let labels_are : labels job ≡ length c.args.weights.now / 4 = numbers_long c.args.weights.now in
-    let picks_asked : read_section (Exactly (labels job)) c.args.certificate.now 0 ≡ c.read_section-first.result = ap (λ (n : ℕ). read_section (Exactly n) c.args.certificate.now 0) labels_are ∙ sym c.read_section-first.ensures in
+    let picks_asked : read_section (Exactly (labels job)) c.args.certificate.now 0 ≡ c.read_section-first.result =
+    asked_as _ _ _ _ labels_are c.read_section-first.ensures in
     c.refused_with.ensures ∙ picks_broken _ _ _ c.in_default.field-0 (picks_asked ∙ c.in_default.is)
 
 pub overflow_cast-many : goal.overflow_cast-many
@@ -48,13 +49,13 @@ returns-in_default-second c =
     let job : Job = bytes_job c.args.kind c.args.budget c.args.weights.now c.args.values.now c.args.copies.now in
     let knapsack : Knapsack = knapsack_in c.args.kind in
     let labels_are : labels job ≡ length c.args.weights.now / 4 = numbers_long c.args.weights.now in
-    let cells_are : certificate_cells knapsack job ≡ c.knapsack_room-needed.result.cells = let n = length c.args.weights.now / 4 in
-    let counted : RoomCounted job n c.knapsack_room-needed.result = c.knapsack_room-needed.ensures in
-    cells_needed c.requires _ labels_are c.knapsack_room-needed.result counted in
+    let cells_are : certificate_cells knapsack job ≡ c.knapsack_room-needed.result.cells =
+    cells_needed c.requires _ labels_are c.knapsack_room-needed.result c.knapsack_room-needed.ensures in
     let cells_asked : read_section (Exactly (certificate_cells knapsack job)) c.args.certificate.now c.in-Part.picks_end
-    ≡ c.read_section-second.result = ap (λ (n : ℕ). read_section (Exactly n) c.args.certificate.now c.in-Part.picks_end) cells_are
-    ∙ sym c.read_section-second.ensures in
-    let picks_asked : read_section (Exactly (labels job)) c.args.certificate.now 0 ≡ c.read_section-first.result = ap (λ (n : ℕ). read_section (Exactly n) c.args.certificate.now 0) labels_are ∙ sym c.read_section-first.ensures in
+    ≡ c.read_section-second.result =
+    asked_as _ _ _ _ cells_are c.read_section-second.ensures in
+    let picks_asked : read_section (Exactly (labels job)) c.args.certificate.now 0 ≡ c.read_section-first.result =
+    asked_as _ _ _ _ labels_are c.read_section-first.ensures in
     let picks_read : Whole (Exactly (labels job)) c.args.certificate.now 0 (c.in-Part.picks, (c.in-Part.field-1, (c.in-Part.picks_end, tt))) = picks_asked ∙ c.in-Part.is in
     c.refused_with-in_default-second.ensures ∙ cells_broken _ _ _ _ _ _ picks_read c.in_default-second.field-0 (cells_asked ∙ c.in_default-second.is)
 
@@ -64,14 +65,14 @@ returns-then-cells_end-certificate c =
     let job : Job = bytes_job c.args.kind c.args.budget c.args.weights.now c.args.values.now c.args.copies.now in
     let knapsack : Knapsack = knapsack_in c.args.kind in
     let labels_are : labels job ≡ length c.args.weights.now / 4 = numbers_long c.args.weights.now in
-    let cells_are : certificate_cells knapsack job ≡ c.knapsack_room-needed.result.cells = let n = length c.args.weights.now / 4 in
-    let counted : RoomCounted job n c.knapsack_room-needed.result = c.knapsack_room-needed.ensures in
-    cells_needed c.requires _ labels_are c.knapsack_room-needed.result counted in
+    let cells_are : certificate_cells knapsack job ≡ c.knapsack_room-needed.result.cells =
+    cells_needed c.requires _ labels_are c.knapsack_room-needed.result c.knapsack_room-needed.ensures in
     let cells_asked : read_section (Exactly (certificate_cells knapsack job)) c.args.certificate.now c.in-Part.picks_end
-    ≡ c.read_section-second.result = ap (λ (n : ℕ). read_section (Exactly n) c.args.certificate.now c.in-Part.picks_end) cells_are
-    ∙ sym c.read_section-second.ensures in
+    ≡ c.read_section-second.result =
+    asked_as _ _ _ _ cells_are c.read_section-second.ensures in
     let cells_read : Whole (Exactly (certificate_cells knapsack job)) c.args.certificate.now c.in-Part.picks_end (c.in-Part-second.cells, (c.in-Part-second.field-1, (c.in-Part-second.cells_end, tt))) = cells_asked ∙ c.in-Part-second.is in
-    let picks_asked : read_section (Exactly (labels job)) c.args.certificate.now 0 ≡ c.read_section-first.result = ap (λ (n : ℕ). read_section (Exactly n) c.args.certificate.now 0) labels_are ∙ sym c.read_section-first.ensures in
+    let picks_asked : read_section (Exactly (labels job)) c.args.certificate.now 0 ≡ c.read_section-first.result =
+    asked_as _ _ _ _ labels_are c.read_section-first.ensures in
     let picks_read : Whole (Exactly (labels job)) c.args.certificate.now 0 (c.in-Part.picks, (c.in-Part.field-1, (c.in-Part.picks_end, tt))) = picks_asked ∙ c.in-Part.is in
     c.refused_with-then-cells_end-certificate.ensures ∙ left_over _ _ _ _ _ _ picks_read _ _ _ cells_read c.if-cells_end-certificate.true
 
@@ -80,30 +81,30 @@ unfolding job_of labels list_from
 slice_bounds-judge_cells-count c =
     let job : Job = bytes_job c.args.kind c.args.budget c.args.weights.now c.args.values.now c.args.copies.now in
     let labels_are : labels job ≡ length c.args.weights.now / 4 = numbers_long c.args.weights.now in
-    let picks_asked : read_section (Exactly (labels job)) c.args.certificate.now 0 ≡ c.read_section-first.result = ap (λ (n : ℕ). read_section (Exactly n) c.args.certificate.now 0) labels_are ∙ sym c.read_section-first.ensures in
+    let picks_asked : read_section (Exactly (labels job)) c.args.certificate.now 0 ≡ c.read_section-first.result =
+    asked_as _ _ _ _ labels_are c.read_section-first.ensures in
     let picks_read : Whole (Exactly (labels job)) c.args.certificate.now 0 (c.in-Part.picks, (c.in-Part.field-1, (c.in-Part.picks_end, tt))) = picks_asked ∙ c.in-Part.is in
-    let picks_held : Held c.args.certificate.now c.in-Part.picks c.in-Part.picks_end (labels job) = held _ _ _ _ _ _ picks_read in
-    picks_held.part_within.ordered
+    (held _ _ _ _ _ _ picks_read).part_within.ordered
 
 pub slice_bounds-judge_cells-start : goal.slice_bounds-judge_cells-start
 unfolding job_of labels list_from
 slice_bounds-judge_cells-start c =
     let job : Job = bytes_job c.args.kind c.args.budget c.args.weights.now c.args.values.now c.args.copies.now in
     let labels_are : labels job ≡ length c.args.weights.now / 4 = numbers_long c.args.weights.now in
-    let picks_asked : read_section (Exactly (labels job)) c.args.certificate.now 0 ≡ c.read_section-first.result = ap (λ (n : ℕ). read_section (Exactly n) c.args.certificate.now 0) labels_are ∙ sym c.read_section-first.ensures in
+    let picks_asked : read_section (Exactly (labels job)) c.args.certificate.now 0 ≡ c.read_section-first.result =
+    asked_as _ _ _ _ labels_are c.read_section-first.ensures in
     let picks_read : Whole (Exactly (labels job)) c.args.certificate.now 0 (c.in-Part.picks, (c.in-Part.field-1, (c.in-Part.picks_end, tt))) = picks_asked ∙ c.in-Part.is in
-    let picks_held : Held c.args.certificate.now c.in-Part.picks c.in-Part.picks_end (labels job) = held _ _ _ _ _ _ picks_read in
-    picks_held.part_within.ordered
+    (held _ _ _ _ _ _ picks_read).part_within.ordered
 
 pub slice_bounds-judge_cells-end : goal.slice_bounds-judge_cells-end
 unfolding job_of labels list_from
 slice_bounds-judge_cells-end c =
     let job : Job = bytes_job c.args.kind c.args.budget c.args.weights.now c.args.values.now c.args.copies.now in
     let labels_are : labels job ≡ length c.args.weights.now / 4 = numbers_long c.args.weights.now in
-    let picks_asked : read_section (Exactly (labels job)) c.args.certificate.now 0 ≡ c.read_section-first.result = ap (λ (n : ℕ). read_section (Exactly n) c.args.certificate.now 0) labels_are ∙ sym c.read_section-first.ensures in
+    let picks_asked : read_section (Exactly (labels job)) c.args.certificate.now 0 ≡ c.read_section-first.result =
+    asked_as _ _ _ _ labels_are c.read_section-first.ensures in
     let picks_read : Whole (Exactly (labels job)) c.args.certificate.now 0 (c.in-Part.picks, (c.in-Part.field-1, (c.in-Part.picks_end, tt))) = picks_asked ∙ c.in-Part.is in
-    let picks_held : Held c.args.certificate.now c.in-Part.picks c.in-Part.picks_end (labels job) = held _ _ _ _ _ _ picks_read in
-    picks_held.part_within.inside
+    (held _ _ _ _ _ _ picks_read).part_within.inside
 
 pub slice_bounds-judge_cells-count-2 : goal.slice_bounds-judge_cells-count-2
 unfolding job_of labels list_from
@@ -111,15 +112,13 @@ slice_bounds-judge_cells-count-2 c =
     let job : Job = bytes_job c.args.kind c.args.budget c.args.weights.now c.args.values.now c.args.copies.now in
     let knapsack : Knapsack = knapsack_in c.args.kind in
     let labels_are : labels job ≡ length c.args.weights.now / 4 = numbers_long c.args.weights.now in
-    let cells_are : certificate_cells knapsack job ≡ c.knapsack_room-needed.result.cells = let n = length c.args.weights.now / 4 in
-    let counted : RoomCounted job n c.knapsack_room-needed.result = c.knapsack_room-needed.ensures in
-    cells_needed c.requires _ labels_are c.knapsack_room-needed.result counted in
+    let cells_are : certificate_cells knapsack job ≡ c.knapsack_room-needed.result.cells =
+    cells_needed c.requires _ labels_are c.knapsack_room-needed.result c.knapsack_room-needed.ensures in
     let cells_asked : read_section (Exactly (certificate_cells knapsack job)) c.args.certificate.now c.in-Part.picks_end
-    ≡ c.read_section-second.result = ap (λ (n : ℕ). read_section (Exactly n) c.args.certificate.now c.in-Part.picks_end) cells_are
-    ∙ sym c.read_section-second.ensures in
+    ≡ c.read_section-second.result =
+    asked_as _ _ _ _ cells_are c.read_section-second.ensures in
     let cells_read : Whole (Exactly (certificate_cells knapsack job)) c.args.certificate.now c.in-Part.picks_end (c.in-Part-second.cells, (c.in-Part-second.field-1, (c.in-Part-second.cells_end, tt))) = cells_asked ∙ c.in-Part-second.is in
-    let cells_held : Held c.args.certificate.now c.in-Part-second.cells c.in-Part-second.cells_end (certificate_cells knapsack job) = held _ _ _ _ _ _ cells_read in
-    cells_held.part_within.ordered
+    (held _ _ _ _ _ _ cells_read).part_within.ordered
 
 pub slice_bounds-judge_cells-start-2 : goal.slice_bounds-judge_cells-start-2
 unfolding job_of labels list_from
@@ -127,15 +126,13 @@ slice_bounds-judge_cells-start-2 c =
     let job : Job = bytes_job c.args.kind c.args.budget c.args.weights.now c.args.values.now c.args.copies.now in
     let knapsack : Knapsack = knapsack_in c.args.kind in
     let labels_are : labels job ≡ length c.args.weights.now / 4 = numbers_long c.args.weights.now in
-    let cells_are : certificate_cells knapsack job ≡ c.knapsack_room-needed.result.cells = let n = length c.args.weights.now / 4 in
-    let counted : RoomCounted job n c.knapsack_room-needed.result = c.knapsack_room-needed.ensures in
-    cells_needed c.requires _ labels_are c.knapsack_room-needed.result counted in
+    let cells_are : certificate_cells knapsack job ≡ c.knapsack_room-needed.result.cells =
+    cells_needed c.requires _ labels_are c.knapsack_room-needed.result c.knapsack_room-needed.ensures in
     let cells_asked : read_section (Exactly (certificate_cells knapsack job)) c.args.certificate.now c.in-Part.picks_end
-    ≡ c.read_section-second.result = ap (λ (n : ℕ). read_section (Exactly n) c.args.certificate.now c.in-Part.picks_end) cells_are
-    ∙ sym c.read_section-second.ensures in
+    ≡ c.read_section-second.result =
+    asked_as _ _ _ _ cells_are c.read_section-second.ensures in
     let cells_read : Whole (Exactly (certificate_cells knapsack job)) c.args.certificate.now c.in-Part.picks_end (c.in-Part-second.cells, (c.in-Part-second.field-1, (c.in-Part-second.cells_end, tt))) = cells_asked ∙ c.in-Part-second.is in
-    let cells_held : Held c.args.certificate.now c.in-Part-second.cells c.in-Part-second.cells_end (certificate_cells knapsack job) = held _ _ _ _ _ _ cells_read in
-    cells_held.part_within.ordered
+    (held _ _ _ _ _ _ cells_read).part_within.ordered
 
 pub slice_bounds-judge_cells-end-2 : goal.slice_bounds-judge_cells-end-2
 unfolding job_of labels list_from
@@ -143,15 +140,13 @@ slice_bounds-judge_cells-end-2 c =
     let job : Job = bytes_job c.args.kind c.args.budget c.args.weights.now c.args.values.now c.args.copies.now in
     let knapsack : Knapsack = knapsack_in c.args.kind in
     let labels_are : labels job ≡ length c.args.weights.now / 4 = numbers_long c.args.weights.now in
-    let cells_are : certificate_cells knapsack job ≡ c.knapsack_room-needed.result.cells = let n = length c.args.weights.now / 4 in
-    let counted : RoomCounted job n c.knapsack_room-needed.result = c.knapsack_room-needed.ensures in
-    cells_needed c.requires _ labels_are c.knapsack_room-needed.result counted in
+    let cells_are : certificate_cells knapsack job ≡ c.knapsack_room-needed.result.cells =
+    cells_needed c.requires _ labels_are c.knapsack_room-needed.result c.knapsack_room-needed.ensures in
     let cells_asked : read_section (Exactly (certificate_cells knapsack job)) c.args.certificate.now c.in-Part.picks_end
-    ≡ c.read_section-second.result = ap (λ (n : ℕ). read_section (Exactly n) c.args.certificate.now c.in-Part.picks_end) cells_are
-    ∙ sym c.read_section-second.ensures in
+    ≡ c.read_section-second.result =
+    asked_as _ _ _ _ cells_are c.read_section-second.ensures in
     let cells_read : Whole (Exactly (certificate_cells knapsack job)) c.args.certificate.now c.in-Part.picks_end (c.in-Part-second.cells, (c.in-Part-second.field-1, (c.in-Part-second.cells_end, tt))) = cells_asked ∙ c.in-Part-second.is in
-    let cells_held : Held c.args.certificate.now c.in-Part-second.cells c.in-Part-second.cells_end (certificate_cells knapsack job) = held _ _ _ _ _ _ cells_read in
-    cells_held.part_within.inside
+    (held _ _ _ _ _ _ cells_read).part_within.inside
 
 pub judge_cells-requires : goal.judge_cells-requires
 unfolding between job_of labels list_from
@@ -159,15 +154,15 @@ judge_cells-requires c =
     let job : Job = bytes_job c.args.kind c.args.budget c.args.weights.now c.args.values.now c.args.copies.now in
     let knapsack : Knapsack = knapsack_in c.args.kind in
     let labels_are : labels job ≡ length c.args.weights.now / 4 = numbers_long c.args.weights.now in
-    let cells_are : certificate_cells knapsack job ≡ c.knapsack_room-needed.result.cells = let n = length c.args.weights.now / 4 in
-    let counted : RoomCounted job n c.knapsack_room-needed.result = c.knapsack_room-needed.ensures in
-    cells_needed c.requires _ labels_are c.knapsack_room-needed.result counted in
+    let cells_are : certificate_cells knapsack job ≡ c.knapsack_room-needed.result.cells =
+    cells_needed c.requires _ labels_are c.knapsack_room-needed.result c.knapsack_room-needed.ensures in
     let cells_asked : read_section (Exactly (certificate_cells knapsack job)) c.args.certificate.now c.in-Part.picks_end
-    ≡ c.read_section-second.result = ap (λ (n : ℕ). read_section (Exactly n) c.args.certificate.now c.in-Part.picks_end) cells_are
-    ∙ sym c.read_section-second.ensures in
+    ≡ c.read_section-second.result =
+    asked_as _ _ _ _ cells_are c.read_section-second.ensures in
     let cells_read : Whole (Exactly (certificate_cells knapsack job)) c.args.certificate.now c.in-Part.picks_end (c.in-Part-second.cells, (c.in-Part-second.field-1, (c.in-Part-second.cells_end, tt))) = cells_asked ∙ c.in-Part-second.is in
     let cells_held : Held c.args.certificate.now c.in-Part-second.cells c.in-Part-second.cells_end (certificate_cells knapsack job) = held _ _ _ _ _ _ cells_read in
-    let picks_asked : read_section (Exactly (labels job)) c.args.certificate.now 0 ≡ c.read_section-first.result = ap (λ (n : ℕ). read_section (Exactly n) c.args.certificate.now 0) labels_are ∙ sym c.read_section-first.ensures in
+    let picks_asked : read_section (Exactly (labels job)) c.args.certificate.now 0 ≡ c.read_section-first.result =
+    asked_as _ _ _ _ labels_are c.read_section-first.ensures in
     let picks_read : Whole (Exactly (labels job)) c.args.certificate.now 0 (c.in-Part.picks, (c.in-Part.field-1, (c.in-Part.picks_end, tt))) = picks_asked ∙ c.in-Part.is in
     let picks_held : Held c.args.certificate.now c.in-Part.picks c.in-Part.picks_end (labels job) = held _ _ _ _ _ _ picks_read in
     record { cells_read = record { has_certificates = c.requires; long = cells_held.long }; picks_len = picks_held.long }
@@ -178,15 +173,15 @@ returns c =
     let job : Job = bytes_job c.args.kind c.args.budget c.args.weights.now c.args.values.now c.args.copies.now in
     let knapsack : Knapsack = knapsack_in c.args.kind in
     let labels_are : labels job ≡ length c.args.weights.now / 4 = numbers_long c.args.weights.now in
-    let cells_are : certificate_cells knapsack job ≡ c.knapsack_room-needed.result.cells = let n = length c.args.weights.now / 4 in
-    let counted : RoomCounted job n c.knapsack_room-needed.result = c.knapsack_room-needed.ensures in
-    cells_needed c.requires _ labels_are c.knapsack_room-needed.result counted in
+    let cells_are : certificate_cells knapsack job ≡ c.knapsack_room-needed.result.cells =
+    cells_needed c.requires _ labels_are c.knapsack_room-needed.result c.knapsack_room-needed.ensures in
     let cells_asked : read_section (Exactly (certificate_cells knapsack job)) c.args.certificate.now c.in-Part.picks_end
-    ≡ c.read_section-second.result = ap (λ (n : ℕ). read_section (Exactly n) c.args.certificate.now c.in-Part.picks_end) cells_are
-    ∙ sym c.read_section-second.ensures in
+    ≡ c.read_section-second.result =
+    asked_as _ _ _ _ cells_are c.read_section-second.ensures in
     let cells_read : Whole (Exactly (certificate_cells knapsack job)) c.args.certificate.now c.in-Part.picks_end (c.in-Part-second.cells, (c.in-Part-second.field-1, (c.in-Part-second.cells_end, tt))) = cells_asked ∙ c.in-Part-second.is in
     let numbers : SectionNumbers → List ℕ = λ part. numbers_in (between c.args.certificate.now part.0 part.1.1.0) in
-    let picks_asked : read_section (Exactly (labels job)) c.args.certificate.now 0 ≡ c.read_section-first.result = ap (λ (n : ℕ). read_section (Exactly n) c.args.certificate.now 0) labels_are ∙ sym c.read_section-first.ensures in
+    let picks_asked : read_section (Exactly (labels job)) c.args.certificate.now 0 ≡ c.read_section-first.result =
+    asked_as _ _ _ _ labels_are c.read_section-first.ensures in
     let picks_read : Whole (Exactly (labels job)) c.args.certificate.now 0 (c.in-Part.picks, (c.in-Part.field-1, (c.in-Part.picks_end, tt))) = picks_asked ∙ c.in-Part.is in
     let all_judged : length c.args.certificate.now ≤ c.in-Part-second.cells_end
     → verdict_on_cells knapsack job (numbers (c.in-Part.picks, (c.in-Part.field-1, (c.in-Part.picks_end, tt)))) (numbers (c.in-Part-second.cells, (c.in-Part-second.field-1, (c.in-Part-second.cells_end, tt))))

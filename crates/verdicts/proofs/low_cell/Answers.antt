@@ -7,7 +7,7 @@ use Rattle.meaning.specs.Job.{Job, Knapsack, job_of}
 use Rattle.meaning.specs.Certificates.{certificate_cells}
 use Rattle.meaning.proofs.Numbers.{numbers_long}
 use Rattle.verdicts.specs.Asked.{bytes_job, knapsack_in, Run}
-use Rattle.verdicts.proofs.LowRows.{Tabled, tabled_not_3, together_start, together_less, together_run, together_next}
+use Rattle.verdicts.proofs.LowRows.{Tabled, tabled_not_3, together_start, together_less, run_there, together_next}
 use Rattle.verdicts.proofs.LowCells.{kept_start, narrow_start, narrow_within, narrow_from, two_left}
 use Rattle.verdicts.proofs.LowCells.{half_low, half_kept, found_low, run_passed, none_found}
 use Rattle.verdicts.proofs.low_cell.Goals as goal
@@ -22,13 +22,9 @@ end_within c =
     let knapsack : Knapsack = knapsack_in c.args.kind in
     let counted : certificate_cells knapsack job ≡ length c.args.cells.now / 4 = sym c.requires.long ∙ numbers_long c.args.cells.now in
     let run_is : Tabled (knapsack) → c.run_length-run.result ≡ c.args.budget + 1 = λ t. c.run_length-run.ensures.0 (tabled_not_3 c.args.kind t) in
-    let the_run : Run (knapsack) (job) c.rows.from c.nearer-last.result = record {
-      some = omega (arith, c.nearer-last.ensures, c.run_length-run.ensures.1, c.rows-test.true);
-      inside = omega (arith, c.nearer-last.ensures, counted);
-      together =
-          together_run (job) c.run_length-run.result (knapsack) (run_is) c.rows.from c.nearer-last.result
-          (omega (arith, c.nearer-last.ensures)) c.rows.invariant.1.0;
-    } in
+    let the_run : Run knapsack job c.rows.from c.nearer-last.result =
+    run_there job c.run_length-run.result knapsack run_is _ _ _ c.run_length-run.ensures.1.0 c.rows-test.true counted
+    c.nearer-last.ensures c.rows.invariant.1.0 in
     omega (arith, narrow_within _ _ _ c.budgets.invariant, (the_run).inside)
 
 pub rows-init : goal.rows-init
@@ -44,13 +40,9 @@ search_from-kept-requires c =
     let knapsack : Knapsack = knapsack_in c.args.kind in
     let counted : certificate_cells knapsack job ≡ length c.args.cells.now / 4 = sym c.requires.long ∙ numbers_long c.args.cells.now in
     let run_is : Tabled knapsack → c.run_length-run.result ≡ c.args.budget + 1 = λ t. c.run_length-run.ensures.0 (tabled_not_3 c.args.kind t) in
-    let the_run : Run knapsack job c.rows.from c.nearer-last.result = record {
-      some = omega (arith, c.nearer-last.ensures, c.run_length-run.ensures.1, c.rows-test.true);
-      inside = omega (arith, c.nearer-last.ensures, counted);
-      together =
-          together_run job c.run_length-run.result knapsack run_is c.rows.from c.nearer-last.result
-          (omega (arith, c.nearer-last.ensures)) c.rows.invariant.1.0;
-    } in
+    let the_run : Run knapsack job c.rows.from c.nearer-last.result =
+    run_there job c.run_length-run.result knapsack run_is _ _ _ c.run_length-run.ensures.1.0 c.rows-test.true counted
+    c.nearer-last.ensures c.rows.invariant.1.0 in
     record { cells_read = c.requires; run = the_run }
 
 pub budgets-init : goal.budgets-init
@@ -60,13 +52,9 @@ budgets-init c =
     let knapsack : Knapsack = knapsack_in c.args.kind in
     let counted : certificate_cells knapsack job ≡ length c.args.cells.now / 4 = sym c.requires.long ∙ numbers_long c.args.cells.now in
     let run_is : Tabled knapsack → c.run_length-run.result ≡ c.args.budget + 1 = λ t. c.run_length-run.ensures.0 (tabled_not_3 c.args.kind t) in
-    let the_run : Run knapsack job c.rows.from c.nearer-last.result = record {
-      some = omega (arith, c.nearer-last.ensures, c.run_length-run.ensures.1, c.rows-test.true);
-      inside = omega (arith, c.nearer-last.ensures, counted);
-      together =
-          together_run job c.run_length-run.result knapsack run_is c.rows.from c.nearer-last.result
-          (omega (arith, c.nearer-last.ensures)) c.rows.invariant.1.0;
-    } in
+    let the_run : Run knapsack job c.rows.from c.nearer-last.result =
+    run_there job c.run_length-run.result knapsack run_is _ _ _ c.run_length-run.ensures.1.0 c.rows-test.true counted
+    c.nearer-last.ensures c.rows.invariant.1.0 in
     narrow_start _ _ _ _ _ _ the_run.some c.search_from-kept.ensures c.rows.invariant.1.1
 
 pub overflow_sub-middle : goal.overflow_sub-middle
@@ -91,13 +79,9 @@ is_low-requires c =
     let some_left : c.budgets.kept + 1 < c.budgets.end = two_left c.budgets.kept c.budgets.end c.budgets-test.true c.if-end-kept-eq1.false in
     let counted : certificate_cells knapsack job ≡ length c.args.cells.now / 4 = sym c.requires.long ∙ numbers_long c.args.cells.now in
     let run_is : Tabled knapsack → c.run_length-run.result ≡ c.args.budget + 1 = λ t. c.run_length-run.ensures.0 (tabled_not_3 c.args.kind t) in
-    let the_run : Run knapsack job c.rows.from c.nearer-last.result = record {
-      some = omega (arith, c.nearer-last.ensures, c.run_length-run.ensures.1, c.rows-test.true);
-      inside = omega (arith, c.nearer-last.ensures, counted);
-      together =
-          together_run job c.run_length-run.result knapsack run_is c.rows.from c.nearer-last.result
-          (omega (arith, c.nearer-last.ensures)) c.rows.invariant.1.0;
-    } in
+    let the_run : Run knapsack job c.rows.from c.nearer-last.result =
+    run_there job c.run_length-run.result knapsack run_is _ _ _ c.run_length-run.ensures.1.0 c.rows-test.true counted
+    c.nearer-last.ensures c.rows.invariant.1.0 in
     let the_half : Run knapsack job c.rows.from middle = record {
       some = omega (arith, some_left, narrow_from _ _ _ c.budgets-test.true c.budgets.invariant);
       inside = omega (arith, some_left, (end_within c));
@@ -137,13 +121,9 @@ rows-smaller c =
     let knapsack : Knapsack = knapsack_in c.args.kind in
     let counted : certificate_cells knapsack job ≡ length c.args.cells.now / 4 = sym c.requires.long ∙ numbers_long c.args.cells.now in
     let run_is : Tabled knapsack → c.run_length-run.result ≡ c.args.budget + 1 = λ t. c.run_length-run.ensures.0 (tabled_not_3 c.args.kind t) in
-    let the_run : Run knapsack job c.rows.from c.nearer-last.result = record {
-      some = omega (arith, c.nearer-last.ensures, c.run_length-run.ensures.1, c.rows-test.true);
-      inside = omega (arith, c.nearer-last.ensures, counted);
-      together =
-          together_run job c.run_length-run.result knapsack run_is c.rows.from c.nearer-last.result
-          (omega (arith, c.nearer-last.ensures)) c.rows.invariant.1.0;
-    } in
+    let the_run : Run knapsack job c.rows.from c.nearer-last.result =
+    run_there job c.run_length-run.result knapsack run_is _ _ _ c.run_length-run.ensures.1.0 c.rows-test.true counted
+    c.nearer-last.ensures c.rows.invariant.1.0 in
     omega (arith, the_run.some, the_run.inside, counted)
 
 pub rows-preserved : goal.rows-preserved
@@ -153,13 +133,9 @@ rows-preserved c =
     let knapsack : Knapsack = knapsack_in c.args.kind in
     let counted : certificate_cells knapsack job ≡ length c.args.cells.now / 4 = sym c.requires.long ∙ numbers_long c.args.cells.now in
     let run_is : Tabled knapsack → c.run_length-run.result ≡ c.args.budget + 1 = λ t. c.run_length-run.ensures.0 (tabled_not_3 c.args.kind t) in
-    let the_run : Run knapsack job c.rows.from c.nearer-last.result = record {
-      some = omega (arith, c.nearer-last.ensures, c.run_length-run.ensures.1, c.rows-test.true);
-      inside = omega (arith, c.nearer-last.ensures, counted);
-      together =
-          together_run job c.run_length-run.result knapsack run_is c.rows.from c.nearer-last.result
-          (omega (arith, c.nearer-last.ensures)) c.rows.invariant.1.0;
-    } in (
+    let the_run : Run knapsack job c.rows.from c.nearer-last.result =
+    run_there job c.run_length-run.result knapsack run_is _ _ _ c.run_length-run.ensures.1.0 c.rows-test.true counted
+    c.nearer-last.ensures c.rows.invariant.1.0 in (
       omega (arith, the_run.inside, counted),
       (
         together_next job c.run_length-run.result knapsack run_is c.rows.from _
@@ -182,11 +158,7 @@ returns-then-end-kept-eq1 c =
     let knapsack : Knapsack = knapsack_in c.args.kind in
     let counted : certificate_cells knapsack job ≡ length c.args.cells.now / 4 = sym c.requires.long ∙ numbers_long c.args.cells.now in
     let run_is : Tabled knapsack → c.run_length-run.result ≡ c.args.budget + 1 = λ t. c.run_length-run.ensures.0 (tabled_not_3 c.args.kind t) in
-    let the_run : Run knapsack job c.rows.from c.nearer-last.result = record {
-      some = omega (arith, c.nearer-last.ensures, c.run_length-run.ensures.1, c.rows-test.true);
-      inside = omega (arith, c.nearer-last.ensures, counted);
-      together =
-          together_run job c.run_length-run.result knapsack run_is c.rows.from c.nearer-last.result
-          (omega (arith, c.nearer-last.ensures)) c.rows.invariant.1.0;
-    } in
+    let the_run : Run knapsack job c.rows.from c.nearer-last.result =
+    run_there job c.run_length-run.result knapsack run_is _ _ _ c.run_length-run.ensures.1.0 c.rows-test.true counted
+    c.nearer-last.ensures c.rows.invariant.1.0 in
     found_low _ _ _ c.budgets-test.true c.if-end-kept-eq1.true the_run.inside c.budgets.invariant
