@@ -13,7 +13,7 @@ use Rattle.numbers.specs.TwoSlices.{list_from}
 use Rattle.stated.specs.LeastWeights.{row_of, cell_of}
 use Rattle.stated.specs.ReadOff.{apart, begin}
 use Rattle.stated.proofs.Measuring.{cut_at}
-use Rattle.stated.proofs.Filling.{last_row, row_within, row_back, row_past, apart_few, pick_within}
+use Rattle.stated.proofs.Filling.{last_row, cell_there, row_back, row_past, apart_few, pick_within}
 use Rattle.stated.proofs.Tracing.{trace_more}
 use Rattle.stated.proofs.trace_back.Goals as goal
 
@@ -120,9 +120,8 @@ overflow_add-before c =
     let row_is : c.loop-i.row ≡ row_of c.args.budget weights (suc i) * c.args.width = let e : c.loop-i.i ≡ suc i = omega arith in rw (← e) c.loop-i.invariant.2 in
     let before_is : c.row_before-before.result ≡ row_of c.args.budget weights i * c.args.width = row_back c.args.budget weights c.args.width i c.loop-i.row c.row_before-before.result
     inside row_is (rw c.item-w.ensures at c.row_before-before.ensures) in
-    let within : (k : ℕ) → k ≤ length weights
-    → row_of c.args.budget weights k * c.args.width + c.args.width ≤ length c.args.cells.now = row_within c.args.budget weights c.args.width c.requires.roomy.0 in
-    let before_inside : c.row_before-before.result + c.loop-i.t < length c.args.cells.now = omega (arith, before_is, within i (omega (arith, inside)), c.loop-i.invariant.3) in
+    let before_inside : c.row_before-before.result + c.loop-i.t < length c.args.cells.now =
+    cell_there c.args.budget weights c.args.width c.requires.roomy.0 i _ c.loop-i.t (omega (arith, inside)) before_is c.loop-i.invariant.3 in
     omega (arith, before_inside, c.well_formed)
 
 pub offset_bounds-cells-before : goal.offset_bounds-cells-before
@@ -133,9 +132,8 @@ offset_bounds-cells-before c =
     let row_is : c.loop-i.row ≡ row_of c.args.budget weights (suc i) * c.args.width = let e : c.loop-i.i ≡ suc i = omega arith in rw (← e) c.loop-i.invariant.2 in
     let before_is : c.row_before-before.result ≡ row_of c.args.budget weights i * c.args.width = row_back c.args.budget weights c.args.width i c.loop-i.row c.row_before-before.result
     inside row_is (rw c.item-w.ensures at c.row_before-before.ensures) in
-    let within : (k : ℕ) → k ≤ length weights
-    → row_of c.args.budget weights k * c.args.width + c.args.width ≤ length c.args.cells.now = row_within c.args.budget weights c.args.width c.requires.roomy.0 in
-    let before_inside : c.row_before-before.result + c.loop-i.t < length c.args.cells.now = omega (arith, before_is, within i (omega (arith, inside)), c.loop-i.invariant.3) in
+    let before_inside : c.row_before-before.result + c.loop-i.t < length c.args.cells.now =
+    cell_there c.args.budget weights c.args.width c.requires.roomy.0 i _ c.loop-i.t (omega (arith, inside)) before_is c.loop-i.invariant.3 in
     omega (arith, before_inside, c.well_formed)
 
 pub bounds-cells-before : goal.bounds-cells-before
@@ -146,43 +144,28 @@ bounds-cells-before c =
     let row_is : c.loop-i.row ≡ row_of c.args.budget weights (suc i) * c.args.width = let e : c.loop-i.i ≡ suc i = omega arith in rw (← e) c.loop-i.invariant.2 in
     let before_is : c.row_before-before.result ≡ row_of c.args.budget weights i * c.args.width = row_back c.args.budget weights c.args.width i c.loop-i.row c.row_before-before.result
     inside row_is (rw c.item-w.ensures at c.row_before-before.ensures) in
-    let within : (k : ℕ) → k ≤ length weights
-    → row_of c.args.budget weights k * c.args.width + c.args.width ≤ length c.args.cells.now = row_within c.args.budget weights c.args.width c.requires.roomy.0 in
-    let before_inside : c.row_before-before.result + c.loop-i.t < length c.args.cells.now = omega (arith, before_is, within i (omega (arith, inside)), c.loop-i.invariant.3) in
+    let before_inside : c.row_before-before.result + c.loop-i.t < length c.args.cells.now =
+    cell_there c.args.budget weights c.args.width c.requires.roomy.0 i _ c.loop-i.t (omega (arith, inside)) before_is c.loop-i.invariant.3 in
     before_inside
 
 pub overflow_add-row : goal.overflow_add-row
 overflow_add-row c =
-    let i : ℕ = c.loop-i.i - 1 in
-    let weights : List ℕ = list_from c.args.weights.now c.args.wbytes.now in
-    let inside : i < length weights = omega (arith, c.requires.divisor_nonzero.1.1.0) in
-    let row_is : c.loop-i.row ≡ row_of c.args.budget weights (suc i) * c.args.width = let e : c.loop-i.i ≡ suc i = omega arith in rw (← e) c.loop-i.invariant.2 in
-    let within : (k : ℕ) → k ≤ length weights
-    → row_of c.args.budget weights k * c.args.width + c.args.width ≤ length c.args.cells.now = row_within c.args.budget weights c.args.width c.requires.roomy.0 in
-    let row_inside : c.loop-i.row + c.loop-i.t < length c.args.cells.now = omega (arith, row_is, within (suc i) inside, c.loop-i.invariant.3) in
+    let row_inside : c.loop-i.row + c.loop-i.t < length c.args.cells.now =
+    cell_there c.args.budget (list_from c.args.weights.now c.args.wbytes.now) c.args.width c.requires.roomy.0 c.loop-i.i c.loop-i.row c.loop-i.t
+    (omega (arith, c.requires.divisor_nonzero.1.1.0)) c.loop-i.invariant.2 c.loop-i.invariant.3 in
     omega (arith, row_inside, c.well_formed)
 
 pub offset_bounds-cells-row : goal.offset_bounds-cells-row
 offset_bounds-cells-row c =
-    let i : ℕ = c.loop-i.i - 1 in
-    let weights : List ℕ = list_from c.args.weights.now c.args.wbytes.now in
-    let inside : i < length weights = omega (arith, c.requires.divisor_nonzero.1.1.0) in
-    let row_is : c.loop-i.row ≡ row_of c.args.budget weights (suc i) * c.args.width = let e : c.loop-i.i ≡ suc i = omega arith in rw (← e) c.loop-i.invariant.2 in
-    let within : (k : ℕ) → k ≤ length weights
-    → row_of c.args.budget weights k * c.args.width + c.args.width ≤ length c.args.cells.now = row_within c.args.budget weights c.args.width c.requires.roomy.0 in
-    let row_inside : c.loop-i.row + c.loop-i.t < length c.args.cells.now = omega (arith, row_is, within (suc i) inside, c.loop-i.invariant.3) in
+    let row_inside : c.loop-i.row + c.loop-i.t < length c.args.cells.now =
+    cell_there c.args.budget (list_from c.args.weights.now c.args.wbytes.now) c.args.width c.requires.roomy.0 c.loop-i.i c.loop-i.row c.loop-i.t
+    (omega (arith, c.requires.divisor_nonzero.1.1.0)) c.loop-i.invariant.2 c.loop-i.invariant.3 in
     omega (arith, row_inside, c.well_formed)
 
 pub bounds-cells-row : goal.bounds-cells-row
 bounds-cells-row c =
-    let i : ℕ = c.loop-i.i - 1 in
-    let weights : List ℕ = list_from c.args.weights.now c.args.wbytes.now in
-    let inside : i < length weights = omega (arith, c.requires.divisor_nonzero.1.1.0) in
-    let row_is : c.loop-i.row ≡ row_of c.args.budget weights (suc i) * c.args.width = let e : c.loop-i.i ≡ suc i = omega arith in rw (← e) c.loop-i.invariant.2 in
-    let within : (k : ℕ) → k ≤ length weights
-    → row_of c.args.budget weights k * c.args.width + c.args.width ≤ length c.args.cells.now = row_within c.args.budget weights c.args.width c.requires.roomy.0 in
-    let row_inside : c.loop-i.row + c.loop-i.t < length c.args.cells.now = omega (arith, row_is, within (suc i) inside, c.loop-i.invariant.3) in
-    row_inside
+    cell_there c.args.budget (list_from c.args.weights.now c.args.wbytes.now) c.args.width c.requires.roomy.0 c.loop-i.i c.loop-i.row c.loop-i.t
+    (omega (arith, c.requires.divisor_nonzero.1.1.0)) c.loop-i.invariant.2 c.loop-i.invariant.3
 
 pub nonzero_div-t : goal.nonzero_div-t
 nonzero_div-t c = c.requires.divisor_nonzero.0
