@@ -85,6 +85,18 @@ unfolding room_by once_room room_of
 full_room once_is j = refl
 full_room limited_is j = refl
 
+-- so the lent cells hold the table of the labels that were counted
+pub table_held : (kind budget : ℕ) (weights values copies cells picks : List ℕ) (n : ℕ)
+    → LetIn (job_of kind (budget ∷ []) weights values copies) cells picks → kind < 3 → n ≡ length weights
+    → (n + 1) * (budget + 1) ≤ length cells
+unfolding cell_count job_of labels
+table_held kind budget weights values copies cells picks n asked few n-is =
+    let k = asked.knapsack in
+    let job = job_of kind (budget ∷ []) weights values copies in
+    let is : Rowed k = rowed k (rw (kind_number kind (packing k) asked.unrefused.of_kind) at few) in
+    let room : (length weights + 1) * (budget + 1) ≤ length cells = rw (full_room is job) at (ready k job cells picks asked.unrefused).cells_room in
+    rw n-is room
+
 -- kind 2 has a number of copies for each label
 pub copies_long : {k : Knapsack} → Rowed k → (j : Job) → Valid k j → ¬ (number_of (packing k) ≡ 1) → length j.copies ≡ labels j
 unfolding number_of has_copies if

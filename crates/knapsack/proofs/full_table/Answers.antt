@@ -20,7 +20,7 @@ use Rattle.rows.specs.Traces.{TraceBack}
 use Rattle.rows.proofs.AnyRows.{one_row_more, trace_within}
 use Rattle.knapsack.proofs.FullRows.{some_back}
 use Rattle.rows.proofs.Bounded.{bounded}
-use Rattle.knapsack.proofs.KnapsackDoor.{Rowed, rowed, Ready, ready, limit_few, limit_may, full_room, copies_long, packs_full}
+use Rattle.knapsack.proofs.KnapsackDoor.{Rowed, rowed, Ready, ready, limit_few, limit_may, table_held, copies_long, packs_full}
 use Rattle.knapsack.proofs.full_table.Goals as goal
 
 picks_long : (c : goal.After-trace_back-arg-1) →
@@ -45,16 +45,10 @@ trace : (c : goal.After-slice_known-5-1) →
 unfolding cell_count job_of labels
 trace c =
     let needed : ℕ = (c.list_length-n.result + 1) * (c.args.budget + 1) in
-    let numbered : c.args.kind ≡ number_of (packing c.requires.let_in.knapsack) = kind_number c.args.kind (packing c.requires.let_in.knapsack) c.requires.let_in.unrefused.of_kind in
-    let is : Rowed c.requires.let_in.knapsack = rowed c.requires.let_in.knapsack (rw numbered at c.requires.kind_bound) in
-    let copies : List ℕ = list_from c.args.copies.now c.args.cbytes.now in
-    let values : List ℕ = list_from c.args.values.now c.args.vbytes.now in
-    let weights : List ℕ = list_from c.args.weights.now c.args.wbytes.now in
-    let job : Job = job_of c.args.kind (c.args.budget ∷ []) weights values copies in
-    let keeps : Ready c.requires.let_in.knapsack job c.args.cells.now c.args.picks.now = ready c.requires.let_in.knapsack job c.args.cells.now c.args.picks.now c.requires.let_in.unrefused in
-    let cells_room : (length weights + 1) * (c.args.budget + 1) ≤ length c.args.cells.now = rw (full_room is job) at keeps.cells_room in
-    let needed_is : needed ≡ (length (weights) + 1) * (c.args.budget + 1) = ap (λ (n : ℕ). (n + 1) * (c.args.budget + 1)) c.list_length-n.ensures in
-    let cells_enough : needed ≤ length c.args.cells.now = omega (arith, needed_is, cells_room) in
+    let cells_enough : needed ≤ length c.args.cells.now =
+    table_held c.args.kind c.args.budget (list_from c.args.weights.now c.args.wbytes.now) (list_from c.args.values.now c.args.vbytes.now)
+    (list_from c.args.copies.now c.args.cbytes.now) c.args.cells.now c.args.picks.now c.list_length-n.result
+    c.requires.let_in c.requires.kind_bound c.list_length-n.ensures in
     let cells_long : length (take needed c.args.cells.now) ≡ needed = length-take-le needed c.args.cells.now cells_enough in
     let table_long : length c.fill.new.cells ≡ needed = c.fill.auto.cells ∙ cells_long in
     let table_front : take (needed) (c.fill.new.cells ++ drop (needed) c.args.cells.now) ≡ c.fill.new.cells = front_part c.fill.new.cells c.args.cells.now (needed) table_long in
@@ -75,49 +69,31 @@ overflow_add-needed c =
 pub overflow_mul-needed : goal.overflow_mul-needed
 unfolding cell_count job_of labels
 overflow_mul-needed c =
-    let numbered : c.args.kind ≡ number_of (packing c.requires.let_in.knapsack) = kind_number c.args.kind (packing c.requires.let_in.knapsack) c.requires.let_in.unrefused.of_kind in
-    let is : Rowed c.requires.let_in.knapsack = rowed c.requires.let_in.knapsack (rw numbered at c.requires.kind_bound) in
-    let copies : List ℕ = list_from c.args.copies.now c.args.cbytes.now in
-    let values : List ℕ = list_from c.args.values.now c.args.vbytes.now in
-    let weights : List ℕ = list_from c.args.weights.now c.args.wbytes.now in
-    let job : Job = job_of c.args.kind (c.args.budget ∷ []) weights values copies in
-    let keeps : Ready c.requires.let_in.knapsack job c.args.cells.now c.args.picks.now = ready c.requires.let_in.knapsack job c.args.cells.now c.args.picks.now c.requires.let_in.unrefused in
-    let cells_room : (length weights + 1) * (c.args.budget + 1) ≤ length c.args.cells.now = rw (full_room is job) at keeps.cells_room in
     let needed : ℕ = (c.list_length-n.result + 1) * (c.args.budget + 1) in
-    let needed_is : needed ≡ (length weights + 1) * (c.args.budget + 1) = ap (λ (n : ℕ). (n + 1) * (c.args.budget + 1)) c.list_length-n.ensures in
-    let cells_enough : needed ≤ length c.args.cells.now = omega (arith, needed_is, cells_room) in
+    let cells_enough : needed ≤ length c.args.cells.now =
+    table_held c.args.kind c.args.budget (list_from c.args.weights.now c.args.wbytes.now) (list_from c.args.values.now c.args.vbytes.now)
+    (list_from c.args.copies.now c.args.cbytes.now) c.args.cells.now c.args.picks.now c.list_length-n.result
+    c.requires.let_in c.requires.kind_bound c.list_length-n.ensures in
     omega (arith, cells_enough, c.well_formed)
 
 pub slice_bounds-fill-end : goal.slice_bounds-fill-end
 unfolding cell_count job_of labels
 slice_bounds-fill-end c =
-    let numbered : c.args.kind ≡ number_of (packing c.requires.let_in.knapsack) = kind_number c.args.kind (packing c.requires.let_in.knapsack) c.requires.let_in.unrefused.of_kind in
-    let is : Rowed c.requires.let_in.knapsack = rowed c.requires.let_in.knapsack (rw numbered at c.requires.kind_bound) in
-    let copies : List ℕ = list_from c.args.copies.now c.args.cbytes.now in
-    let values : List ℕ = list_from c.args.values.now c.args.vbytes.now in
-    let weights : List ℕ = list_from c.args.weights.now c.args.wbytes.now in
-    let job : Job = job_of c.args.kind (c.args.budget ∷ []) weights values copies in
-    let keeps : Ready c.requires.let_in.knapsack job c.args.cells.now c.args.picks.now = ready c.requires.let_in.knapsack job c.args.cells.now c.args.picks.now c.requires.let_in.unrefused in
-    let cells_room : (length weights + 1) * (c.args.budget + 1) ≤ length c.args.cells.now = rw (full_room is job) at keeps.cells_room in
     let needed : ℕ = (c.list_length-n.result + 1) * (c.args.budget + 1) in
-    let needed_is : needed ≡ (length weights + 1) * (c.args.budget + 1) = ap (λ (n : ℕ). (n + 1) * (c.args.budget + 1)) c.list_length-n.ensures in
-    let cells_enough : needed ≤ length c.args.cells.now = omega (arith, needed_is, cells_room) in
+    let cells_enough : needed ≤ length c.args.cells.now =
+    table_held c.args.kind c.args.budget (list_from c.args.weights.now c.args.wbytes.now) (list_from c.args.values.now c.args.vbytes.now)
+    (list_from c.args.copies.now c.args.cbytes.now) c.args.cells.now c.args.picks.now c.list_length-n.result
+    c.requires.let_in c.requires.kind_bound c.list_length-n.ensures in
     cells_enough
 
 pub slice_bounds-fill-end-2 : goal.slice_bounds-fill-end-2
 unfolding cell_count job_of labels
 slice_bounds-fill-end-2 c =
-    let numbered : c.args.kind ≡ number_of (packing c.requires.let_in.knapsack) = kind_number c.args.kind (packing c.requires.let_in.knapsack) c.requires.let_in.unrefused.of_kind in
-    let is : Rowed c.requires.let_in.knapsack = rowed c.requires.let_in.knapsack (rw numbered at c.requires.kind_bound) in
-    let copies : List ℕ = list_from c.args.copies.now c.args.cbytes.now in
-    let values : List ℕ = list_from c.args.values.now c.args.vbytes.now in
-    let weights : List ℕ = list_from c.args.weights.now c.args.wbytes.now in
-    let job : Job = job_of c.args.kind (c.args.budget ∷ []) weights values copies in
-    let keeps : Ready c.requires.let_in.knapsack job c.args.cells.now c.args.picks.now = ready c.requires.let_in.knapsack job c.args.cells.now c.args.picks.now c.requires.let_in.unrefused in
-    let cells_room : (length weights + 1) * (c.args.budget + 1) ≤ length c.args.cells.now = rw (full_room is job) at keeps.cells_room in
     let needed : ℕ = (c.list_length-n.result + 1) * (c.args.budget + 1) in
-    let needed_is : needed ≡ (length weights + 1) * (c.args.budget + 1) = ap (λ (n : ℕ). (n + 1) * (c.args.budget + 1)) c.list_length-n.ensures in
-    let cells_enough : needed ≤ length c.args.cells.now = omega (arith, needed_is, cells_room) in
+    let cells_enough : needed ≤ length c.args.cells.now =
+    table_held c.args.kind c.args.budget (list_from c.args.weights.now c.args.wbytes.now) (list_from c.args.values.now c.args.vbytes.now)
+    (list_from c.args.copies.now c.args.cbytes.now) c.args.cells.now c.args.picks.now c.list_length-n.result
+    c.requires.let_in c.requires.kind_bound c.list_length-n.ensures in
     let cells_long : length (take needed c.args.cells.now) ≡ needed = length-take-le needed c.args.cells.now cells_enough in
     sym cells_long
 
@@ -132,10 +108,12 @@ fill-requires c =
     let bounds : Bounded (c.args.budget + 1) weights values = bounded c.requires.let_in.knapsack job keeps.valid in
     let numbered : c.args.kind ≡ number_of (packing c.requires.let_in.knapsack) = kind_number c.args.kind (packing c.requires.let_in.knapsack) c.requires.let_in.unrefused.of_kind in
     let is : Rowed c.requires.let_in.knapsack = rowed c.requires.let_in.knapsack (rw numbered at c.requires.kind_bound) in
-    let cells_room : (length weights + 1) * (c.args.budget + 1) ≤ length c.args.cells.now = rw (full_room is job) at keeps.cells_room in
     let needed : ℕ = (c.list_length-n.result + 1) * (c.args.budget + 1) in
     let needed_is : needed ≡ (length weights + 1) * (c.args.budget + 1) = ap (λ (n : ℕ). (n + 1) * (c.args.budget + 1)) c.list_length-n.ensures in
-    let cells_enough : needed ≤ length c.args.cells.now = omega (arith, needed_is, cells_room) in
+    let cells_enough : needed ≤ length c.args.cells.now =
+    table_held c.args.kind c.args.budget (list_from c.args.weights.now c.args.wbytes.now) (list_from c.args.values.now c.args.vbytes.now)
+    (list_from c.args.copies.now c.args.cbytes.now) c.args.cells.now c.args.picks.now c.list_length-n.result
+    c.requires.let_in c.requires.kind_bound c.list_length-n.ensures in
     let cells_long : length (take needed c.args.cells.now) ≡ needed = length-take-le needed c.args.cells.now cells_enough in
     let copied : ¬ (c.args.kind ≡ 1) → length copies ≡ length weights = λ other. copies_long is job keeps.valid (rw numbered at other) in
     record { bounded = bounds; cbytes_len = copied; width_value = sym needed_is ∙ sym cells_long }
@@ -144,16 +122,10 @@ pub slice_bounds-trace_back-end : goal.slice_bounds-trace_back-end
 unfolding cell_count job_of labels
 slice_bounds-trace_back-end c =
     let needed : ℕ = (c.list_length-n.result + 1) * (c.args.budget + 1) in
-    let numbered : c.args.kind ≡ number_of (packing c.requires.let_in.knapsack) = kind_number c.args.kind (packing c.requires.let_in.knapsack) c.requires.let_in.unrefused.of_kind in
-    let is : Rowed c.requires.let_in.knapsack = rowed c.requires.let_in.knapsack (rw numbered at c.requires.kind_bound) in
-    let copies : List ℕ = list_from c.args.copies.now c.args.cbytes.now in
-    let values : List ℕ = list_from c.args.values.now c.args.vbytes.now in
-    let weights : List ℕ = list_from c.args.weights.now c.args.wbytes.now in
-    let job : Job = job_of c.args.kind (c.args.budget ∷ []) weights values copies in
-    let keeps : Ready c.requires.let_in.knapsack job c.args.cells.now c.args.picks.now = ready c.requires.let_in.knapsack job c.args.cells.now c.args.picks.now c.requires.let_in.unrefused in
-    let cells_room : (length weights + 1) * (c.args.budget + 1) ≤ length c.args.cells.now = rw (full_room is job) at keeps.cells_room in
-    let needed_is : needed ≡ (length weights + 1) * (c.args.budget + 1) = ap (λ (n : ℕ). (n + 1) * (c.args.budget + 1)) c.list_length-n.ensures in
-    let cells_enough : needed ≤ length c.args.cells.now = omega (arith, needed_is, cells_room) in
+    let cells_enough : needed ≤ length c.args.cells.now =
+    table_held c.args.kind c.args.budget (list_from c.args.weights.now c.args.wbytes.now) (list_from c.args.values.now c.args.vbytes.now)
+    (list_from c.args.copies.now c.args.cbytes.now) c.args.cells.now c.args.picks.now c.list_length-n.result
+    c.requires.let_in c.requires.kind_bound c.list_length-n.ensures in
     let cells_long : length (take needed c.args.cells.now) ≡ needed = length-take-le needed c.args.cells.now cells_enough in
     let table_long : length c.fill.new.cells ≡ needed = c.fill.auto.cells ∙ cells_long in
     let table_room : needed ≤ length (c.fill.new.cells ++ drop needed c.args.cells.now) = front_room c.fill.new.cells c.args.cells.now needed table_long in
@@ -163,16 +135,10 @@ pub slice_bounds-trace_back-end-2 : goal.slice_bounds-trace_back-end-2
 unfolding cell_count job_of labels
 slice_bounds-trace_back-end-2 c =
     let needed : ℕ = (c.list_length-n.result + 1) * (c.args.budget + 1) in
-    let numbered : c.args.kind ≡ number_of (packing c.requires.let_in.knapsack) = kind_number c.args.kind (packing c.requires.let_in.knapsack) c.requires.let_in.unrefused.of_kind in
-    let is : Rowed c.requires.let_in.knapsack = rowed c.requires.let_in.knapsack (rw numbered at c.requires.kind_bound) in
-    let copies : List ℕ = list_from c.args.copies.now c.args.cbytes.now in
-    let values : List ℕ = list_from c.args.values.now c.args.vbytes.now in
-    let weights : List ℕ = list_from c.args.weights.now c.args.wbytes.now in
-    let job : Job = job_of c.args.kind (c.args.budget ∷ []) weights values copies in
-    let keeps : Ready c.requires.let_in.knapsack job c.args.cells.now c.args.picks.now = ready c.requires.let_in.knapsack job c.args.cells.now c.args.picks.now c.requires.let_in.unrefused in
-    let cells_room : (length weights + 1) * (c.args.budget + 1) ≤ length c.args.cells.now = rw (full_room is job) at keeps.cells_room in
-    let needed_is : needed ≡ (length weights + 1) * (c.args.budget + 1) = ap (λ (n : ℕ). (n + 1) * (c.args.budget + 1)) c.list_length-n.ensures in
-    let cells_enough : needed ≤ length c.args.cells.now = omega (arith, needed_is, cells_room) in
+    let cells_enough : needed ≤ length c.args.cells.now =
+    table_held c.args.kind c.args.budget (list_from c.args.weights.now c.args.wbytes.now) (list_from c.args.values.now c.args.vbytes.now)
+    (list_from c.args.copies.now c.args.cbytes.now) c.args.cells.now c.args.picks.now c.list_length-n.result
+    c.requires.let_in c.requires.kind_bound c.list_length-n.ensures in
     let cells_long : length (take needed c.args.cells.now) ≡ needed = length-take-le needed c.args.cells.now cells_enough in
     let table_long : length c.fill.new.cells ≡ needed = c.fill.auto.cells ∙ cells_long in
     let table_front : take needed (c.fill.new.cells ++ drop needed c.args.cells.now) ≡ c.fill.new.cells = front_part c.fill.new.cells c.args.cells.now needed table_long in
@@ -212,8 +178,10 @@ trace_back-left-requires c =
     let some_count : (i d : ℕ) → i < length weights → d < c.args.budget + 1
     → SomeCount (row i) (at weights i) (at values i) d (row (suc i) d) = some_back c.requires.let_in.knapsack job limits (c.args.budget + 1) c.fill.new.cells
     (λ i x h. limit_few is job i x) (λ i x h. limit_may is job i x) filled in
-    let cells_room : (length weights + 1) * (c.args.budget + 1) ≤ length c.args.cells.now = rw (full_room is job) at keeps.cells_room in
-    let cells_enough : needed ≤ length c.args.cells.now = omega (arith, needed_is, cells_room) in
+    let cells_enough : needed ≤ length c.args.cells.now =
+    table_held c.args.kind c.args.budget (list_from c.args.weights.now c.args.wbytes.now) (list_from c.args.values.now c.args.vbytes.now)
+    (list_from c.args.copies.now c.args.cbytes.now) c.args.cells.now c.args.picks.now c.list_length-n.result
+    c.requires.let_in c.requires.kind_bound c.list_length-n.ensures in
     let cells_long : length (take needed c.args.cells.now) ≡ needed = length-take-le needed c.args.cells.now cells_enough in
     let table_long : length c.fill.new.cells ≡ needed = c.fill.auto.cells ∙ cells_long in
     let table_front : take needed (c.fill.new.cells ++ drop needed c.args.cells.now) ≡ c.fill.new.cells = front_part c.fill.new.cells c.args.cells.now needed table_long in
@@ -222,17 +190,11 @@ trace_back-left-requires c =
 pub offset_bounds-cells-needed : goal.offset_bounds-cells-needed
 unfolding cell_count job_of labels
 offset_bounds-cells-needed c =
-    let numbered : c.args.kind ≡ number_of (packing c.requires.let_in.knapsack) = kind_number c.args.kind (packing c.requires.let_in.knapsack) c.requires.let_in.unrefused.of_kind in
-    let is : Rowed c.requires.let_in.knapsack = rowed c.requires.let_in.knapsack (rw numbered at c.requires.kind_bound) in
-    let copies : List ℕ = list_from c.args.copies.now c.args.cbytes.now in
-    let values : List ℕ = list_from c.args.values.now c.args.vbytes.now in
-    let weights : List ℕ = list_from c.args.weights.now c.args.wbytes.now in
-    let job : Job = job_of c.args.kind (c.args.budget ∷ []) weights values copies in
-    let keeps : Ready c.requires.let_in.knapsack job c.args.cells.now c.args.picks.now = ready c.requires.let_in.knapsack job c.args.cells.now c.args.picks.now c.requires.let_in.unrefused in
-    let cells_room : (length weights + 1) * (c.args.budget + 1) ≤ length c.args.cells.now = rw (full_room is job) at keeps.cells_room in
     let needed : ℕ = (c.list_length-n.result + 1) * (c.args.budget + 1) in
-    let needed_is : needed ≡ (length weights + 1) * (c.args.budget + 1) = ap (λ (n : ℕ). (n + 1) * (c.args.budget + 1)) c.list_length-n.ensures in
-    let cells_enough : needed ≤ length c.args.cells.now = omega (arith, needed_is, cells_room) in
+    let cells_enough : needed ≤ length c.args.cells.now =
+    table_held c.args.kind c.args.budget (list_from c.args.weights.now c.args.wbytes.now) (list_from c.args.values.now c.args.vbytes.now)
+    (list_from c.args.copies.now c.args.cbytes.now) c.args.cells.now c.args.picks.now c.list_length-n.result
+    c.requires.let_in c.requires.kind_bound c.list_length-n.ensures in
     omega (arith, cells_enough, c.well_formed)
 
 pub bounds-cells-needed : goal.bounds-cells-needed
@@ -241,14 +203,10 @@ bounds-cells-needed c =
     let needed : ℕ = (c.list_length-n.result + 1) * (c.args.budget + 1) in
     let weights : List ℕ = list_from c.args.weights.now c.args.wbytes.now in
     let needed_is : needed ≡ (length weights + 1) * (c.args.budget + 1) = ap (λ (n : ℕ). (n + 1) * (c.args.budget + 1)) c.list_length-n.ensures in
-    let numbered : c.args.kind ≡ number_of (packing c.requires.let_in.knapsack) = kind_number c.args.kind (packing c.requires.let_in.knapsack) c.requires.let_in.unrefused.of_kind in
-    let is : Rowed c.requires.let_in.knapsack = rowed c.requires.let_in.knapsack (rw numbered at c.requires.kind_bound) in
-    let copies : List ℕ = list_from c.args.copies.now c.args.cbytes.now in
-    let values : List ℕ = list_from c.args.values.now c.args.vbytes.now in
-    let job : Job = job_of c.args.kind (c.args.budget ∷ []) weights values copies in
-    let keeps : Ready c.requires.let_in.knapsack job c.args.cells.now c.args.picks.now = ready c.requires.let_in.knapsack job c.args.cells.now c.args.picks.now c.requires.let_in.unrefused in
-    let cells_room : (length weights + 1) * (c.args.budget + 1) ≤ length c.args.cells.now = rw (full_room is job) at keeps.cells_room in
-    let cells_enough : needed ≤ length c.args.cells.now = omega (arith, needed_is, cells_room) in
+    let cells_enough : needed ≤ length c.args.cells.now =
+    table_held c.args.kind c.args.budget (list_from c.args.weights.now c.args.wbytes.now) (list_from c.args.values.now c.args.vbytes.now)
+    (list_from c.args.copies.now c.args.cbytes.now) c.args.cells.now c.args.picks.now c.list_length-n.result
+    c.requires.let_in c.requires.kind_bound c.list_length-n.ensures in
     let cells_long : length (take needed c.args.cells.now) ≡ needed = length-take-le needed c.args.cells.now cells_enough in
     let table_long : length c.fill.new.cells ≡ needed = c.fill.auto.cells ∙ cells_long in
     let table_room : needed ≤ length (c.fill.new.cells ++ drop needed c.args.cells.now) = front_room c.fill.new.cells c.args.cells.now needed table_long in
@@ -281,9 +239,10 @@ returns c =
     let job : Job = job_of c.args.kind (c.args.budget ∷ []) weights values copies in
     let needed : ℕ = (c.list_length-n.result + 1) * (c.args.budget + 1) in
     let needed_is : needed ≡ (length weights + 1) * (c.args.budget + 1) = ap (λ (n : ℕ). (n + 1) * (c.args.budget + 1)) c.list_length-n.ensures in
-    let keeps : Ready c.requires.let_in.knapsack job c.args.cells.now c.args.picks.now = ready c.requires.let_in.knapsack job c.args.cells.now c.args.picks.now c.requires.let_in.unrefused in
-    let cells_room : (length weights + 1) * (c.args.budget + 1) ≤ length c.args.cells.now = rw (full_room is job) at keeps.cells_room in
-    let cells_enough : needed ≤ length c.args.cells.now = omega (arith, needed_is, cells_room) in
+    let cells_enough : needed ≤ length c.args.cells.now =
+    table_held c.args.kind c.args.budget (list_from c.args.weights.now c.args.wbytes.now) (list_from c.args.values.now c.args.vbytes.now)
+    (list_from c.args.copies.now c.args.cbytes.now) c.args.cells.now c.args.picks.now c.list_length-n.result
+    c.requires.let_in c.requires.kind_bound c.list_length-n.ensures in
     let cells_long : length (take needed c.args.cells.now) ≡ needed = length-take-le needed c.args.cells.now cells_enough in
     let table_long : length c.fill.new.cells ≡ needed = c.fill.auto.cells ∙ cells_long in
     let a = c.args in

@@ -30,38 +30,25 @@ item-v-requires c =
     let inside : c.loop-i.i < length weights = omega (arith, c.list_length-n.ensures) in
     rw c.requires.bounded.valued inside
 
-pub overflow_add-from : goal.overflow_add-from
-overflow_add-from c =
+-- the words that are left hold those of the label
+room : (c : goal.After-raise_label-arg-1) → c.loop-i.from + c.args.per ≤ length c.loop-i.words
+room c =
     let all : c.list_length-n.result * c.args.per ≡ length c.args.words.now = ap (λ (n : ℕ). n * c.args.per) c.list_length-n.ensures ∙ c.requires.per_value.1 in
     let values : List ℕ = list_from c.args.values.now c.args.vbytes.now in
     let weights : List ℕ = list_from c.args.weights.now c.args.wbytes.now in
     let width : ℕ = length c.args.row.now in
-    let room : c.loop-i.from + c.args.per ≤ length c.loop-i.words = lighting_room weights values c.list_length-n.result width c.args.per
+    lighting_room weights values c.list_length-n.result width c.args.per
     (length c.args.words.now) c.loop-i.i c.loop-i.from c.loop-i.row c.loop-i.words
-    c.loop-i.invariant c.loop-i-test.true all in
-    omega (arith, room, c.well_formed)
+    c.loop-i.invariant c.loop-i-test.true all
+
+pub overflow_add-from : goal.overflow_add-from
+overflow_add-from c = omega (arith, room c, c.well_formed)
 
 pub offset_bounds-words-from : goal.offset_bounds-words-from
-offset_bounds-words-from c =
-    let all : c.list_length-n.result * c.args.per ≡ length c.args.words.now = ap (λ (n : ℕ). n * c.args.per) c.list_length-n.ensures ∙ c.requires.per_value.1 in
-    let values : List ℕ = list_from c.args.values.now c.args.vbytes.now in
-    let weights : List ℕ = list_from c.args.weights.now c.args.wbytes.now in
-    let width : ℕ = length c.args.row.now in
-    let room : c.loop-i.from + c.args.per ≤ length c.loop-i.words = lighting_room weights values c.list_length-n.result width c.args.per
-    (length c.args.words.now) c.loop-i.i c.loop-i.from c.loop-i.row c.loop-i.words
-    c.loop-i.invariant c.loop-i-test.true all in
-    omega (arith, room, c.well_formed)
+offset_bounds-words-from c = omega (arith, room c, c.well_formed)
 
 pub slice_bounds-raise_label-end : goal.slice_bounds-raise_label-end
-slice_bounds-raise_label-end c =
-    let all : c.list_length-n.result * c.args.per ≡ length c.args.words.now = ap (λ (n : ℕ). n * c.args.per) c.list_length-n.ensures ∙ c.requires.per_value.1 in
-    let values : List ℕ = list_from c.args.values.now c.args.vbytes.now in
-    let weights : List ℕ = list_from c.args.weights.now c.args.wbytes.now in
-    let width : ℕ = length c.args.row.now in
-    let room : c.loop-i.from + c.args.per ≤ length c.loop-i.words = lighting_room weights values c.list_length-n.result width c.args.per
-    (length c.args.words.now) c.loop-i.i c.loop-i.from c.loop-i.row c.loop-i.words
-    c.loop-i.invariant c.loop-i-test.true all in
-    omega (arith, room)
+slice_bounds-raise_label-end c = omega (arith, room c)
 
 pub raise_label-requires : goal.raise_label-requires
 raise_label-requires c =

@@ -1,13 +1,11 @@
 -- `planner::lay` meets its contract: kinds 5 and 6 are turned away by 3 to 6, or let in to `blocks`.
 use mathlib.Core.Path.{◌≡◌, refl, subst}
-use Prim.Native.Nat.{ℕ}
 use mathlib.Core.Bool.{false}
 use mathlib.Core.List.{[], ◌∷◌}
 use Rattle.meaning.specs.Job.{Job, job_of, labels}
 use Rattle.meaning.specs.Lent.{Lent, lent_of}
 use Rattle.meaning.specs.Solved.{Unrefused}
 use Rattle.numbers.specs.TwoSlices.{job_from, weights_from}
-use Rattle.rules.specs.Places.{NeededBy}
 use Rattle.planner.proofs.Preamble.{Lowest, asked_counted, let_in, turned_away, weights_alone}
 use Rattle.planner.proofs.Laying.{LaidKind, five_or_six, laid_alone, laid_claims, laid_in, laid_kind, laid_room, laid_rules}
 use Rattle.planner.proofs.lay.Goals as goal

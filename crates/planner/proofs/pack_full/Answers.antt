@@ -1,18 +1,15 @@
 -- `planner::pack_full` meets its contract: kinds 1 to 3, kind 1 the full way, are turned away by 3 to 6, or let in to `knapsack`.
-use mathlib.Core.Path.{refl, subst}
-use Prim.Native.Nat.{ℕ, min}
+use mathlib.Core.Path.{refl}
+use Prim.Native.Nat.{ℕ}
 use mathlib.Core.Bool.{false}
 use mathlib.Core.List.{List, [], ◌∷◌}
 use Rattle.meaning.specs.declared.Way.TheVariants.{Full}
 use Rattle.meaning.specs.Job.{Job, Kind, packing, job_of, labels}
 use Rattle.meaning.specs.Lent.{Lent, lent_of, room_by}
-use Rattle.meaning.specs.Bounds.{most_labels, most_budget}
 use Rattle.meaning.specs.Refusals.{claims_fit, knapsack_rules, rules_of}
 use Rattle.meaning.specs.SolvedIn.{SolvedInCellsBy}
 use Rattle.numbers.specs.TwoSlices.{job_from}
 use Rattle.knapsack.proofs.KnapsackDoor.{words_needed}
-use Rattle.rules.specs.Places.{NeededFor}
-use Rattle.rules.proofs.Places.{needed_within}
 use Rattle.rules.proofs.Ruling.{KnapsackOf, knapsack_of}
 use Rattle.planner.proofs.Preamble.{LowestBy, asked_knapsack, let_in, turned_away, unneeded}
 use Rattle.planner.proofs.pack_full.Goals as goal

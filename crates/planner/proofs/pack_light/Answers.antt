@@ -1,17 +1,12 @@
 -- `planner::pack_light` meets its contract: kind 1 is turned away by 3 to 6, or let in to `light`.
 use mathlib.Core.Path.{◌≡◌, refl, subst}
-use Prim.Native.Nat.{ℕ, min}
 use mathlib.Core.Bool.{false}
 use mathlib.Core.List.{[], ◌∷◌}
-use Rattle.meaning.specs.declared.Way.TheVariants.{Light}
 use Rattle.meaning.specs.Job.{Job, packing, once, job_of, kind_of, all_kinds, labels}
 use Rattle.meaning.specs.Lent.{Lent, lent_of}
-use Rattle.meaning.specs.Bounds.{most_labels, most_budget}
 use Rattle.meaning.specs.Refusals.{claims_fit, has_copies, knapsack_rules, rules_of}
 use Rattle.meaning.specs.Solved.{Unrefused}
 use Rattle.numbers.specs.TwoSlices.{job_from, list_from}
-use Rattle.rules.specs.Places.{NeededBy}
-use Rattle.rules.proofs.Places.{needed_within}
 use Rattle.planner.proofs.Preamble.{Lowest, asked_knapsack, let_in, turned_away, without_copies}
 use Rattle.planner.proofs.pack_light.Goals as goal
 

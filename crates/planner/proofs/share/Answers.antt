@@ -10,7 +10,6 @@ use Rattle.meaning.specs.Refusals.{claims_fit, rules_of, weight_rules}
 use Rattle.meaning.specs.Solved.{Unrefused}
 use Rattle.meaning.specs.SolvedIn.{SolvedInPicks}
 use Rattle.numbers.specs.TwoSlices.{job_from, weights_from}
-use Rattle.rules.specs.Places.{NeededBy}
 use Rattle.planner.proofs.Preamble.{Lowest, asked_counted, let_in, no_claims, turned_away, unneeded, weights_alone}
 use Rattle.planner.proofs.share.Goals as goal
 
