@@ -11,11 +11,10 @@ use lib.Dec.{ltb}
 use lib.ListN.{length}
 use Rattle.meaning.specs.declared.Verdict.{Verdict}
 use Rattle.meaning.specs.declared.Verdict.TheVariants.{Accepted, Refused}
-use Rattle.meaning.specs.declared.Section.{Section}
-use Rattle.meaning.specs.declared.Section.TheVariants.{Part, Broken}
+use Rattle.std.specs.Prelude.{Ok, Err}
 use Rattle.meaning.specs.Lists.{if}
 use Rattle.meaning.specs.Job.{Job, Knapsack}
-use Rattle.meaning.specs.Bytes.{JobRead, at_end, read_job, readable, unreadable, with_section}
+use Rattle.meaning.specs.Bytes.{Section, JobRead, at_end, read_job, readable, unreadable, with_section}
 use Rattle.meaning.specs.Answers.{verdict_numbers}
 use Rattle.meaning.specs.Certificates.{Checked, certificate_broken, certified_knapsack, unless_found, unless_refused}
 use Rattle.meaning.specs.Certificates.{verdict_for, verdict_of, verdict_on_cells, verdict_on_certificate, verdict_on_job}
@@ -45,8 +44,8 @@ on_refusal (suc r) next h = refuses r 0
 on_section : (b : List ℕ) (s : Section) (read_on : List ℕ → ℕ → Verdict) → ((ns : List ℕ) (p : ℕ) → Numbered (read_on ns p))
     → Numbered (with_section b s certificate_broken read_on)
 unfolding with_section certificate_broken
-on_section b (Part start count next) read_on h = h _ next
-on_section b (Broken place) read_on h = refuses 10 0
+on_section b (Ok (start, count, next)) read_on h = h _ next
+on_section b (Err place) read_on h = refuses 10 0
 
 on_end : (b : List ℕ) (p : ℕ) (next : Verdict) → Numbered next → Numbered (at_end b p certificate_broken next)
 unfolding at_end certificate_broken

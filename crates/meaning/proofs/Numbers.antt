@@ -2,7 +2,7 @@
 -- long what is written is.
 -- Assumes nothing.
 use Prim.Native.Nat.{ℕ, ◌+◌, ◌-◌, ◌*◌, ◌/◌, ◌≤◌, ◌<◌}
-use mathlib.Core.Path.{◌≡◌, refl, ap, ◌∙◌}
+use mathlib.Core.Path.{◌≡◌, refl, ap, sym, ◌∙◌}
 use mathlib.Core.List.{List, [], ◌∷◌, ◌++◌, append_assoc, append-nil}
 use mathlib.Core.Bool.{Bool, true, false}
 use native.Mathlib.Numerals.{add-one}
@@ -11,11 +11,9 @@ use native.Mathlib.Omega.{arith}
 use borrow.Author.Tests.{lt-ltb, le-ltb}
 use lib.ListN.{length, take, drop, length-append, length-drop}
 use lib.Seq.{get_or-take, get_or-drop, length-take-le, take-suc}
-use Rattle.meaning.specs.declared.Section.{Section}
-use Rattle.meaning.specs.declared.Section.TheVariants.{Part, Broken}
-use Rattle.meaning.specs.declared.Needed.{Needed}
+use Rattle.std.specs.Prelude.{Ok, Err}
 use Rattle.meaning.specs.Lists.{at, if}
-use Rattle.meaning.specs.Bytes.{number_at, numbers_in, between, is_needed, whole_section}
+use Rattle.meaning.specs.Bytes.{Needed, Section, number_at, numbers_in, between, is_needed, whole_section}
 use Rattle.meaning.specs.Bytes.{read_section, with_section, bytes_of, bytes_of_all, section_bytes}
 use Rattle.meaning.proofs.UpTo.{made_length, made_at}
 
@@ -53,19 +51,19 @@ between_number b a e p h = rw (byte 1 (omega arith), byte 2 (omega arith), byte 
 
 module _ (needed : Needed) (b : List ℕ) (p : ℕ) where
   -- the count runs past the end
-  pub section_cut : length b < p + 4 → read_section needed b p ≡ Broken p
+  pub section_cut : length b < p + 4 → read_section needed b p ≡ Err p
   unfolding read_section if
   section_cut h = simp (lt-ltb (length b) (p + 4) h)
 
   module _ (there : p + 4 ≤ length b) where
     -- the count isn't the needed one
-    pub section_unneeded : is_needed needed (number_at b p) ≡ false → read_section needed b p ≡ Broken p
+    pub section_unneeded : is_needed needed (number_at b p) ≡ false → read_section needed b p ≡ Err p
     unfolding read_section if
     section_unneeded h = simp (le-ltb (length b) (p + 4) there, h)
 
     module _ (right : is_needed needed (number_at b p) ≡ true) where
       -- the numbers run past the end
-      pub section_short : length b < p + 4 + 4 * number_at b p → read_section needed b p ≡ Broken (p + 4)
+      pub section_short : length b < p + 4 + 4 * number_at b p → read_section needed b p ≡ Err (p + 4)
       unfolding read_section if
       section_short h =
           simp (le-ltb (length b) (p + 4) there, right, lt-ltb (length b) (p + 4 + 4 * number_at b p) h)
@@ -84,12 +82,17 @@ pub record SectionFound (needed : Needed) (b : List ℕ) (p start count next : �
   pub inside : next ≤ length b
   pub right : is_needed needed count ≡ true
 
-not_both : {s : Section} {q start count next : ℕ} → s ≡ Broken q → s ≡ Part start count next → ⊥
+-- the numbers of a section that was found
+abbrev parts_of : Section → ℕ × ℕ × ℕ
+parts_of (Ok parts) = parts
+parts_of (Err place) = (0, 0, 0)
+
+not_both : {s : Section} {q start count next : ℕ} → s ≡ Err q → s ≡ Ok (start, count, next) → ⊥
 not_both broken found = let z : ◌≡◌ {A = ℕ} 0 1 = cc in omega arith
 
 -- reading found a section, so all that is true of it
 pub section_found : (needed : Needed) (b : List ℕ) (p start count next : ℕ)
-    → read_section needed b p ≡ Part start count next → SectionFound needed b p start count next
+    → read_section needed b p ≡ Ok (start, count, next) → SectionFound needed b p start count next
 unfolding whole_section
 section_found needed b p start count next found =
     elim (dec_lt (length b) (p + 4)) [
@@ -104,8 +107,11 @@ section_found needed b p start count next found =
           | yes short ↦ absurd (not_both (section_short needed b p there right short) found)
           | no all ↦
               let same = section_whole needed b p there right (omega arith) in
-              let e : next ≡ p + 4 + 4 * number_at b p = cc in
-              record { starts = cc; found = cc; ends = cc; inside = omega arith; right = cc }
+              let parts : (start, count, next) ≡ (p + 4, number_at b p, p + 4 + 4 * number_at b p) = ap parts_of (sym found ∙ same) in
+              let s : start ≡ p + 4 = ap (λ t. t.0) parts in
+              let n : count ≡ number_at b p = ap (λ t. t.1) parts in
+              let e : next ≡ p + 4 + 4 * number_at b p = ap (λ t. t.2) parts in
+              record { starts = s; found = n; ends = omega arith; inside = omega arith; right = rw n right }
         ]
 
 -- the part of a section has as many numbers as its count says
@@ -115,13 +121,13 @@ section_numbers b start count next e h =
     numbers_long (between b start next) ∙ omega (arith, between_long b start next h)
 
 -- reading goes on after one that is whole
-pub goes_on : {A : Type 0} (b : List ℕ) (found : Section) (stop : ℕ → A) (on : List ℕ → ℕ → A) (start count next : ℕ) → found ≡ Part start count next
+pub goes_on : {A : Type 0} (b : List ℕ) (found : Section) (stop : ℕ → A) (on : List ℕ → ℕ → A) (start count next : ℕ) → found ≡ Ok (start, count, next)
     → with_section b found stop on ≡ on (numbers_in (between b start next)) next
 unfolding with_section
 goes_on b found stop on start count next e = ap (λ (s : Section). with_section b s stop on) e
 
 -- and stops at one that broke
-pub stops : {A : Type 0} (b : List ℕ) (found : Section) (stop : ℕ → A) (on : List ℕ → ℕ → A) (place : ℕ) → found ≡ Broken place
+pub stops : {A : Type 0} (b : List ℕ) (found : Section) (stop : ℕ → A) (on : List ℕ → ℕ → A) (place : ℕ) → found ≡ Err place
     → with_section b found stop on ≡ stop place
 unfolding with_section
 stops b found stop on place e = ap (λ (s : Section). with_section b s stop on) e

@@ -10,13 +10,10 @@ use lib.Dec.{eqb, lit<}
 use lib.ListN.{drop, length, length-append, length-drop, take, take-append-drop}
 use lib.Seq.{drop-drop, drop_at, drop-cons, ext_get_or, get_or-drop, length-take-le, take_at}
 use borrow.Author.Tests.{le-ltb}
-use Rattle.meaning.specs.declared.Section.{Section}
-use Rattle.meaning.specs.declared.Section.TheVariants.{Part}
-use Rattle.meaning.specs.declared.Needed.{Needed}
-use Rattle.meaning.specs.declared.Needed.TheVariants.{Any, Exactly}
+use Rattle.std.specs.Prelude.{Some, None, Ok}
 use Rattle.meaning.specs.Lists.{at, if}
 use Rattle.meaning.specs.Job.{Job, has_q, budget_count, job_of, budgets_of}
-use Rattle.meaning.specs.Bytes.{at_end, bytes_of, bytes_of_all, is_needed, job_bytes, number_at, numbers_in, between}
+use Rattle.meaning.specs.Bytes.{Needed, Section, at_end, bytes_of, bytes_of_all, is_needed, job_bytes, number_at, numbers_in, between}
 use Rattle.meaning.specs.Bytes.{read_job, read_section, readable, section_bytes, unreadable, whole_section, with_section}
 use Rattle.meaning.proofs.Numbers.{all_append, all_long, number_long, numbers_at, numbers_long, section_long, section_whole}
 
@@ -133,13 +130,13 @@ module _ (b : List ℕ) (p : ℕ) (ns rest : List ℕ) (here : Stands b p (secti
 
     -- it is found as it was written
     pub section_back : (needed : Needed) → is_needed needed (length ns) ≡ true
-        → read_section needed b p ≡ Part (p + 4) (length ns) (p + 4 + 4 * length ns)
+        → read_section needed b p ≡ Ok (p + 4, length ns, p + 4 + 4 * length ns)
     unfolding whole_section
     section_back needed right =
         section_whole needed b p (omega (arith, stands_long numbers_stand))
         (ap (is_needed needed) section_count ∙ right)
         (omega (arith, section_count, stands_long section_next))
-        ∙ ap (λ (n : ℕ). Part (p + 4) n (p + 4 + 4 * n)) section_count
+        ∙ ap (λ (n : ℕ). Ok (p + 4, n, p + 4 + 4 * n)) section_count
 
     -- reading goes on with its numbers, from the place after it
     pub read_on_lem : {A : Type 0} (needed : Needed) (stop : ℕ → A) (read_on : List ℕ → ℕ → A) → All32 ns → is_needed needed (length ns) ≡ true
@@ -201,10 +198,10 @@ job_back j s =
     let s₄ = section_next b _ j.weights _ s₃ in
     let s₅ = section_next b _ j.values _ s₄ in
     let s₆ = section_next b _ j.copies [] s₅ in
-    read_on_lem b 0 ks _ s₁ (lit< tt) (Exactly 1) unreadable _ (one32 j.kind_number s.kind_number) refl
-    ∙ read_on_lem b _ bs _ s₂ budgets.few (Exactly (budget_count j.kind_number)) unreadable _ budgets.fit budgets.many
-    ∙ read_on_lem b _ j.weights _ s₃ s.many_weights Any unreadable _ s.weights refl
-    ∙ read_on_lem b _ j.values _ s₄ s.many_values Any unreadable _ s.values refl
-    ∙ read_on_lem b _ j.copies [] s₅ s.many_copies Any unreadable _ s.copies refl
+    read_on_lem b 0 ks _ s₁ (lit< tt) (Some 1) unreadable _ (one32 j.kind_number s.kind_number) refl
+    ∙ read_on_lem b _ bs _ s₂ budgets.few (Some (budget_count j.kind_number)) unreadable _ budgets.fit budgets.many
+    ∙ read_on_lem b _ j.weights _ s₃ s.many_weights None unreadable _ s.weights refl
+    ∙ read_on_lem b _ j.values _ s₄ s.many_values None unreadable _ s.values refl
+    ∙ read_on_lem b _ j.copies [] s₅ s.many_copies None unreadable _ s.copies refl
     ∙ end_back b _ unreadable (readable (job_of j.kind_number bs j.weights j.values j.copies)) s₆
     ∙ ap readable budgets.made

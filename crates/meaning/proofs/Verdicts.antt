@@ -11,14 +11,11 @@ use lib.ListN.{length}
 use borrow.Author.Tests.{eq-eqb, eqb-true}
 use Rattle.meaning.specs.declared.Verdict.{Verdict}
 use Rattle.meaning.specs.declared.Verdict.TheVariants.{Accepted, Refused}
-use Rattle.meaning.specs.declared.Section.{Section}
-use Rattle.meaning.specs.declared.Section.TheVariants.{Part, Broken}
-use Rattle.meaning.specs.declared.Needed.{Needed}
-use Rattle.meaning.specs.declared.Needed.TheVariants.{Any, Exactly}
+use Rattle.std.specs.Prelude.{Some, None, Ok, Err}
 use Rattle.meaning.specs.Lists.{if, total}
 use Rattle.meaning.specs.Job.{Job, Knapsack, labels, packing}
 use Rattle.meaning.specs.Refusals.{job_refusal, rules_of}
-use Rattle.meaning.specs.Bytes.{at_end, is_needed, number_at, numbers_in, between, read_section}
+use Rattle.meaning.specs.Bytes.{Needed, Section, at_end, is_needed, number_at, numbers_in, between, read_section}
 use Rattle.meaning.specs.Bytes.{readable, section_bytes, unreadable, whole_section, with_section}
 use Rattle.meaning.specs.Certificates.{HasCertificates, certificate_broken, certificate_cells, certified_knapsack, low_cell, misvalued, over_picked}
 use Rattle.meaning.specs.Certificates.{overweight, unless_found, unless_refused, verdict_for, verdict_on_cells, verdict_on_certificate, verdict_on_job}
@@ -74,10 +71,10 @@ accepts_seen k j picks cells v s = rw (s.within_counts, s.light, s.rule_kept, s.
 -- ---- the bytes
 
 past_section : (b : List ℕ) (o : Section) (read_on : List ℕ → ℕ → Verdict) (v : ℕ) → with_section b o certificate_broken read_on ≡ Accepted v
-    → (start count next : ℕ) × (o ≡ Part start count next) × (read_on (numbers_in (between b start next)) next ≡ Accepted v)
+    → (start count next : ℕ) × (o ≡ Ok (start, count, next)) × (read_on (numbers_in (between b start next)) next ≡ Accepted v)
 unfolding with_section certificate_broken
-past_section b (Broken p) read_on v e = absurd (refused≢accepted e)
-past_section b (Part s c n) read_on v e = (s, c, n, refl, e)
+past_section b (Err p) read_on v e = absurd (refused≢accepted e)
+past_section b (Ok (s, c, n)) read_on v e = (s, c, n, refl, e)
 
 past_end : (b : List ℕ) (p : ℕ) (next : Verdict) (v : ℕ) → at_end b p certificate_broken next ≡ Accepted v → next ≡ Accepted v
 unfolding at_end certificate_broken
@@ -90,21 +87,21 @@ pub record ReadAndSeen (k : Knapsack) (j : Job) (cert_b : List ℕ) (v : ℕ) : 
   pub judged : Seen k j (list_in cert_b) cells v
 
 -- the count that was asked for was found
-pub needed_count : (n c : ℕ) → is_needed (Exactly n) c ≡ true → c ≡ n
+pub needed_count : (n c : ℕ) → is_needed (Some n) c ≡ true → c ≡ n
 unfolding is_needed
 needed_count n c e = eqb-true c n e
 
 -- whatever count is asked for, it is the same section
 section_any : (needed : Needed) (b : List ℕ) (p start count next : ℕ) → SectionFound needed b p start count next
-    → read_section Any b p ≡ Part start count next
+    → read_section None b p ≡ Ok (start, count, next)
 unfolding is_needed whole_section
 section_any needed b p start count next s =
     let within : p + 4 + 4 * number_at b p ≤ length b = omega (arith, s.starts, s.found, s.ends, s.inside) in
     let end : p + 4 + 4 * number_at b p ≡ next = omega (arith, s.starts, s.found, s.ends) in
-    section_whole Any b p (omega arith) refl within
-    ∙ ap₂ (λ (x y : ℕ). Part x (number_at b p) y) (sym s.starts) end ∙ ap (λ (x : ℕ). Part start x next) (sym s.found)
+    section_whole None b p (omega arith) refl within
+    ∙ ap₂ (λ (x y : ℕ). Ok (x, number_at b p, y)) (sym s.starts) end ∙ ap (λ (x : ℕ). Ok (start, x, next)) (sym s.found)
 
-list_read : (b : List ℕ) (start count next : ℕ) → read_section Any b 0 ≡ Part start count next → list_in b ≡ numbers_in (between b start next)
+list_read : (b : List ℕ) (start count next : ℕ) → read_section None b 0 ≡ Ok (start, count, next) → list_in b ≡ numbers_in (between b start next)
 unfolding list_in with_section
 list_read b start count next e = rw e
 
@@ -114,8 +111,8 @@ unfolding verdict_on_certificate
 read_and_seen k j b v e =
     let (s, c, n, e₁, e₂) = past_section b _ _ v e in
     let (s', c', n', e₃, e₄) = past_section b _ _ v e₂ in
-    let r : SectionFound (Exactly (labels j)) b 0 s c n = section_found (Exactly (labels j)) b 0 s c n e₁ in
-    let list : list_in b ≡ numbers_in (between b s n) = list_read b s c n (section_any (Exactly (labels j)) b 0 s c n r) in
+    let r : SectionFound (Some (labels j)) b 0 s c n = section_found (Some (labels j)) b 0 s c n e₁ in
+    let list : list_in b ≡ numbers_in (between b s n) = list_read b s c n (section_any (Some (labels j)) b 0 s c n r) in
     let cells : List ℕ = numbers_in (between b s' n') in
     record {
       cells = cells;
@@ -138,9 +135,9 @@ verdict_written k j picks cells lp lc np nc sp sc =
     subst (λ (l : List ℕ). Stands b 0 l) (simp append-nil) (stands_first b) in
     let two = section_next b 0 picks _ one in
     let three = section_next b _ cells [] two in
-    read_on_lem b 0 picks _ one (subst (λ (n : ℕ). n < limit32) (sym lp) np) (Exactly (labels j)) certificate_broken _ sp
+    read_on_lem b 0 picks _ one (subst (λ (n : ℕ). n < limit32) (sym lp) np) (Some (labels j)) certificate_broken _ sp
     (eq-eqb (length picks) (labels j) lp)
-    ∙ read_on_lem b _ cells [] two (subst (λ (n : ℕ). n < limit32) (sym lc) nc) (Exactly (certificate_cells k j)) certificate_broken _ sc
+    ∙ read_on_lem b _ cells [] two (subst (λ (n : ℕ). n < limit32) (sym lc) nc) (Some (certificate_cells k j)) certificate_broken _ sc
     (eq-eqb (length cells) (certificate_cells k j) lc)
     ∙ end_back b _ certificate_broken (verdict_on_cells k j picks cells) three
 
@@ -148,7 +145,7 @@ verdict_written k j picks cells lp lc np nc sp sc =
 pub list_written : (picks cells : List ℕ) → length picks < limit32 → All32 picks → list_in (section_bytes picks ++ cells) ≡ picks
 unfolding list_in is_needed
 list_written picks cells many small =
-    read_on_lem (section_bytes picks ++ cells) 0 picks cells (stands_first (section_bytes picks ++ cells)) many Any _ _ small refl
+    read_on_lem (section_bytes picks ++ cells) 0 picks cells (stands_first (section_bytes picks ++ cells)) many None _ _ small refl
 
 -- ---- from the job bytes
 

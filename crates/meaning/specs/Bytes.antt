@@ -1,10 +1,6 @@
 -- Numbers in bytes, the sections that they stand in, and job bytes.
 -- Assumes nothing.
-use Rattle.std.specs.Prelude.{ℕ, ◌+◌, ◌-◌, ◌*◌, ◌/◌, ◌%◌, Bool, true, not, List, [], ◌∷◌, ◌++◌, map, ltb, eqb, length, take, drop}
-use Rattle.meaning.specs.declared.Section.{Section}
-use Rattle.meaning.specs.declared.Section.TheVariants.{Part, Broken}
-use Rattle.meaning.specs.declared.Needed.{Needed}
-use Rattle.meaning.specs.declared.Needed.TheVariants.{Any, Exactly}
+use Rattle.std.specs.Prelude.{ℕ, ◌+◌, ◌-◌, ◌*◌, ◌/◌, ◌%◌, Bool, true, not, List, [], ◌∷◌, ◌++◌, map, ltb, eqb, length, take, drop, Option, None, Some, Result, Ok, Err}
 use Rattle.meaning.specs.Lists.{at, up_to, if}
 use Rattle.meaning.specs.Job.{Job, job_of, budgets_of, budget_count}
 
@@ -24,27 +20,35 @@ between b a e = take (e - a) (drop a b)
 
 -- ---- sections
 
+-- the count that a section needs to have: any, or just this one
+abbrev pub Needed : Type 0
+Needed = Option ℕ
+
+-- what reading a section finds: where its numbers start, how many they are and the place after them; or the place where it breaks
+abbrev pub Section : Type 0
+Section = Result (ℕ × ℕ × ℕ) ℕ
+
 -- whether a count is the needed one
 unfoldable pub is_needed : Needed → ℕ → Bool
-is_needed Any count = true
-is_needed (Exactly needed) count = eqb count needed
+is_needed None count = true
+is_needed (Some needed) count = eqb count needed
 
 -- a section that is all there, its count at place p
 unfoldable pub whole_section : List ℕ → ℕ → Section
-whole_section b p = Part (p + 4) (number_at b p) (p + 4 + 4 * number_at b p)
+whole_section b p = Ok (p + 4, number_at b p, p + 4 + 4 * number_at b p)
 
 -- the section whose count stands at place p. It breaks at p where the count is cut short or isn't the needed one,
 -- and at its first number where the numbers run past the end
 unfoldable pub read_section : Needed → List ℕ → ℕ → Section
 read_section needed b p =
-    if (ltb (length b) (p + 4)) (Broken p)
-    (if (not (is_needed needed (number_at b p))) (Broken p)
-    (if (ltb (length b) (p + 4 + 4 * number_at b p)) (Broken (p + 4)) (whole_section b p)))
+    if (ltb (length b) (p + 4)) (Err p)
+    (if (not (is_needed needed (number_at b p))) (Err p)
+    (if (ltb (length b) (p + 4 + 4 * number_at b p)) (Err (p + 4)) (whole_section b p)))
 
 -- reads on after a section of b, with its numbers and the place after it; or stops where it breaks
 unfoldable pub with_section : {A : Type 0} → List ℕ → Section → (ℕ → A) → (List ℕ → ℕ → A) → A
-with_section b (Part start count next) stop read_on = read_on (numbers_in (between b start next)) next
-with_section b (Broken place) stop read_on = stop place
+with_section b (Ok (start, count, next)) stop read_on = read_on (numbers_in (between b start next)) next
+with_section b (Err place) stop read_on = stop place
 
 -- `done` where the bytes end at place p; else stops there, at the first byte left over
 unfoldable pub at_end : {A : Type 0} → List ℕ → ℕ → (ℕ → A) → A → A
@@ -60,11 +64,11 @@ pub data JobRead : Type 0 where
 -- kinds, budgets, weights, values, copies; the first section has count 1, and the second that of the kind
 unfoldable pub read_job : List ℕ → JobRead
 read_job b =
-    with_section b (read_section (Exactly 1) b 0) unreadable λ kinds p₁.
-    with_section b (read_section (Exactly (budget_count (at kinds 0))) b p₁) unreadable λ budgets p₂.
-    with_section b (read_section Any b p₂) unreadable λ weights p₃.
-    with_section b (read_section Any b p₃) unreadable λ values p₄.
-    with_section b (read_section Any b p₄) unreadable λ copies p₅.
+    with_section b (read_section (Some 1) b 0) unreadable λ kinds p₁.
+    with_section b (read_section (Some (budget_count (at kinds 0))) b p₁) unreadable λ budgets p₂.
+    with_section b (read_section None b p₂) unreadable λ weights p₃.
+    with_section b (read_section None b p₃) unreadable λ values p₄.
+    with_section b (read_section None b p₄) unreadable λ copies p₅.
     at_end b p₅ unreadable (readable (job_of (at kinds 0) budgets weights values copies))
 
 -- ---- writing

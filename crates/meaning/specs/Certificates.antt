@@ -5,7 +5,7 @@ use Rattle.std.proofs.Math.Option.{Option, none, some}
 use Rattle.std.proofs.Math.ListN.{get_elem?}
 use Rattle.meaning.specs.declared.Verdict.{Verdict}
 use Rattle.meaning.specs.declared.Verdict.TheVariants.{Accepted, Refused}
-use Rattle.meaning.specs.declared.Needed.TheVariants.{Exactly}
+use Rattle.std.specs.Prelude.{Some}
 use Rattle.meaning.specs.Lists.{at, total, if}
 use Rattle.meaning.specs.Job.{Job, labels, Knapsack, once, limited, free, packing}
 use Rattle.meaning.specs.Bounds.{most_of_one}
@@ -118,8 +118,8 @@ certificate_broken place = Refused 11 0
 -- the verdict on certificate bytes, for a valid job: they are picks, then cells
 unfoldable pub verdict_on_certificate : Knapsack → Job → List ℕ → Verdict
 verdict_on_certificate k j b =
-    with_section b (read_section (Exactly (labels j)) b 0) certificate_broken λ picks p₁.
-    with_section b (read_section (Exactly (certificate_cells k j)) b p₁) certificate_broken λ cells p₂.
+    with_section b (read_section (Some (labels j)) b 0) certificate_broken λ picks p₁.
+    with_section b (read_section (Some (certificate_cells k j)) b p₁) certificate_broken λ cells p₂.
     at_end b p₂ certificate_broken (verdict_on_cells k j picks cells)
 
 -- refused with the number, or where it is 0 what comes next

@@ -9,7 +9,7 @@ use Rattle.meaning.specs.declared.Way.TheVariants.{Full}
 use Rattle.meaning.specs.declared.Answer.TheVariants as Says
 use Rattle.meaning.specs.declared.Written.TheVariants.{Bytes}
 use Rattle.meaning.specs.declared.Verdict.TheVariants.{Accepted}
-use Rattle.meaning.specs.declared.Needed.TheVariants.{Any}
+use Rattle.std.specs.Prelude.{None}
 use Rattle.meaning.specs.Lists.{total, every}
 use Rattle.meaning.specs.Job.{Job, labels, Knapsack}
 use Rattle.meaning.specs.Lent.{Lent}
@@ -25,7 +25,7 @@ are_bytes b = every (λ x. ltb x 256) b
 
 -- the list that a certificate carries: the numbers of its first section
 unfoldable pub list_in : List ℕ → List ℕ
-list_in cert_b = with_section cert_b (read_section Any cert_b 0) (λ place. []) (λ picks next. picks)
+list_in cert_b = with_section cert_b (read_section None cert_b 0) (λ place. []) (λ picks next. picks)
 
 -- the bytes hold the job j, which has certificates: none of refusals 1 to 5 applies
 pub record ValidJob (jobB : List ℕ) (j : Job) : Type 0 where

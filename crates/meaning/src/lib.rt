@@ -1,5 +1,4 @@
-// What the operations answer, which way kind 1 goes, and what reading a section finds. The document's numbers for each case of the first four
-// are in specs/Answers.antt; the sections are in specs/Bytes.antt.
+// What the operations answer, and which way kind 1 goes. The document's numbers for each case of the first four are in specs/Answers.antt.
 #![tactic(auto)]
 
 // What a planner answers: a refusal number, or the numbers of the job's kind.
@@ -41,19 +40,4 @@ pub enum Quick {
 pub enum Way {
     Light,
     Full,
-}
-
-// A section of job or certificate bytes: where its numbers start, how many there are, and the place after them;
-// or the place where reading broke.
-#[derive(Clone, Copy)]
-pub enum Section {
-    Part(usize, usize, usize),
-    Broken(usize),
-}
-
-// The count that a section needs to have.
-#[derive(Clone, Copy)]
-pub enum Needed {
-    Any,
-    Exactly(u32),
 }

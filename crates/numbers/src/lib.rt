@@ -1,13 +1,14 @@
-// Numbers of 32 bits: the product of two; and in bytes, lowest byte first, one number, a list of them, and the sections that they stand in.
+// Numbers of 32 bits: the product of two; and in bytes, lowest byte first, one number, a list of them, and the sections that they stand in. A list of
+// numbers that came as such or in bytes, and the job that it is a part of.
 #![tactic(auto)]
 
-ghost use Rattle.std.specs.Prelude.{◌≡◌, ◌+◌, ◌*◌, ◌≤◌, ◌<◌, length};
+ghost use Rattle.std.specs.Prelude.{◌≡◌, ℕ, ◌+◌, ◌*◌, ◌≤◌, ◌<◌, length};
 ghost use Rattle.meaning.specs.Lists.{at};
 ghost use Rattle.meaning.specs.Bytes.{number_at, numbers_in, is_needed, read_section, bytes_of, section_bytes};
-ghost use Rattle.numbers.specs.TwoSlices.{list_from};
+ghost use Rattle.numbers.specs.Sections.{section_in, part_read};
 ghost use Rattle.numbers.specs.Placed.{HoldsAt, SectionWritten};
 
-use meaning::{Needed, Section};
+use std::marker::Model;
 
 // The product of two numbers, which are widened first.
 pub fn wide_product(a: u32, b: u32) -> u64
@@ -16,22 +17,12 @@ pub fn wide_product(a: u32, b: u32) -> u64
     a as u64 * b as u64
 }
 
-// A byte as a wider number.
-fn wide(b: u8) -> u32
-    ensures { (result ≡ b) × (result < 256) }
-{
-    b as u32
-}
-
 // The number in the four bytes at p.
 pub fn number_at(bytes: &[u8], p: usize) -> u32
     requires { p + 4 ≤ length bytes.now }
     ensures { result ≡ number_at bytes.now p }
 {
-    wide(bytes[p])
-        + 256 * wide(bytes[p + 1])
-        + 65_536 * wide(bytes[p + 2])
-        + 16_777_216 * wide(bytes[p + 3])
+    u32::from_le_bytes([bytes[p], bytes[p + 1], bytes[p + 2], bytes[p + 3]])
 }
 
 // Number i of those that stand in the bytes.
@@ -42,57 +33,132 @@ pub fn number_in(bytes: &[u8], i: usize) -> u32
     number_at(bytes, 4 * i)
 }
 
-// The length of a list that is handed over as numbers and bytes.
-pub fn list_length(numbers: &[u32], bytes: &[u8]) -> usize
-    ensures { result ≡ length (list_from numbers.now bytes.now) }
-{
-    numbers.len() + bytes.len() / 4
+// ---- a list, however it came
+
+// How a list came: as numbers, or in a part of the job bytes.
+#[derive(Clone, Copy)]
+enum Kept<'a> {
+    Listed(&'a [u32]),
+    Packed(&'a [u8]),
 }
 
-// The number at place i of a list that is handed over as numbers and bytes.
-pub fn item(numbers: &[u32], bytes: &[u8], i: usize) -> u32
-    requires { i < length (list_from numbers.now bytes.now) }
-    ensures { result ≡ at (list_from numbers.now bytes.now) i }
-{
-    let n = numbers.len();
-    if i < n {
-        numbers[i]
-    } else {
-        number_in(bytes, i - n)
+// A list of numbers. In a clause it is that list, and how it came can't be told.
+#[derive(Drop)]
+pub struct Numbers<'a> {
+    kept: Kept<'a>,
+}
+
+impl<'a> Model for Numbers<'a> {
+    ghost use Rattle.std.specs.Prelude.{ℕ, List};
+    ghost Value = { List ℕ };
+
+    ghost use Rattle.std.specs.Prelude.{◌*◌, ◌^◌, ◌<◌, length};
+    ghost use Rattle.numbers.specs.Kept.{numbers_of};
+    ghost view = { λ s. numbers_of s.kept };
+
+    ghost invariant = { λ s. 4 * length (numbers_of s.kept) < 2 ^ 64 };
+}
+
+impl<'a> Numbers<'a> {
+    // A list that came as numbers.
+    pub fn listed(numbers: &'a [u32]) -> Numbers<'a>
+        ensures { result ≡ numbers.now }
+    {
+        let kept = Kept::Listed(numbers);
+        Numbers { kept }
+    }
+
+    // The list that stands in bytes, which aren't copied.
+    pub fn packed(bytes: &'a [u8]) -> Numbers<'a>
+        ensures { result ≡ numbers_in bytes.now }
+    {
+        let kept = Kept::Packed(bytes);
+        Numbers { kept }
+    }
+
+    // How many numbers there are.
+    pub fn len(&self) -> usize
+        ensures { result ≡ length self.now }
+    {
+        match self.kept {
+            Kept::Listed(numbers) => numbers.len(),
+            Kept::Packed(bytes) => bytes.len() / 4,
+        }
+    }
+
+    // The number at place i.
+    pub fn at(&self, i: usize) -> u32
+        requires { i < length self.now }
+        ensures { result ≡ at self.now i }
+    {
+        match self.kept {
+            Kept::Listed(numbers) => numbers[i],
+            Kept::Packed(bytes) => number_in(bytes, i),
+        }
     }
 }
 
+// A job as it came: the number of its kind, its budget, q, and its lists. Where the kind has no q, that number stands for nothing.
+#[derive(Drop)]
+pub struct Job<'a> {
+    pub kind: u32,
+    pub budget: u32,
+    pub q: u32,
+    pub weights: Numbers<'a>,
+    pub values: Numbers<'a>,
+    pub copies: Numbers<'a>,
+}
+
+// ---- sections
+
 // Whether a section may have this count.
-fn is_needed(needed: Needed, count: u32) -> bool
+fn is_needed(needed: Option<u32>, count: u32) -> bool
     ensures { result ≡ is_needed needed count }
 {
     match needed {
-        Needed::Any => true,
-        Needed::Exactly(n) => count == n,
+        None => true,
+        Some(n) => count == n,
     }
 }
 
-// The section whose count stands at a place, which may be any number: no sum is made before it is known to fit.
-pub fn read_section(bytes: &[u8], place: usize, needed: Needed) -> Section
+// The section whose count stands at a place, which may be any number: no sum is made before it is known to fit. Gives where its numbers start, how many
+// they are, and the place after them; or the place where reading broke.
+pub fn read_section(
+    bytes: &[u8],
+    place: usize,
+    needed: Option<u32>,
+) -> Result<(usize, usize, usize), usize>
     ensures { result ≡ read_section needed bytes.now place }
 {
     if bytes.len() < place {
-        return Section::Broken(place);
+        return Err(place);
     }
     let left = bytes.len() - place;
     if left < 4 {
-        return Section::Broken(place);
+        return Err(place);
     }
     let found = number_at(bytes, place);
     if !is_needed(needed, found) {
-        return Section::Broken(place);
+        return Err(place);
     }
     let count = found as usize;
     let start = place + 4;
     if left - 4 < 4 * count {
-        return Section::Broken(start);
+        return Err(start);
     }
-    Section::Part(start, count, start + 4 * count)
+    Ok((start, count, start + 4 * count))
+}
+
+// The part of the bytes in which that section's numbers stand, and the place after it; or the place where reading broke.
+pub fn section(
+    bytes: &[u8],
+    place: usize,
+    needed: Option<u32>,
+) -> Result<(&[u8], usize), usize>
+    ensures { part_read result ≡ section_in needed bytes.now place }
+{
+    let (start, _, next) = read_section(bytes, place, needed)?;
+    Ok((&bytes[start..next], next))
 }
 
 // Writes a number into the four bytes at p.
@@ -100,10 +166,7 @@ pub fn write_number(out: &mut [u8], p: usize, x: u32)
     requires { p + 4 ≤ length out.old }
     ensures { HoldsAt p (bytes_of x) out.old out.new }
 {
-    out[p] = (x % 256) as u8;
-    out[p + 1] = (x / 256 % 256) as u8;
-    out[p + 2] = (x / 65_536 % 256) as u8;
-    out[p + 3] = (x / 16_777_216 % 256) as u8;
+    out[p..p + 4].copy_from_slice(&x.to_le_bytes());
 }
 
 // Writes a section from p on, its count and then its numbers, and gives the place after it.
@@ -113,10 +176,8 @@ pub fn write_section(out: &mut [u8], p: usize, numbers: &[u32]) -> usize
 {
     write_number(out, p, numbers.len() as u32);
     let start = p + 4;
-    let mut i = 0;
-    while i < numbers.len() {
+    for i in 0..numbers.len() {
         write_number(out, start + 4 * i, numbers[i]);
-        i += 1;
     }
-    start + 4 * i
+    start + 4 * numbers.len()
 }

@@ -2,10 +2,10 @@
 use Rattle.meaning.specs.Bytes.{is_needed}
 use Rattle.numbers.proofs.is_needed.Goals as goal
 
-pub returns-in-Any : goal.returns-in-Any
+pub returns-in-None : goal.returns-in-None
 unfolding is_needed
-returns-in-Any c = rw c.in-Any.is
+returns-in-None c = rw c.in-None.is
 
-pub returns-in-Exactly : goal.returns-in-Exactly
+pub returns-in-Some : goal.returns-in-Some
 unfolding is_needed
-returns-in-Exactly c = rw c.in-Exactly.is
+returns-in-Some c = rw c.in-Some.is
