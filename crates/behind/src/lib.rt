@@ -1,6 +1,5 @@
 // Kind 8: the labels behind a total. Cell t of a row shows how many of the first labels it takes to reach t, and so the label that reached
 // it first; the picks are read off by going from each total to what its label leaves.
-// The weights come as numbers or as a part of the job bytes (`list_from`), so they have two slices.
 #![tactic(auto)]
 
 ghost use Rattle.std.specs.Prelude.{◌≡◌, [], ◌∷◌, ◌-◌, ◌≤◌, ◌<◌, length};
@@ -10,11 +9,12 @@ ghost use Rattle.meaning.specs.Lent.{lent_of};
 ghost use Rattle.meaning.specs.Bounds.{most_labels};
 ghost use Rattle.meaning.specs.Solved.{Unrefused};
 ghost use Rattle.meaning.specs.SolvedIn.{SolvedInCells};
-ghost use Rattle.numbers.specs.TwoSlices.{list_from, weights_from};
+ghost use Rattle.numbers.specs.Lists.{weights_from};
 ghost use Rattle.rows.specs.Rows.{Joined};
 ghost use Rattle.behind.specs.Firsts.{first_by, FirstsGrown, Traceable, TraceOff};
 
 use meaning::Answer;
+use numbers::Numbers;
 
 // ---- the row, label by label
 
@@ -43,15 +43,15 @@ fn add_label(row: &mut [u32], w: u32, i: u32)
 }
 
 // The row of all labels.
-fn fill(weights: &[u32], wbytes: &[u8], row: &mut [u32])
-    requires { (0 < length row.old) × (length (list_from weights.now wbytes.now) ≤ most_labels) }
-    ensures { FirstsGrown (list_from weights.now wbytes.now) (length row.old) row.new }
+fn fill(weights: &Numbers, row: &mut [u32])
+    requires { (0 < length row.old) × (length weights.now ≤ most_labels) }
+    ensures { FirstsGrown weights.now (length row.old) row.new }
 {
     rows::mark_rest(row);
-    let n = numbers::list_length(weights, wbytes);
+    let n = weights.len();
     let mut i = 0;
     while i < n {
-        let w = numbers::item(weights, wbytes, i);
+        let w = weights.at(i);
         i += 1;
         add_label(row, w, i as u32);
     }
@@ -60,10 +60,10 @@ fn fill(weights: &[u32], wbytes: &[u8], row: &mut [u32])
 // ---- the picks
 
 // The labels behind the highest total of a row: the one that reached it first, then the one that first reached what that leaves, and so on.
-fn trace_off(weights: &[u32], wbytes: &[u8], row: &[u32], picks: &mut [u32])
-    requires traceable { Traceable (at row.now) (list_from weights.now wbytes.now) (length row.now) }
-    requires wbytes_len { length (list_from weights.now wbytes.now) ≡ length picks.old }
-    ensures { TraceOff (at row.now) (list_from weights.now wbytes.now)
+fn trace_off(weights: &Numbers, row: &[u32], picks: &mut [u32])
+    requires traceable { Traceable (at row.now) weights.now (length row.now) }
+    requires weights_len { length weights.now ≡ length picks.old }
+    ensures { TraceOff (at row.now) weights.now
         (length row.now - 1) 0 picks.new }
 {
     let n = picks.len();
@@ -72,7 +72,7 @@ fn trace_off(weights: &[u32], wbytes: &[u8], row: &[u32], picks: &mut [u32])
     while 0 < t {
         let m = row[t] as usize - 1;
         picks[m] = 1;
-        t -= numbers::item(weights, wbytes, m) as usize;
+        t -= weights.at(m) as usize;
     }
 }
 
@@ -81,21 +81,20 @@ fn trace_off(weights: &[u32], wbytes: &[u8], row: &[u32], picks: &mut [u32])
 // Kind 8: the row, and the labels that weigh the whole budget, or that there are none.
 pub fn solve(
     budget: u32,
-    weights: &[u32],
-    wbytes: &[u8],
+    weights: &Numbers,
     cells: &mut [u32],
     picks: &mut [u32],
 ) -> Answer
-    requires { Unrefused labels_behind (weights_from 8 (budget ∷ []) weights.now wbytes.now) (lent_of cells.old [] picks.old) }
-    ensures { SolvedInCells (weights_from 8 (budget ∷ []) weights.now wbytes.now)
+    requires { Unrefused labels_behind (weights_from 8 (budget ∷ []) weights.now) (lent_of cells.old [] picks.old) }
+    ensures { SolvedInCells (weights_from 8 (budget ∷ []) weights.now)
         cells.old picks.old result cells.new picks.new }
 {
-    let n = numbers::list_length(weights, wbytes);
+    let n = weights.len();
     let width = budget as usize + 1;
-    fill(weights, wbytes, &mut cells[..width]);
+    fill(weights, &mut cells[..width]);
     if rows::is_marked(cells[width - 1]) {
         return Answer::Refused(7);
     }
-    trace_off(weights, wbytes, &cells[..width], &mut picks[..n]);
+    trace_off(weights, &cells[..width], &mut picks[..n]);
     Answer::Weight(budget)
 }

@@ -1,5 +1,4 @@
 // Kinds 5 and 6: the fewest blocks that sum to an amount, and the ways to make it.
-// Sizes come as numbers or as a part of the job bytes (`list_from`), so they have two slices.
 #![tactic(auto)]
 
 ghost use Rattle.std.specs.Prelude.{◌≡◌, [], ◌∷◌, ◌+◌, ◌-◌, ◌≤◌, ◌<◌, length};
@@ -8,12 +7,13 @@ ghost use Rattle.meaning.specs.Job.{fewest_blocks, block_ways};
 ghost use Rattle.meaning.specs.Lent.{lent_of};
 ghost use Rattle.meaning.specs.Solved.{Solved, Unrefused};
 ghost use Rattle.meaning.specs.SolvedIn.{SolvedInCells, SolvedInWords};
-ghost use Rattle.numbers.specs.TwoSlices.{list_from, weights_from};
+ghost use Rattle.numbers.specs.Lists.{weights_from};
 ghost use Rattle.rows.specs.Rows.{Swept};
 ghost use Rattle.blocks.specs.Sizes.{Bounded, fewer_of, ways_of, FewestGrown, WaysGrown, leaves_fewer, TraceDown};
 ghost use Rattle.blocks.specs.BlocksDoor.{LetIn};
 
 use meaning::Answer;
+use numbers::Numbers;
 
 // ---- kind 5: the fewest blocks
 
@@ -65,15 +65,15 @@ fn lay(row: &mut [u32], w: u32)
 }
 
 // The row of fewest blocks, size by size.
-fn fill_fewest(weights: &[u32], wbytes: &[u8], row: &mut [u32])
-    requires { Bounded (length row.old) (list_from weights.now wbytes.now) }
-    ensures { FewestGrown (list_from weights.now wbytes.now) (length row.old) row.new }
+fn fill_fewest(weights: &Numbers, row: &mut [u32])
+    requires { Bounded (length row.old) weights.now }
+    ensures { FewestGrown weights.now (length row.old) row.new }
 {
     rows::mark_rest(row);
-    let n = numbers::list_length(weights, wbytes);
+    let n = weights.len();
     let mut i = 0;
     while i < n {
-        lay(row, numbers::item(weights, wbytes, i));
+        lay(row, weights.at(i));
         i += 1;
     }
 }
@@ -91,10 +91,10 @@ fn leads(row: &[u32], w: u32, a: usize) -> bool
 }
 
 // The blocks for the greatest amount of a row, by the trace down the sizes.
-fn trace_down(weights: &[u32], wbytes: &[u8], row: &[u32], picks: &mut [u32])
-    requires bounded { Bounded (length row.now) (list_from weights.now wbytes.now) }
-    requires wbytes_len { length (list_from weights.now wbytes.now) ≡ length picks.old }
-    ensures { TraceDown (at row.now) (list_from weights.now wbytes.now)
+fn trace_down(weights: &Numbers, row: &[u32], picks: &mut [u32])
+    requires bounded { Bounded (length row.now) weights.now }
+    requires weights_len { length weights.now ≡ length picks.old }
+    ensures { TraceDown (at row.now) weights.now
         (length row.now - 1) picks.new }
 {
     let n = picks.len();
@@ -102,7 +102,7 @@ fn trace_down(weights: &[u32], wbytes: &[u8], row: &[u32], picks: &mut [u32])
     let mut i = n;
     let mut a = row.len() - 1;
     while 0 < i {
-        let w = numbers::item(weights, wbytes, i - 1);
+        let w = weights.at(i - 1);
         if leads(row, w, a) {
             a -= w as usize;
             picks[i - 1] += 1;
@@ -115,23 +115,22 @@ fn trace_down(weights: &[u32], wbytes: &[u8], row: &[u32], picks: &mut [u32])
 // Kind 5: the row, and the blocks for the whole budget or that there are none.
 fn fewest(
     budget: u32,
-    weights: &[u32],
-    wbytes: &[u8],
+    weights: &Numbers,
     cells: &mut [u32],
     picks: &mut [u32],
 ) -> Answer
-    requires { Unrefused fewest_blocks (weights_from 5 (budget ∷ []) weights.now wbytes.now) (lent_of cells.old [] picks.old) }
-    ensures { SolvedInCells (weights_from 5 (budget ∷ []) weights.now wbytes.now)
+    requires { Unrefused fewest_blocks (weights_from 5 (budget ∷ []) weights.now) (lent_of cells.old [] picks.old) }
+    ensures { SolvedInCells (weights_from 5 (budget ∷ []) weights.now)
         cells.old picks.old result cells.new picks.new }
 {
-    let n = numbers::list_length(weights, wbytes);
+    let n = weights.len();
     let width = budget as usize + 1;
-    fill_fewest(weights, wbytes, &mut cells[..width]);
+    fill_fewest(weights, &mut cells[..width]);
     let blocks = cells[width - 1];
     if rows::is_marked(blocks) {
         return Answer::Refused(7);
     }
-    trace_down(weights, wbytes, &cells[..width], &mut picks[..n]);
+    trace_down(weights, &cells[..width], &mut picks[..n]);
     Answer::Blocks(blocks)
 }
 
@@ -165,27 +164,27 @@ fn count(words: &mut [u64], w: u32)
 }
 
 // The row of ways, size by size.
-fn fill_ways(weights: &[u32], wbytes: &[u8], words: &mut [u64])
-    requires { Bounded (length words.old) (list_from weights.now wbytes.now) }
-    ensures { WaysGrown (list_from weights.now wbytes.now) (length words.old) words.new }
+fn fill_ways(weights: &Numbers, words: &mut [u64])
+    requires { Bounded (length words.old) weights.now }
+    ensures { WaysGrown weights.now (length words.old) words.new }
 {
     rows::first_alone(words);
-    let n = numbers::list_length(weights, wbytes);
+    let n = weights.len();
     let mut i = 0;
     while i < n {
-        count(words, numbers::item(weights, wbytes, i));
+        count(words, weights.at(i));
         i += 1;
     }
 }
 
 // Kind 6: the row, and the ways for the whole budget or that they are too many to count. No other amount has a say in that.
-fn ways(budget: u32, weights: &[u32], wbytes: &[u8], words: &mut [u64]) -> Answer
-    requires { Unrefused block_ways (weights_from 6 (budget ∷ []) weights.now wbytes.now) (lent_of [] words.old []) }
-    ensures { SolvedInWords (weights_from 6 (budget ∷ []) weights.now wbytes.now)
+fn ways(budget: u32, weights: &Numbers, words: &mut [u64]) -> Answer
+    requires { Unrefused block_ways (weights_from 6 (budget ∷ []) weights.now) (lent_of [] words.old []) }
+    ensures { SolvedInWords (weights_from 6 (budget ∷ []) weights.now)
         words.old result words.new }
 {
     let width = budget as usize + 1;
-    fill_ways(weights, wbytes, &mut words[..width]);
+    fill_ways(weights, &mut words[..width]);
     if words[width - 1] == TOO_MANY {
         return Answer::Refused(8);
     }
@@ -198,19 +197,18 @@ fn ways(budget: u32, weights: &[u32], wbytes: &[u8], words: &mut [u64]) -> Answe
 pub fn solve(
     kind: u32,
     budget: u32,
-    weights: &[u32],
-    wbytes: &[u8],
+    weights: &Numbers,
     cells: &mut [u32],
     words: &mut [u64],
     picks: &mut [u32],
 ) -> Answer
-    requires { LetIn (weights_from kind (budget ∷ []) weights.now wbytes.now) (lent_of cells.old words.old picks.old) }
-    ensures { Solved (weights_from kind (budget ∷ []) weights.now wbytes.now)
+    requires { LetIn (weights_from kind (budget ∷ []) weights.now) (lent_of cells.old words.old picks.old) }
+    ensures { Solved (weights_from kind (budget ∷ []) weights.now)
         (lent_of cells.old words.old picks.old) result
         (lent_of cells.new words.new picks.new) }
 {
     if kind == 5 {
-        return fewest(budget, weights, wbytes, cells, picks);
+        return fewest(budget, weights, cells, picks);
     }
-    ways(budget, weights, wbytes, words)
+    ways(budget, weights, words)
 }

@@ -7,29 +7,24 @@ ghost use Rattle.meaning.specs.declared.Verdict.TheVariants.{Refused};
 ghost use Rattle.meaning.specs.Job.{job_of};
 ghost use Rattle.meaning.specs.Certificates.{Checked, HasCertificates, verdict_on_certificate};
 ghost use Rattle.meaning.specs.Writer.{Writes, WritesBytes};
-ghost use Rattle.numbers.specs.TwoSlices.{job_from};
 ghost use Rattle.verdicts.specs.Asked.{bytes_job, knapsack_in};
 ghost use Rattle.certificate.specs.Refusing.{certified_refusal};
 ghost use Rattle.certificate.specs.Copying.{CopiedFor};
 
 use meaning::{Needed, Section, Verdict, Written};
+use numbers::Numbers;
 use requests::Request;
-
-// A list may come in two slices, of which one is empty: numbers (weights) and a part of the job bytes (wbytes), see `list_from`.
 
 // The lowest of 2 to 5 that applies to a job, and 0 for none. Kinds 1 to 3 have certificates.
 fn job_refusal(
     kind: u32,
     budget: u32,
-    weights: &[u32],
-    wbytes: &[u8],
-    values: &[u32],
-    vbytes: &[u8],
-    copies: &[u32],
-    cbytes: &[u8],
+    weights: &Numbers,
+    values: &Numbers,
+    copies: &Numbers,
 ) -> u32
-    ensures { result ≡ certified_refusal (job_from kind (budget ∷ []) weights.now wbytes.now
-        values.now vbytes.now copies.now cbytes.now) }
+    ensures { result ≡ certified_refusal (job_of kind (budget ∷ []) weights.now
+        values.now copies.now) }
 {
     if kind < 1 {
         return 2;
@@ -39,7 +34,7 @@ fn job_refusal(
     }
     let rules = rules::knapsack_rules(kind);
     requests::job_refusal(
-        rules, budget, weights, wbytes, values, vbytes, copies, cbytes,
+        rules, budget, weights, values, copies,
     )
 }
 
@@ -138,27 +133,24 @@ fn copy_out(picks: &[u32], n: usize, cells: &[u32], count: usize, out: &mut [u8]
 fn write_job(
     kind: u32,
     budget: u32,
-    weights: &[u32],
-    wbytes: &[u8],
-    values: &[u32],
-    vbytes: &[u8],
-    copies: &[u32],
-    cbytes: &[u8],
+    weights: &Numbers,
+    values: &Numbers,
+    copies: &Numbers,
     picks: &[u32],
     cells: &[u32],
     out: &mut [u8],
 ) -> Written
-    ensures { Writes (job_from kind (budget ∷ []) weights.now wbytes.now
-        values.now vbytes.now copies.now cbytes.now) picks.now cells.now
+    ensures { Writes (job_of kind (budget ∷ []) weights.now
+        values.now copies.now) picks.now cells.now
         out.old result out.new }
 {
     let refused = job_refusal(
-        kind, budget, weights, wbytes, values, vbytes, copies, cbytes,
+        kind, budget, weights, values, copies,
     );
     if refused != 0 {
         return Written::Refused(refused);
     }
-    let n = numbers::list_length(weights, wbytes);
+    let n = weights.len();
     let room = rules::knapsack_room(kind, n, budget);
     copy_out(picks, n, cells, room.cells, out)
 }

@@ -1,5 +1,4 @@
 // Kinds 1 to 3: the table of best values within a budget, and the picks that it leads to; kind 1 the full way.
-// A list comes as numbers or as a part of the job bytes (`list_from`), so each has two slices.
 #![tactic(auto)]
 
 ghost use Rattle.std.specs.Prelude.{◌≡◌, [], ◌∷◌, ℕ, suc, ◌+◌, ◌-◌, ◌*◌, ◌<◌, length};
@@ -9,7 +8,6 @@ ghost use Rattle.meaning.specs.Job.{job_of, packing, free};
 ghost use Rattle.meaning.specs.Lent.{lent_of};
 ghost use Rattle.meaning.specs.Solved.{UnrefusedBy};
 ghost use Rattle.meaning.specs.SolvedIn.{SolvedInCellsBy};
-ghost use Rattle.numbers.specs.TwoSlices.{list_from, job_from};
 ghost use Rattle.rows.specs.Rows.{SomeCount, Capped};
 ghost use Rattle.rows.specs.Bounded.{Bounded};
 ghost use Rattle.knapsack.specs.Tables.{limit_of, row_of, Filled, Climbed};
@@ -18,47 +16,45 @@ ghost use Rattle.knapsack.specs.Traces.{TraceAlong};
 ghost use Rattle.knapsack.specs.KnapsackDoor.{LetIn};
 
 use meaning::Answer;
+use numbers::Numbers;
 
 // ---- kinds 1 and 2: a row for each label
 
 // How often label i may be picked.
-fn allowed(kind: u32, copies: &[u32], cbytes: &[u8], i: usize) -> u32
-    requires { ¬ (kind ≡ 1) → i < length (list_from copies.now cbytes.now) }
-    ensures { result ≡ limit_of kind (list_from copies.now cbytes.now) i }
+fn allowed(kind: u32, copies: &Numbers, i: usize) -> u32
+    requires { ¬ (kind ≡ 1) → i < length copies.now }
+    ensures { result ≡ limit_of kind copies.now i }
 {
     if kind == 1 {
         return 1;
     }
-    numbers::item(copies, cbytes, i)
+    copies.at(i)
 }
 
 // The table of kinds 1 and 2, row by row.
 fn fill(
     kind: u32,
-    weights: &[u32],
-    wbytes: &[u8],
-    values: &[u32],
-    vbytes: &[u8],
-    copies: &[u32],
-    cbytes: &[u8],
+    weights: &Numbers,
+    values: &Numbers,
+    copies: &Numbers,
     width: usize,
     cells: &mut [u32],
 )
-    requires bounded { Bounded width (list_from weights.now wbytes.now) (list_from values.now vbytes.now) }
-    requires cbytes_len { ¬ (kind ≡ 1) → length (list_from copies.now cbytes.now) ≡ length (list_from weights.now wbytes.now) }
-    requires width_value { (length (list_from weights.now wbytes.now) + 1) * width ≡ length cells.old }
-    ensures { Filled (list_from weights.now wbytes.now) (list_from values.now vbytes.now)
-        (limit_of kind (list_from copies.now cbytes.now)) width
-        (length (list_from weights.now wbytes.now)) cells.new }
+    requires bounded { Bounded width weights.now values.now }
+    requires copies_len { ¬ (kind ≡ 1) → length copies.now ≡ length weights.now }
+    requires width_value { (length weights.now + 1) * width ≡ length cells.old }
+    ensures { Filled weights.now values.now
+        (limit_of kind copies.now) width
+        (length weights.now) cells.new }
 {
     rows::set_all(cells, width, 0);
-    let n = numbers::list_length(weights, wbytes);
+    let n = weights.len();
     let mut i = 0;
     let mut from = 0;
     while i < n {
-        let w = numbers::item(weights, wbytes, i);
-        let v = numbers::item(values, vbytes, i);
-        let limit = allowed(kind, copies, cbytes, i);
+        let w = weights.at(i);
+        let v = values.at(i);
+        let limit = allowed(kind, copies, i);
         rows::next_row(cells, from, width, w, v, limit);
         from += width;
         i += 1;
@@ -67,30 +63,28 @@ fn fill(
 
 // The picks of kinds 1 and 2, by the trace back through the rows. Gives what is left of the budget.
 fn trace_back(
-    weights: &[u32],
-    wbytes: &[u8],
-    values: &[u32],
-    vbytes: &[u8],
+    weights: &Numbers,
+    values: &Numbers,
     width: usize,
     cells: &[u32],
     picks: &mut [u32],
 ) -> usize
-    requires bounded { Bounded width (list_from weights.now wbytes.now) (list_from values.now vbytes.now) }
-    requires width_value { ((length (list_from weights.now wbytes.now) + 1) * width ≡ length cells.now)
-        × (length (list_from weights.now wbytes.now) ≡ length picks.old) }
-    requires by_index { (i c : ℕ) → i < length (list_from weights.now wbytes.now) → c < width
-        → SomeCount (row_of cells.now width i) (at (list_from weights.now wbytes.now) i) (at (list_from values.now vbytes.now) i)
+    requires bounded { Bounded width weights.now values.now }
+    requires width_value { ((length weights.now + 1) * width ≡ length cells.now)
+        × (length weights.now ≡ length picks.old) }
+    requires by_index { (i c : ℕ) → i < length weights.now → c < width
+        → SomeCount (row_of cells.now width i) (at weights.now i) (at values.now i)
         c (row_of cells.now width (suc i) c) }
-    ensures { TraceBack (row_of cells.now width) (list_from weights.now wbytes.now)
-        (list_from values.now vbytes.now) (length (list_from weights.now wbytes.now))
+    ensures { TraceBack (row_of cells.now width) weights.now
+        values.now (length weights.now)
         (width - 1) 0 result picks.new }
 {
     let mut i = picks.len();
     let mut c = width - 1;
     while 0 < i {
         i -= 1;
-        let w = numbers::item(weights, wbytes, i);
-        let v = numbers::item(values, vbytes, i);
+        let w = weights.at(i);
+        let v = values.at(i);
         let from = i * width;
         let goal = cells[from + width + c];
         let x = rows::least_count(cells, from, c, w, v, goal);
@@ -103,18 +97,18 @@ fn trace_back(
 // ---- kind 3: one row
 
 // The row of kind 3, label by label.
-fn fill_row(weights: &[u32], wbytes: &[u8], values: &[u32], vbytes: &[u8], row: &mut [u32])
-    requires { Bounded (length row.old) (list_from weights.now wbytes.now) (list_from values.now vbytes.now) }
-    ensures { Climbed (list_from weights.now wbytes.now) (list_from values.now vbytes.now)
-        (length row.old) (length (list_from weights.now wbytes.now)) row.new }
+fn fill_row(weights: &Numbers, values: &Numbers, row: &mut [u32])
+    requires { Bounded (length row.old) weights.now values.now }
+    ensures { Climbed weights.now values.now
+        (length row.old) (length weights.now) row.new }
 {
     let width = row.len();
     rows::set_all(row, width, 0);
-    let n = numbers::list_length(weights, wbytes);
+    let n = weights.len();
     let mut i = 0;
     while i < n {
-        let w = numbers::item(weights, wbytes, i);
-        let v = numbers::item(values, vbytes, i);
+        let w = weights.at(i);
+        let v = values.at(i);
         rows::add_any_number(row, w, v);
         i += 1;
     }
@@ -122,25 +116,23 @@ fn fill_row(weights: &[u32], wbytes: &[u8], values: &[u32], vbytes: &[u8], row: 
 
 // The picks of kind 3, by the trace along the labels. Gives what is left of the budget.
 fn trace_along(
-    weights: &[u32],
-    wbytes: &[u8],
-    values: &[u32],
-    vbytes: &[u8],
+    weights: &Numbers,
+    values: &Numbers,
     row: &[u32],
     picks: &mut [u32],
 ) -> usize
-    requires bounded { Bounded (length row.now) (list_from weights.now wbytes.now) (list_from values.now vbytes.now) }
-    requires capped { Capped (at row.now) (length row.now) × (length (list_from weights.now wbytes.now) ≡ length picks.old) }
-    ensures { TraceAlong (at row.now) (list_from weights.now wbytes.now)
-        (list_from values.now vbytes.now) (length row.now - 1) result picks.new }
+    requires bounded { Bounded (length row.now) weights.now values.now }
+    requires capped { Capped (at row.now) (length row.now) × (length weights.now ≡ length picks.old) }
+    ensures { TraceAlong (at row.now) weights.now
+        values.now (length row.now - 1) result picks.new }
 {
     let n = picks.len();
     rows::set_all(picks, n, 0);
     let mut label = 0;
     let mut c = row.len() - 1;
     while label < n {
-        let w = numbers::item(weights, wbytes, label);
-        let v = numbers::item(values, vbytes, label);
+        let w = weights.at(label);
+        let v = values.at(label);
         if rows::leads(row, w, v, c) {
             c -= w as usize;
             picks[label] += 1;
@@ -157,41 +149,33 @@ fn trace_along(
 fn full_table(
     kind: u32,
     budget: u32,
-    weights: &[u32],
-    wbytes: &[u8],
-    values: &[u32],
-    vbytes: &[u8],
-    copies: &[u32],
-    cbytes: &[u8],
+    weights: &Numbers,
+    values: &Numbers,
+    copies: &Numbers,
     cells: &mut [u32],
     picks: &mut [u32],
 ) -> Answer
-    requires let_in { LetIn (job_from kind (budget ∷ []) weights.now wbytes.now values.now vbytes.now copies.now cbytes.now)
+    requires let_in { LetIn (job_of kind (budget ∷ []) weights.now values.now copies.now)
         cells.old picks.old }
     requires kind_bound { kind < 3 }
-    ensures { SolvedInCellsBy Full (job_from kind (budget ∷ []) weights.now wbytes.now
-        values.now vbytes.now copies.now cbytes.now)
+    ensures { SolvedInCellsBy Full (job_of kind (budget ∷ []) weights.now
+        values.now copies.now)
         cells.old picks.old result cells.new picks.new }
 {
-    let n = numbers::list_length(weights, wbytes);
+    let n = weights.len();
     let width = budget as usize + 1;
     let needed = (n + 1) * width;
     fill(
         kind,
         weights,
-        wbytes,
         values,
-        vbytes,
         copies,
-        cbytes,
         width,
         &mut cells[..needed],
     );
     let left = trace_back(
         weights,
-        wbytes,
         values,
-        vbytes,
         width,
         &cells[..needed],
         &mut picks[..n],
@@ -205,27 +189,23 @@ fn full_table(
 // Kind 3: one row, and the trace along the labels.
 fn one_row(
     budget: u32,
-    weights: &[u32],
-    wbytes: &[u8],
-    values: &[u32],
-    vbytes: &[u8],
+    weights: &Numbers,
+    values: &Numbers,
     cells: &mut [u32],
     picks: &mut [u32],
 ) -> Answer
-    requires { UnrefusedBy Full (packing free) (job_of 3 (budget ∷ []) (list_from weights.now wbytes.now) (list_from values.now vbytes.now) [])
+    requires { UnrefusedBy Full (packing free) (job_of 3 (budget ∷ []) weights.now values.now [])
         (lent_of cells.old [] picks.old) }
-    ensures { SolvedInCellsBy Full (job_of 3 (budget ∷ []) (list_from weights.now wbytes.now)
-        (list_from values.now vbytes.now) [])
+    ensures { SolvedInCellsBy Full (job_of 3 (budget ∷ []) weights.now
+        values.now [])
         cells.old picks.old result cells.new picks.new }
 {
-    let n = numbers::list_length(weights, wbytes);
+    let n = weights.len();
     let width = budget as usize + 1;
-    fill_row(weights, wbytes, values, vbytes, &mut cells[..width]);
+    fill_row(weights, values, &mut cells[..width]);
     let left = trace_along(
         weights,
-        wbytes,
         values,
-        vbytes,
         &cells[..width],
         &mut picks[..n],
     );
@@ -239,25 +219,22 @@ fn one_row(
 pub fn solve(
     kind: u32,
     budget: u32,
-    weights: &[u32],
-    wbytes: &[u8],
-    values: &[u32],
-    vbytes: &[u8],
-    copies: &[u32],
-    cbytes: &[u8],
+    weights: &Numbers,
+    values: &Numbers,
+    copies: &Numbers,
     cells: &mut [u32],
     picks: &mut [u32],
 ) -> Answer
-    requires { LetIn (job_from kind (budget ∷ []) weights.now wbytes.now values.now vbytes.now copies.now cbytes.now)
+    requires { LetIn (job_of kind (budget ∷ []) weights.now values.now copies.now)
         cells.old picks.old }
-    ensures { SolvedInCellsBy Full (job_from kind (budget ∷ []) weights.now wbytes.now
-        values.now vbytes.now copies.now cbytes.now)
+    ensures { SolvedInCellsBy Full (job_of kind (budget ∷ []) weights.now
+        values.now copies.now)
         cells.old picks.old result cells.new picks.new }
 {
     if kind == 3 {
-        return one_row(budget, weights, wbytes, values, vbytes, cells, picks);
+        return one_row(budget, weights, values, cells, picks);
     }
     full_table(
-        kind, budget, weights, wbytes, values, vbytes, copies, cbytes, cells, picks,
+        kind, budget, weights, values, copies, cells, picks,
     )
 }

@@ -1,5 +1,4 @@
 // Kind 1 the light way: one row in place, and for each label a bit for each budget, set where the label raises the row.
-// A list comes as numbers or as a part of the job bytes (`list_from`), so each has two slices.
 #![tactic(auto)]
 
 ghost use Rattle.std.specs.Prelude.{◌≡◌, [], ◌∷◌, ℕ, ◌+◌, ◌-◌, ◌*◌, ◌/◌, ◌%◌, ◌^◌, ◌≤◌, ◌<◌, max, length};
@@ -9,13 +8,13 @@ ghost use Rattle.meaning.specs.Lent.{lent_of};
 ghost use Rattle.meaning.specs.Bounds.{most_budget};
 ghost use Rattle.meaning.specs.Sums.{bit};
 ghost use Rattle.meaning.specs.Solved.{Solved, Unrefused};
-ghost use Rattle.numbers.specs.TwoSlices.{list_from};
 ghost use Rattle.rows.specs.Bounded.{Bounded};
 ghost use Rattle.light.specs.Bits.{rose, Few, binary, spaced, exchanged, turned, Risen, RisenHigh, Lowered, RisenAll};
 ghost use Rattle.light.specs.Labels.{Lit, TraceBits};
 ghost use Rattle.light.specs.Packed.{PackedLight};
 
 use meaning::Answer;
+use numbers::Numbers;
 
 // ---- a word of bits
 
@@ -203,27 +202,25 @@ fn raise_label(row: &mut [u32], words: &mut [u64], w: u32, v: u32)
 
 // The row of all labels, and the bits of each, in `per` words.
 fn fill(
-    weights: &[u32],
-    wbytes: &[u8],
-    values: &[u32],
-    vbytes: &[u8],
+    weights: &Numbers,
+    values: &Numbers,
     per: usize,
     row: &mut [u32],
     words: &mut [u64],
 )
-    requires bounded { Bounded (length row.old) (list_from weights.now wbytes.now) (list_from values.now vbytes.now) }
-    requires per_value { (per ≡ (length row.old - 1) / 64 + 1) × (length (list_from weights.now wbytes.now) * per ≡ length words.old) }
-    ensures { Lit (list_from weights.now wbytes.now) (list_from values.now vbytes.now)
-        (length row.old) per (length (list_from weights.now wbytes.now)) row.new words.new }
+    requires bounded { Bounded (length row.old) weights.now values.now }
+    requires per_value { (per ≡ (length row.old - 1) / 64 + 1) × (length weights.now * per ≡ length words.old) }
+    ensures { Lit weights.now values.now
+        (length row.old) per (length weights.now) row.new words.new }
 {
     let width = row.len();
     rows::set_all(row, width, 0);
-    let n = numbers::list_length(weights, wbytes);
+    let n = weights.len();
     let mut i = 0;
     let mut from = 0;
     while i < n {
-        let w = numbers::item(weights, wbytes, i);
-        let v = numbers::item(values, vbytes, i);
+        let w = weights.at(i);
+        let v = values.at(i);
         raise_label(row, &mut words[from..from + per], w, v);
         from += per;
         i += 1;
@@ -242,25 +239,24 @@ fn bit_at(words: &[u64], from: usize, c: usize) -> u32
 
 // The picks, by the trace back through the bits: a label is picked if its bit is set at what is left of the budget. Gives what is left.
 fn trace_bits(
-    weights: &[u32],
-    wbytes: &[u8],
+    weights: &Numbers,
     per: usize,
     budget: usize,
     words: &[u64],
     picks: &mut [u32],
 ) -> usize
-    requires budget_le_most_budget { (budget ≤ most_budget) × ((per ≡ budget / 64 + 1) × ((length (list_from weights.now wbytes.now) * per ≡ length words.now)
-        × (length (list_from weights.now wbytes.now) ≡ length picks.old))) }
-    requires by_index { (m c : ℕ) → m < length (list_from weights.now wbytes.now) → c < budget + 1
-        → at (list_from weights.now wbytes.now) m * bit words.now (64 * (m * per) + c) ≤ c }
-    ensures { TraceBits (list_from weights.now wbytes.now) words.now per
-        (length (list_from weights.now wbytes.now)) budget 0 result picks.new }
+    requires budget_le_most_budget { (budget ≤ most_budget) × ((per ≡ budget / 64 + 1) × ((length weights.now * per ≡ length words.now)
+        × (length weights.now ≡ length picks.old))) }
+    requires by_index { (m c : ℕ) → m < length weights.now → c < budget + 1
+        → at weights.now m * bit words.now (64 * (m * per) + c) ≤ c }
+    ensures { TraceBits weights.now words.now per
+        (length weights.now) budget 0 result picks.new }
 {
     let mut i = picks.len();
     let mut c = budget;
     while 0 < i {
         i -= 1;
-        let w = numbers::item(weights, wbytes, i);
+        let w = weights.at(i);
         let x = bit_at(words, i * per, c);
         picks[i] = x;
         c -= (w * x) as usize;
@@ -271,23 +267,21 @@ fn trace_bits(
 // Kind 1 the light way, on just the row, the words and the picks that are needed. Gives what is left of the budget.
 fn pack(
     budget: usize,
-    weights: &[u32],
-    wbytes: &[u8],
-    values: &[u32],
-    vbytes: &[u8],
+    weights: &Numbers,
+    values: &Numbers,
     row: &mut [u32],
     words: &mut [u64],
     picks: &mut [u32],
 ) -> usize
-    requires bounded { Bounded (budget + 1) (list_from weights.now wbytes.now) (list_from values.now vbytes.now) }
-    requires row_len { (length row.old ≡ budget + 1) × ((length (list_from weights.now wbytes.now) * (budget / 64 + 1) ≡ length words.old)
-        × (length (list_from weights.now wbytes.now) ≡ length picks.old)) }
-    ensures { PackedLight (job_of 1 (budget ∷ []) (list_from weights.now wbytes.now)
-        (list_from values.now vbytes.now) []) row.new words.new picks.new result }
+    requires bounded { Bounded (budget + 1) weights.now values.now }
+    requires row_len { (length row.old ≡ budget + 1) × ((length weights.now * (budget / 64 + 1) ≡ length words.old)
+        × (length weights.now ≡ length picks.old)) }
+    ensures { PackedLight (job_of 1 (budget ∷ []) weights.now
+        values.now []) row.new words.new picks.new result }
 {
     let per = budget / 64 + 1;
-    fill(weights, wbytes, values, vbytes, per, row, words);
-    trace_bits(weights, wbytes, per, budget, words, picks)
+    fill(weights, values, per, row, words);
+    trace_bits(weights, per, budget, words, picks)
 }
 
 // ---- the door
@@ -295,29 +289,25 @@ fn pack(
 // Kind 1 the light way: the row, the bits, the value, the weight and the picks of a job that no refusal meets.
 pub fn solve(
     budget: u32,
-    weights: &[u32],
-    wbytes: &[u8],
-    values: &[u32],
-    vbytes: &[u8],
+    weights: &Numbers,
+    values: &Numbers,
     cells: &mut [u32],
     words: &mut [u64],
     picks: &mut [u32],
 ) -> Answer
-    requires { Unrefused (packing once) (job_of 1 (budget ∷ []) (list_from weights.now wbytes.now) (list_from values.now vbytes.now) [])
+    requires { Unrefused (packing once) (job_of 1 (budget ∷ []) weights.now values.now [])
         (lent_of cells.old words.old picks.old) }
-    ensures { Solved (job_of 1 (budget ∷ []) (list_from weights.now wbytes.now)
-        (list_from values.now vbytes.now) [])
+    ensures { Solved (job_of 1 (budget ∷ []) weights.now
+        values.now [])
         (lent_of cells.old words.old picks.old) result
         (lent_of cells.new words.new picks.new) }
 {
-    let n = numbers::list_length(weights, wbytes);
+    let n = weights.len();
     let most = budget as usize;
     let left = pack(
         most,
         weights,
-        wbytes,
         values,
-        vbytes,
         &mut cells[..most + 1],
         &mut words[..n * (most / 64 + 1)],
         &mut picks[..n],

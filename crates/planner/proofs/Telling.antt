@@ -13,7 +13,6 @@ use Rattle.meaning.specs.Bytes.{read_job, readable, unreadable}
 use Rattle.meaning.specs.Solved.{SolvedBy}
 use Rattle.meaning.specs.Told.{ToldBy, kind_read, labels_read}
 use Rattle.meaning.proofs.Laws.{solved_bytes, solved_unreadable}
-use Rattle.numbers.specs.TwoSlices.{job_from, list_from}
 
 -- bytes that can't be read tell nothing
 pub told_unread : {way : Way} (b : List ℕ) (before : Lent) {place : ℕ} → read_job b ≡ unreadable place → ToldBy way b before 0 0 (Says.Refused 1) before
@@ -22,11 +21,11 @@ told_unread b before {place} e = record { solved = solved_unreadable b place bef
 
 -- others tell of the job that they are read as
 pub told_read : {way : Way} (b : List ℕ) (kind : ℕ) (budgets wbytes vbytes cbytes : List ℕ) (before after : Lent) (a : Answer) (n : ℕ)
-    → read_job b ≡ readable (job_from kind budgets [] wbytes [] vbytes [] cbytes) → n ≡ length (list_from [] wbytes)
-    → SolvedBy way (job_from kind budgets [] wbytes [] vbytes [] cbytes) before a after → ToldBy way b before kind n a after
+    → read_job b ≡ readable (job_of kind budgets [] wbytes [] vbytes [] cbytes) → n ≡ length (list_from [] wbytes)
+    → SolvedBy way (job_of kind budgets [] wbytes [] vbytes [] cbytes) before a after → ToldBy way b before kind n a after
 unfolding kind_read labels_read job_of labels
 told_read b kind budgets wbytes vbytes cbytes before after a n reads counted solved = record {
-  solved = solved_bytes b (job_from kind budgets [] wbytes [] vbytes [] cbytes) before after a reads solved;
+  solved = solved_bytes b (job_of kind budgets [] wbytes [] vbytes [] cbytes) before after a reads solved;
   kind_told = rw reads;
   labels_told = rw (reads, counted);
 }

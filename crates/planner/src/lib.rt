@@ -12,15 +12,13 @@ ghost use Rattle.meaning.specs.Refusals.{job_refusal, rules_of};
 ghost use Rattle.meaning.specs.Solved.{SolvedBy, Solved, SolvedBytes, SolvedFull, SolvedFullBytes};
 ghost use Rattle.meaning.specs.Told.{ToldBy, ToldBytes};
 ghost use Rattle.meaning.specs.SolvedIn.{SolvedInCellsBy, SolvedInCells, SolvedInWords, SolvedInPicks};
-ghost use Rattle.numbers.specs.TwoSlices.{job_from};
 ghost use Rattle.rules.specs.Ruling.{rules_from};
 ghost use Rattle.rules.specs.Places.{has_room};
 
 use meaning::{Answer, Way};
+use numbers::Numbers;
 use requests::Request;
 use rules::{Room, Rules};
-
-// Up to `decide`, a list comes in two slices, of which one is empty: numbers (weights) and a part of the job bytes (wbytes), see `list_from`.
 
 // The lowest of 3 to 6 that applies to a job of a kind with these rules that needs this room, where the lent slices have these lengths;
 // and 0 for none.
@@ -28,22 +26,19 @@ fn refusal(
     rules: Rules,
     room: Room,
     budget: u32,
-    weights: &[u32],
-    wbytes: &[u8],
-    values: &[u32],
-    vbytes: &[u8],
-    copies: &[u32],
-    cbytes: &[u8],
+    weights: &Numbers,
+    values: &Numbers,
+    copies: &Numbers,
     cells: usize,
     words: usize,
     picks: usize,
 ) -> u32
     ensures { (kind : ℕ) (needs_sum : Bool) → result ≡ job_refusal (rules_from rules needs_sum)
-        (job_from kind (budget ∷ []) weights.now wbytes.now
-        values.now vbytes.now copies.now cbytes.now) (if (has_room room cells words picks) 0 6) }
+        (job_of kind (budget ∷ []) weights.now
+        values.now copies.now) (if (has_room room cells words picks) 0 6) }
 {
     let refused = requests::job_refusal(
-        rules, budget, weights, wbytes, values, vbytes, copies, cbytes,
+        rules, budget, weights, values, copies,
     );
     if refused != 0 {
         return refused;
@@ -61,21 +56,18 @@ fn refusal(
 fn pack_full(
     kind: u32,
     budget: u32,
-    weights: &[u32],
-    wbytes: &[u8],
-    values: &[u32],
-    vbytes: &[u8],
-    copies: &[u32],
-    cbytes: &[u8],
+    weights: &Numbers,
+    values: &Numbers,
+    copies: &Numbers,
     cells: &mut [u32],
     picks: &mut [u32],
 ) -> Answer
     requires { (1 ≤ kind) × (kind ≤ 3) }
-    ensures { SolvedInCellsBy Full (job_from kind (budget ∷ []) weights.now wbytes.now
-        values.now vbytes.now copies.now cbytes.now) cells.old picks.old
+    ensures { SolvedInCellsBy Full (job_of kind (budget ∷ []) weights.now
+        values.now copies.now) cells.old picks.old
         result cells.new picks.new }
 {
-    let n = numbers::list_length(weights, wbytes);
+    let n = weights.len();
     let rules = rules::knapsack_rules(kind);
     let room = rules::knapsack_room(kind, n, budget);
     let refused = refusal(
@@ -83,11 +75,8 @@ fn pack_full(
         room,
         budget,
         weights,
-        wbytes,
         values,
-        vbytes,
         copies,
-        cbytes,
         cells.len(),
         0,
         picks.len(),
@@ -96,29 +85,26 @@ fn pack_full(
         return Answer::Refused(refused);
     }
     knapsack::solve(
-        kind, budget, weights, wbytes, values, vbytes, copies, cbytes, cells, picks,
+        kind, budget, weights, values, copies, cells, picks,
     )
 }
 
 // Kind 1 the light way.
 fn pack_light(
     budget: u32,
-    weights: &[u32],
-    wbytes: &[u8],
-    values: &[u32],
-    vbytes: &[u8],
-    copies: &[u32],
-    cbytes: &[u8],
+    weights: &Numbers,
+    values: &Numbers,
+    copies: &Numbers,
     cells: &mut [u32],
     words: &mut [u64],
     picks: &mut [u32],
 ) -> Answer
-    ensures { Solved (job_from 1 (budget ∷ []) weights.now wbytes.now
-        values.now vbytes.now copies.now cbytes.now)
+    ensures { Solved (job_of 1 (budget ∷ []) weights.now
+        values.now copies.now)
         (lent_of cells.old words.old picks.old) result
         (lent_of cells.new words.new picks.new) }
 {
-    let n = numbers::list_length(weights, wbytes);
+    let n = weights.len();
     let rules = rules::knapsack_rules(1);
     let room = rules::light_room(n, budget);
     let refused = refusal(
@@ -126,11 +112,8 @@ fn pack_light(
         room,
         budget,
         weights,
-        wbytes,
         values,
-        vbytes,
         copies,
-        cbytes,
         cells.len(),
         words.len(),
         picks.len(),
@@ -138,7 +121,7 @@ fn pack_light(
     if refused != 0 {
         return Answer::Refused(refused);
     }
-    light::solve(budget, weights, wbytes, values, vbytes, cells, words, picks)
+    light::solve(budget, weights, values, cells, words, picks)
 }
 
 // Whether a job of this kind goes the light way: kind 1 alone has one.
@@ -156,45 +139,39 @@ fn pack(
     way: Way,
     kind: u32,
     budget: u32,
-    weights: &[u32],
-    wbytes: &[u8],
-    values: &[u32],
-    vbytes: &[u8],
-    copies: &[u32],
-    cbytes: &[u8],
+    weights: &Numbers,
+    values: &Numbers,
+    copies: &Numbers,
     cells: &mut [u32],
     words: &mut [u64],
     picks: &mut [u32],
 ) -> Answer
     requires { (1 ≤ kind) × (kind ≤ 3) }
-    ensures { SolvedBy way (job_from kind (budget ∷ []) weights.now wbytes.now
-        values.now vbytes.now copies.now cbytes.now)
+    ensures { SolvedBy way (job_of kind (budget ∷ []) weights.now
+        values.now copies.now)
         (lent_of cells.old words.old picks.old) result
         (lent_of cells.new words.new picks.new) }
 {
     if goes_light(way, kind) {
         return pack_light(
-            budget, weights, wbytes, values, vbytes, copies, cbytes, cells, words, picks,
+            budget, weights, values, copies, cells, words, picks,
         );
     }
     pack_full(
-        kind, budget, weights, wbytes, values, vbytes, copies, cbytes, cells, picks,
+        kind, budget, weights, values, copies, cells, picks,
     )
 }
 
 // Kind 4.
 fn reach(
     budget: u32,
-    weights: &[u32],
-    wbytes: &[u8],
-    values: &[u32],
-    vbytes: &[u8],
-    copies: &[u32],
-    cbytes: &[u8],
+    weights: &Numbers,
+    values: &Numbers,
+    copies: &Numbers,
     words: &mut [u64],
 ) -> Answer
-    ensures { SolvedInWords (job_from 4 (budget ∷ []) weights.now wbytes.now
-        values.now vbytes.now copies.now cbytes.now) words.old result words.new }
+    ensures { SolvedInWords (job_of 4 (budget ∷ []) weights.now
+        values.now copies.now) words.old result words.new }
 {
     let rules = rules::sums_rules();
     let room = rules::sums_room(budget);
@@ -203,11 +180,8 @@ fn reach(
         room,
         budget,
         weights,
-        wbytes,
         values,
-        vbytes,
         copies,
-        cbytes,
         0,
         words.len(),
         0,
@@ -215,30 +189,27 @@ fn reach(
     if refused != 0 {
         return Answer::Refused(refused);
     }
-    sums::solve(budget, weights, wbytes, words)
+    sums::solve(budget, weights, words)
 }
 
 // Kinds 5 and 6.
 fn lay(
     kind: u32,
     budget: u32,
-    weights: &[u32],
-    wbytes: &[u8],
-    values: &[u32],
-    vbytes: &[u8],
-    copies: &[u32],
-    cbytes: &[u8],
+    weights: &Numbers,
+    values: &Numbers,
+    copies: &Numbers,
     cells: &mut [u32],
     words: &mut [u64],
     picks: &mut [u32],
 ) -> Answer
     requires { (5 ≤ kind) × (kind ≤ 6) }
-    ensures { Solved (job_from kind (budget ∷ []) weights.now wbytes.now
-        values.now vbytes.now copies.now cbytes.now)
+    ensures { Solved (job_of kind (budget ∷ []) weights.now
+        values.now copies.now)
         (lent_of cells.old words.old picks.old) result
         (lent_of cells.new words.new picks.new) }
 {
-    let n = numbers::list_length(weights, wbytes);
+    let n = weights.len();
     let rules = rules::blocks_rules();
     let room = rules::blocks_room(kind, n, budget);
     let refused = refusal(
@@ -246,11 +217,8 @@ fn lay(
         room,
         budget,
         weights,
-        wbytes,
         values,
-        vbytes,
         copies,
-        cbytes,
         cells.len(),
         words.len(),
         picks.len(),
@@ -258,24 +226,21 @@ fn lay(
     if refused != 0 {
         return Answer::Refused(refused);
     }
-    blocks::solve(kind, budget, weights, wbytes, cells, words, picks)
+    blocks::solve(kind, budget, weights, cells, words, picks)
 }
 
 // Kind 7, which 9 may refuse too.
 fn share(
     budget: u32,
-    weights: &[u32],
-    wbytes: &[u8],
-    values: &[u32],
-    vbytes: &[u8],
-    copies: &[u32],
-    cbytes: &[u8],
+    weights: &Numbers,
+    values: &Numbers,
+    copies: &Numbers,
     picks: &mut [u32],
 ) -> Answer
-    ensures { SolvedInPicks (job_from 7 (budget ∷ []) weights.now wbytes.now
-        values.now vbytes.now copies.now cbytes.now) picks.old result picks.new }
+    ensures { SolvedInPicks (job_of 7 (budget ∷ []) weights.now
+        values.now copies.now) picks.old result picks.new }
 {
-    let n = numbers::list_length(weights, wbytes);
+    let n = weights.len();
     let rules = rules::shares_rules();
     let room = rules::shares_room(n);
     let refused = refusal(
@@ -283,11 +248,8 @@ fn share(
         room,
         budget,
         weights,
-        wbytes,
         values,
-        vbytes,
         copies,
-        cbytes,
         0,
         0,
         picks.len(),
@@ -295,29 +257,26 @@ fn share(
     if refused != 0 {
         return Answer::Refused(refused);
     }
-    if !requests::has_sum(weights, wbytes) {
+    if !requests::has_sum(weights) {
         return Answer::Refused(9);
     }
-    shares::solve(budget, weights, wbytes, picks)
+    shares::solve(budget, weights, picks)
 }
 
 // Kind 8.
 fn show(
     budget: u32,
-    weights: &[u32],
-    wbytes: &[u8],
-    values: &[u32],
-    vbytes: &[u8],
-    copies: &[u32],
-    cbytes: &[u8],
+    weights: &Numbers,
+    values: &Numbers,
+    copies: &Numbers,
     cells: &mut [u32],
     picks: &mut [u32],
 ) -> Answer
-    ensures { SolvedInCells (job_from 8 (budget ∷ []) weights.now wbytes.now
-        values.now vbytes.now copies.now cbytes.now) cells.old picks.old
+    ensures { SolvedInCells (job_of 8 (budget ∷ []) weights.now
+        values.now copies.now) cells.old picks.old
         result cells.new picks.new }
 {
-    let n = numbers::list_length(weights, wbytes);
+    let n = weights.len();
     let rules = rules::sums_rules();
     let room = rules::row_room(n, budget);
     let refused = refusal(
@@ -325,11 +284,8 @@ fn show(
         room,
         budget,
         weights,
-        wbytes,
         values,
-        vbytes,
         copies,
-        cbytes,
         cells.len(),
         0,
         picks.len(),
@@ -337,7 +293,7 @@ fn show(
     if refused != 0 {
         return Answer::Refused(refused);
     }
-    behind::solve(budget, weights, wbytes, cells, picks)
+    behind::solve(budget, weights, cells, picks)
 }
 
 // The lowest of 3 to 6 that applies to a job of kind 9, and 0 for none. It is asked as kind 1 is, then about q; its room goes by its numbers, so it
@@ -345,22 +301,19 @@ fn show(
 fn stated_refusal(
     budget: u32,
     q: u32,
-    weights: &[u32],
-    wbytes: &[u8],
-    values: &[u32],
-    vbytes: &[u8],
-    copies: &[u32],
-    cbytes: &[u8],
+    weights: &Numbers,
+    values: &Numbers,
+    copies: &Numbers,
     cells: usize,
     picks: usize,
 ) -> u32
-    ensures { let j = job_from 9 (budget ∷ q ∷ []) weights.now wbytes.now
-        values.now vbytes.now copies.now cbytes.now in
+    ensures { let j = job_of 9 (budget ∷ q ∷ []) weights.now
+        values.now copies.now in
         result ≡ job_refusal (rules_of stated_share) j (if (leb (stated_cells j) cells && leb (labels j) picks) 0 6) }
 {
     let rules = rules::knapsack_rules(1);
     let refused = requests::job_refusal(
-        rules, budget, weights, wbytes, values, vbytes, copies, cbytes,
+        rules, budget, weights, values, copies,
     );
     if refused != 0 {
         return refused;
@@ -368,11 +321,11 @@ fn stated_refusal(
     if !requests::q_fits(q) {
         return 5;
     }
-    let needed = stated::cells_needed(budget, q, weights, wbytes, values, vbytes);
+    let needed = stated::cells_needed(budget, q, weights, values);
     if cells < needed {
         return 6;
     }
-    if picks < numbers::list_length(weights, wbytes) {
+    if picks < weights.len() {
         return 6;
     }
     0
@@ -382,35 +335,29 @@ fn stated_refusal(
 fn state(
     budget: u32,
     q: u32,
-    weights: &[u32],
-    wbytes: &[u8],
-    values: &[u32],
-    vbytes: &[u8],
-    copies: &[u32],
-    cbytes: &[u8],
+    weights: &Numbers,
+    values: &Numbers,
+    copies: &Numbers,
     cells: &mut [u32],
     picks: &mut [u32],
 ) -> Answer
-    ensures { SolvedInCells (job_from 9 (budget ∷ q ∷ []) weights.now wbytes.now
-        values.now vbytes.now copies.now cbytes.now) cells.old picks.old
+    ensures { SolvedInCells (job_of 9 (budget ∷ q ∷ []) weights.now
+        values.now copies.now) cells.old picks.old
         result cells.new picks.new }
 {
     let refused = stated_refusal(
         budget,
         q,
         weights,
-        wbytes,
         values,
-        vbytes,
         copies,
-        cbytes,
         cells.len(),
         picks.len(),
     );
     if refused != 0 {
         return Answer::Refused(refused);
     }
-    stated::solve(budget, q, weights, wbytes, values, vbytes, cells, picks)
+    stated::solve(budget, q, weights, values, cells, picks)
 }
 
 // The one place where the kind decides.
@@ -419,39 +366,36 @@ fn decide(
     kind: u32,
     budget: u32,
     q: u32,
-    weights: &[u32],
-    wbytes: &[u8],
-    values: &[u32],
-    vbytes: &[u8],
-    copies: &[u32],
-    cbytes: &[u8],
+    weights: &Numbers,
+    values: &Numbers,
+    copies: &Numbers,
     cells: &mut [u32],
     words: &mut [u64],
     picks: &mut [u32],
 ) -> Answer
-    ensures { SolvedBy way (job_from kind (budget ∷ q ∷ []) weights.now wbytes.now
-        values.now vbytes.now copies.now cbytes.now)
+    ensures { SolvedBy way (job_of kind (budget ∷ q ∷ []) weights.now
+        values.now copies.now)
         (lent_of cells.old words.old picks.old) result
         (lent_of cells.new words.new picks.new) }
 {
     match kind {
         1..=3 => pack(
-            way, kind, budget, weights, wbytes, values, vbytes, copies, cbytes, cells, words, picks,
+            way, kind, budget, weights, values, copies, cells, words, picks,
         ),
         4 => reach(
-            budget, weights, wbytes, values, vbytes, copies, cbytes, words,
+            budget, weights, values, copies, words,
         ),
         5 | 6 => lay(
-            kind, budget, weights, wbytes, values, vbytes, copies, cbytes, cells, words, picks,
+            kind, budget, weights, values, copies, cells, words, picks,
         ),
         7 => share(
-            budget, weights, wbytes, values, vbytes, copies, cbytes, picks,
+            budget, weights, values, copies, picks,
         ),
         8 => show(
-            budget, weights, wbytes, values, vbytes, copies, cbytes, cells, picks,
+            budget, weights, values, copies, cells, picks,
         ),
         9 => state(
-            budget, q, weights, wbytes, values, vbytes, copies, cbytes, cells, picks,
+            budget, q, weights, values, copies, cells, picks,
         ),
         _ => Answer::Refused(2),
     }

@@ -18,7 +18,6 @@ use Rattle.meaning.specs.Job.{has_q, budget_count, job_of}
 use Rattle.meaning.specs.Bytes.{JobRead, at_end, between, is_needed, number_at, numbers_in, read_job, read_section, readable, unreadable, with_section}
 use Rattle.meaning.proofs.Budgets.{same_budgets, some_budget, two_budgets}
 use Rattle.meaning.proofs.Numbers.{between_long, between_number, numbers_at, goes_on, numbers_long, section_found, stops}
-use Rattle.numbers.specs.TwoSlices.{job_from, list_from}
 use Rattle.requests.specs.declared.Parts.{Parts}
 use Rattle.requests.specs.declared.Request.{Request}
 use Rattle.requests.specs.declared.Request.TheVariants.{Read, Broken}
@@ -177,7 +176,7 @@ module _ (b : List ℕ) where
                     values = record { start = values; end = p₄ };
                     copies = record { start = copies; end = p₅ };
                   })
-              unfolding at_end if list_from bytes_at
+              unfolding at_end if bytes_at
               parts_read e f g h = record {
                 read =
                     so_far_5
@@ -201,5 +200,5 @@ read_in b e h = rw e at h
 -- the job with the lists that are cut out of the bytes is the one that they are read as
 pub lists_cut : (b : List ℕ) {parts : Parts} {weights values copies : List ℕ} → PartsOf b parts
     → weights ≡ bytes_at b parts.weights → values ≡ bytes_at b parts.values → copies ≡ bytes_at b parts.copies
-    → read_job b ≡ readable (job_from parts.kind (parts.budget ∷ parts.q ∷ []) [] weights [] values [] copies)
+    → read_job b ≡ readable (job_of parts.kind (parts.budget ∷ parts.q ∷ []) [] weights [] values [] copies)
 lists_cut b p weights-are values-are copies-are = rw (weights-are, values-are, copies-are) p.read

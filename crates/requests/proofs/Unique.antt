@@ -4,9 +4,9 @@ use Prim.Native.Nat.{ℕ}
 use mathlib.Core.Path.{◌≡◌, sym, ◌∙◌}
 use mathlib.Core.Bool.{Bool, false}
 use mathlib.Core.List.{List, [], ◌∷◌}
+use Rattle.meaning.specs.Job.{job_of}
 use Rattle.meaning.specs.Bytes.{JobRead, read_job, readable, unreadable}
 use Rattle.meaning.specs.Refusals.{job_refusal}
-use Rattle.numbers.specs.TwoSlices.{job_from}
 use Rattle.rules.specs.declared.Rules.{Rules}
 use Rattle.rules.specs.Ruling.{rules_from}
 use Rattle.requests.specs.declared.Request.{Request}
@@ -16,9 +16,9 @@ use Rattle.requests.specs.Reading.{ReadAs, job_at}
 -- `job_refusal`
 pub job_refusal_unique : (rules : Rules) (budget : ℕ) (weights wbytes values vbytes copies cbytes : List ℕ) (r r' : ℕ)
     → ((kind : ℕ) (needs_sum : Bool)
-    → r ≡ job_refusal (rules_from rules needs_sum) (job_from kind (budget ∷ []) weights wbytes values vbytes copies cbytes) 0)
+    → r ≡ job_refusal (rules_from rules needs_sum) (job_of kind (budget ∷ []) weights wbytes values vbytes copies cbytes) 0)
     → ((kind : ℕ) (needs_sum : Bool)
-    → r' ≡ job_refusal (rules_from rules needs_sum) (job_from kind (budget ∷ []) weights wbytes values vbytes copies cbytes) 0) → r ≡ r'
+    → r' ≡ job_refusal (rules_from rules needs_sum) (job_of kind (budget ∷ []) weights wbytes values vbytes copies cbytes) 0) → r ≡ r'
 job_refusal_unique rules budget weights wbytes values vbytes copies cbytes r r' a b = a 0 false ∙ sym (b 0 false)
 
 -- ---- `read_job` leaves a choice: a list may stand in any part that holds its numbers. What it was read as has none

@@ -3,9 +3,8 @@
 use Rattle.std.specs.Prelude.{◌≡◌, ℕ, ◌≤◌, List, [], ◌∷◌, length}
 use Rattle.meaning.specs.declared.Section.{Section}
 use Rattle.meaning.specs.declared.Section.TheVariants as Finds
-use Rattle.meaning.specs.Job.{Job}
+use Rattle.meaning.specs.Job.{job_of, Job}
 use Rattle.meaning.specs.Bytes.{between, read_job, readable, unreadable}
-use Rattle.numbers.specs.TwoSlices.{job_from}
 use Rattle.requests.specs.declared.Part.{Part}
 use Rattle.requests.specs.declared.Parts.{Parts}
 use Rattle.requests.specs.declared.Request.{Request}
@@ -23,7 +22,7 @@ bytes_at b part = between b part.start part.end
 -- the job whose lists stand in these parts of the bytes
 abbrev pub job_at : List ℕ → Parts → Job
 job_at b parts =
-    job_from parts.kind (parts.budget ∷ parts.q ∷ [])
+    job_of parts.kind (parts.budget ∷ parts.q ∷ [])
     [] (bytes_at b parts.weights) [] (bytes_at b parts.values) [] (bytes_at b parts.copies)
 
 -- it is the one that the bytes are read as

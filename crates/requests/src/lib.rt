@@ -4,16 +4,17 @@
 #![tactic(auto)]
 
 ghost use Rattle.std.specs.Prelude.{[], ◌∷◌, ◌≡◌, ℕ, Bool, ◌&&◌, ltb, leb, eqb};
+ghost use Rattle.meaning.specs.Job.{job_of};
 ghost use Rattle.meaning.specs.Lists.{sum, if};
 ghost use Rattle.meaning.specs.Bounds.{least_q, most_q};
 ghost use Rattle.meaning.specs.Bytes.{numbers_in};
 ghost use Rattle.meaning.specs.Refusals.{ascending_from, numbers_fit, job_refusal};
-ghost use Rattle.numbers.specs.TwoSlices.{list_from, job_from};
 ghost use Rattle.rules.specs.Ruling.{rules_from, rule_from};
 ghost use Rattle.requests.specs.Reading.{ReadAs, Within, broken_of, bytes_at};
 ghost use Rattle.requests.specs.Judging.{EachWithin};
 
 use meaning::{Needed, Section};
+use numbers::Numbers;
 use rules::{Rules, WeightRule};
 
 // ---- refusal 1
@@ -144,8 +145,8 @@ fn bytes_within(bytes: &[u8], low: u32, high: u32) -> bool
 }
 
 // Whether each number of a list is from low to high.
-fn each_within(numbers: &[u32], bytes: &[u8], low: u32, high: u32) -> bool
-    ensures { EachWithin low high (list_from numbers.now bytes.now) result }
+fn each_within(numbers: &Numbers, low: u32, high: u32) -> bool
+    ensures { EachWithin low high numbers.now result }
 {
     let listed = numbers_within(numbers, low, high);
     let packed = bytes_within(bytes, low, high);
@@ -153,14 +154,14 @@ fn each_within(numbers: &[u32], bytes: &[u8], low: u32, high: u32) -> bool
 }
 
 // Whether the numbers of a list are 1 or more and strictly ascending.
-fn ascending(numbers: &[u32], bytes: &[u8]) -> bool
-    ensures { result ≡ ascending_from 1 (list_from numbers.now bytes.now) }
+fn ascending(numbers: &Numbers) -> bool
+    ensures { result ≡ ascending_from 1 numbers.now }
 {
-    let n = numbers::list_length(numbers, bytes);
+    let n = numbers.len();
     let mut least: u64 = 1;
     let mut i = 0;
     while i < n {
-        let x = numbers::item(numbers, bytes, i) as u64;
+        let x = numbers.at(i) as u64;
         if x < least {
             return false;
         }
@@ -171,19 +172,19 @@ fn ascending(numbers: &[u32], bytes: &[u8]) -> bool
 }
 
 // Whether S, the sum of a list, is positive: whether its numbers are not all 0.
-pub fn has_sum(numbers: &[u32], bytes: &[u8]) -> bool
-    ensures { result ≡ ltb 0 (sum (list_from numbers.now bytes.now)) }
+pub fn has_sum(numbers: &Numbers) -> bool
+    ensures { result ≡ ltb 0 (sum numbers.now) }
 {
-    !each_within(numbers, bytes, 0, 0)
+    !each_within(numbers, 0, 0)
 }
 
 // Whether weights keep a rule.
-fn keeps(rule: WeightRule, weights: &[u32], wbytes: &[u8]) -> bool
-    ensures { result ≡ rule_from rule (list_from weights.now wbytes.now) }
+fn keeps(rule: WeightRule, weights: &Numbers) -> bool
+    ensures { result ≡ rule_from rule weights.now }
 {
     match rule {
-        WeightRule::Positive => each_within(weights, wbytes, 1, u32::MAX),
-        WeightRule::Ascending => ascending(weights, wbytes),
+        WeightRule::Positive => each_within(weights, 1, u32::MAX),
+        WeightRule::Ascending => ascending(weights),
         WeightRule::Anything => true,
     }
 }
@@ -214,27 +215,24 @@ fn bounds_fit(rules: Rules, n: usize, budget: u32) -> bool
 // 5: whether every weight, value and copies number keeps its rule.
 fn numbers_fit(
     rules: Rules,
-    weights: &[u32],
-    wbytes: &[u8],
-    values: &[u32],
-    vbytes: &[u8],
-    copies: &[u32],
-    cbytes: &[u8],
+    weights: &Numbers,
+    values: &Numbers,
+    copies: &Numbers,
 ) -> bool
     ensures { (kind budget : ℕ) (needs_sum : Bool) → result ≡ numbers_fit (rules_from rules needs_sum)
-        (job_from kind (budget ∷ []) weights.now wbytes.now
-        values.now vbytes.now copies.now cbytes.now) }
+        (job_of kind (budget ∷ []) weights.now
+        values.now copies.now) }
 {
     let rule = rules.weights;
-    if !keeps(rule, weights, wbytes) {
+    if !keeps(rule, weights) {
         return false;
     }
     let worth = rules::value_bounds(rules);
-    if !each_within(values, vbytes, worth.least, worth.most) {
+    if !each_within(values, worth.least, worth.most) {
         return false;
     }
     let counts = rules::copies_bounds();
-    each_within(copies, cbytes, counts.least, counts.most)
+    each_within(copies, counts.least, counts.most)
 }
 
 // 5, of a kind with a q: whether it is within its bounds.
@@ -249,20 +247,17 @@ pub fn q_fits(q: u32) -> bool
 pub fn job_refusal(
     rules: Rules,
     budget: u32,
-    weights: &[u32],
-    wbytes: &[u8],
-    values: &[u32],
-    vbytes: &[u8],
-    copies: &[u32],
-    cbytes: &[u8],
+    weights: &Numbers,
+    values: &Numbers,
+    copies: &Numbers,
 ) -> u32
     ensures { (kind : ℕ) (needs_sum : Bool) → result ≡ job_refusal (rules_from rules needs_sum)
-        (job_from kind (budget ∷ []) weights.now wbytes.now
-        values.now vbytes.now copies.now cbytes.now) 0 }
+        (job_of kind (budget ∷ []) weights.now
+        values.now copies.now) 0 }
 {
-    let n = numbers::list_length(weights, wbytes);
-    let valued = numbers::list_length(values, vbytes);
-    let copied = numbers::list_length(copies, cbytes);
+    let n = weights.len();
+    let valued = values.len();
+    let copied = copies.len();
     let listed = lists_fit(rules, n, valued, copied);
     let bounded = bounds_fit(rules, n, budget);
     if !listed {
@@ -271,7 +266,7 @@ pub fn job_refusal(
     if !bounded {
         return 4;
     }
-    if !numbers_fit(rules, weights, wbytes, values, vbytes, copies, cbytes) {
+    if !numbers_fit(rules, weights, values, copies) {
         return 5;
     }
     0

@@ -4,11 +4,11 @@ use Rattle.std.specs.Prelude.{◌≡◌, ℕ, ◌+◌, ◌≤◌, ◌<◌, Bool,
 use Rattle.meaning.specs.Lists.{at, sum, up_to, if, tally}
 use Rattle.meaning.specs.Job.{Job, labels}
 use Rattle.meaning.specs.Shares.{start_of, remainder_of, spare_of}
-use Rattle.numbers.specs.TwoSlices.{weights_from}
+use Rattle.numbers.specs.Lists.{weights_from}
 
 -- the job of kind 7 with this budget and these claims
-abbrev pub claims_job : ℕ → List ℕ → List ℕ → Job
-claims_job budget weights wbytes = weights_from 7 (budget ∷ []) weights wbytes
+abbrev pub claims_job : ℕ → List ℕ → Job
+claims_job budget claims = weights_from 7 (budget ∷ []) claims
 
 -- what a border is found by: `claimed` is S, which is positive, and `starts` holds each label's start
 pub record Started (j : Job) (claimed : ℕ) (starts : List ℕ) : Type 0 where

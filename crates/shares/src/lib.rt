@@ -1,5 +1,4 @@
 // Kind 7: the budget shared by claims. Each share starts as its whole part, and the spare units go to the labels at a border or before it.
-// The claims come as numbers or as a part of the job bytes (`list_from`), so they have two slices.
 #![tactic(auto)]
 
 ghost use Rattle.std.specs.Prelude.{◌≡◌, [], ◌∷◌, ◌+◌, ◌/◌, ◌%◌, ◌≤◌, ◌<◌, max, min, length, ltb};
@@ -10,23 +9,24 @@ ghost use Rattle.meaning.specs.Bounds.{most_claims};
 ghost use Rattle.meaning.specs.Shares.{start_of, remainder_of, spare_of, shares_of};
 ghost use Rattle.meaning.specs.Solved.{Unrefused};
 ghost use Rattle.meaning.specs.SolvedIn.{SolvedInPicks};
-ghost use Rattle.numbers.specs.TwoSlices.{list_from, weights_from};
+ghost use Rattle.numbers.specs.Lists.{weights_from};
 ghost use Rattle.shares.specs.Borders.{claims_job, Started, Reaches, Leaves, ahead_of, count_of, gets_of, RunOut};
 
 use meaning::Answer;
+use numbers::Numbers;
 
 // ---- the starts
 
 // S, the sum of the claims.
-fn claims_sum(weights: &[u32], wbytes: &[u8]) -> u64
-    requires { length (list_from weights.now wbytes.now) ≤ most_claims }
-    ensures { result ≡ sum (list_from weights.now wbytes.now) }
+fn claims_sum(weights: &Numbers) -> u64
+    requires { length weights.now ≤ most_claims }
+    ensures { result ≡ sum weights.now }
 {
-    let n = numbers::list_length(weights, wbytes);
+    let n = weights.len();
     let mut sum: u64 = 0;
     let mut i = 0;
     while i < n {
-        sum += numbers::item(weights, wbytes, i) as u64;
+        sum += weights.at(i) as u64;
         i += 1;
     }
     sum
@@ -73,14 +73,13 @@ struct Leavings {
 // Every start into its place. The spare is the budget less each start in turn.
 fn write_starts(
     budget: u32,
-    weights: &[u32],
-    wbytes: &[u8],
+    weights: &Numbers,
     claimed: u64,
     shares: &mut [u32],
 ) -> Leavings
-    requires claimed_value { (claimed ≡ sum (list_from weights.now wbytes.now)) × (0 < claimed) }
-    requires shares_len { length shares.old ≡ length (list_from weights.now wbytes.now) }
-    ensures { Leaves (claims_job budget weights.now wbytes.now)
+    requires claimed_value { (claimed ≡ sum weights.now) × (0 < claimed) }
+    requires shares_len { length shares.old ≡ length weights.now }
+    ensures { Leaves (claims_job budget weights.now)
         claimed shares.new result.spare result.least result.greatest }
 {
     let mut spare = budget;
@@ -88,7 +87,7 @@ fn write_starts(
     let mut greatest: u64 = 0;
     let mut i = 0;
     while i < shares.len() {
-        let claim = numbers::item(weights, wbytes, i);
+        let claim = weights.at(i);
         let product = numbers::wide_product(budget, claim);
         let whole = start(product, claimed);
         let rest = remainder(product, whole, claimed);
@@ -108,17 +107,16 @@ fn write_starts(
 // The remainder of label i, by the start that is kept.
 fn remainder_at(
     budget: u32,
-    weights: &[u32],
-    wbytes: &[u8],
+    weights: &Numbers,
     claimed: u64,
     i: usize,
     start: u32,
 ) -> u64
-    requires claimed_value { (claimed ≡ sum (list_from weights.now wbytes.now)) × (i < length (list_from weights.now wbytes.now)) }
-    requires start_value { start ≡ start_of (claims_job budget weights.now wbytes.now) i }
-    ensures { result ≡ remainder_of (claims_job budget weights.now wbytes.now) i }
+    requires claimed_value { (claimed ≡ sum weights.now) × (i < length weights.now) }
+    requires start_value { start ≡ start_of (claims_job budget weights.now) i }
+    ensures { result ≡ remainder_of (claims_job budget weights.now) i }
 {
-    let claim = numbers::item(weights, wbytes, i);
+    let claim = weights.at(i);
     remainder(numbers::wide_product(budget, claim), start, claimed)
 }
 
@@ -134,19 +132,18 @@ fn ahead(remainder: u64, border: u64) -> bool
 // How many labels stand at a border or before it.
 fn count_ahead(
     budget: u32,
-    weights: &[u32],
-    wbytes: &[u8],
+    weights: &Numbers,
     claimed: u64,
     starts: &[u32],
     border: u64,
 ) -> usize
-    requires { Started (claims_job budget weights.now wbytes.now) claimed starts.now }
-    ensures { result ≡ count_of (claims_job budget weights.now wbytes.now) border }
+    requires { Started (claims_job budget weights.now) claimed starts.now }
+    ensures { result ≡ count_of (claims_job budget weights.now) border }
 {
     let mut count: usize = 0;
     let mut i = 0;
     while i < starts.len() {
-        let rest = remainder_at(budget, weights, wbytes, claimed, i, starts[i]);
+        let rest = remainder_at(budget, weights, claimed, i, starts[i]);
         count += ahead(rest, border) as usize;
         i += 1;
     }
@@ -185,22 +182,21 @@ struct Reach {
 // How far the remainders reach that are not below `low` and below `high`.
 fn reach_between(
     budget: u32,
-    weights: &[u32],
-    wbytes: &[u8],
+    weights: &Numbers,
     claimed: u64,
     starts: &[u32],
     low: u64,
     high: u64,
 ) -> Reach
-    requires { Started (claims_job budget weights.now wbytes.now) claimed starts.now × (low < high) }
-    ensures { Reaches (claims_job budget weights.now wbytes.now)
+    requires { Started (claims_job budget weights.now) claimed starts.now × (low < high) }
+    ensures { Reaches (claims_job budget weights.now)
         (length starts.now) low high result.least result.greatest }
 {
     let mut least = high;
     let mut greatest = low;
     let mut i = 0;
     while i < starts.len() {
-        let rest = remainder_at(budget, weights, wbytes, claimed, i, starts[i]);
+        let rest = remainder_at(budget, weights, claimed, i, starts[i]);
         least = lowered(least, rest, low);
         greatest = raised(greatest, rest, high);
         i += 1;
@@ -219,16 +215,15 @@ struct Border {
 // shows that remainders lie close together: then both ends are moved to the nearest ones.
 fn find_border(
     budget: u32,
-    weights: &[u32],
-    wbytes: &[u8],
+    weights: &Numbers,
     claimed: u64,
     starts: &[u32],
     leavings: Leavings,
 ) -> Border
-    requires leaves { Leaves (claims_job budget weights.now wbytes.now)
+    requires leaves { Leaves (claims_job budget weights.now)
         claimed starts.now leavings.spare leavings.least leavings.greatest }
     requires spare_nonzero { 0 < leavings.spare }
-    ensures { RunOut (claims_job budget weights.now wbytes.now) result.remainder result.left }
+    ensures { RunOut (claims_job budget weights.now) result.remainder result.left }
 {
     let units = leavings.spare as usize;
     let mut low = leavings.least;
@@ -239,13 +234,13 @@ fn find_border(
     let mut close = false;
     while found < units && 1 < high - low {
         if close {
-            let reach = reach_between(budget, weights, wbytes, claimed, starts, low, high);
+            let reach = reach_between(budget, weights, claimed, starts, low, high);
             low = reach.least;
             high = reach.greatest + 1;
             close = false;
         } else {
             let middle = low + (high - low) / 2;
-            let count = count_ahead(budget, weights, wbytes, claimed, starts, middle);
+            let count = count_ahead(budget, weights, claimed, starts, middle);
             if count <= units {
                 close = count == found;
                 high = middle;
@@ -278,22 +273,21 @@ fn gets(remainder: u64, border: u64, seen: usize, left: usize) -> bool
 // takes its place.
 fn give(
     budget: u32,
-    weights: &[u32],
-    wbytes: &[u8],
+    weights: &Numbers,
     claimed: u64,
     shares: &mut [u32],
     border: u64,
     left: usize,
 )
-    requires started { Started (claims_job budget weights.now wbytes.now) claimed shares.old }
-    requires run_out { RunOut (claims_job budget weights.now wbytes.now) border left }
-    ensures { shares.new ≡ shares_of (claims_job budget weights.now wbytes.now) }
+    requires started { Started (claims_job budget weights.now) claimed shares.old }
+    requires run_out { RunOut (claims_job budget weights.now) border left }
+    ensures { shares.new ≡ shares_of (claims_job budget weights.now) }
 {
     let mut seen: usize = 0;
     let mut i = 0;
     while i < shares.len() {
         let start = shares[i];
-        let rest = remainder_at(budget, weights, wbytes, claimed, i, start);
+        let rest = remainder_at(budget, weights, claimed, i, start);
         shares[i] = start + gets(rest, border, seen, left) as u32;
         let next = rest + 1;
         seen += (next == border) as usize;
@@ -304,23 +298,22 @@ fn give(
 // ---- the door
 
 // The shares, one for each label. Gives the spare.
-fn share(budget: u32, weights: &[u32], wbytes: &[u8], shares: &mut [u32]) -> u32
-    requires wbytes_len_bound { (length (list_from weights.now wbytes.now) ≤ most_claims) × (0 < sum (list_from weights.now wbytes.now)) }
-    requires shares_len { length shares.old ≡ length (list_from weights.now wbytes.now) }
-    ensures { (shares.new ≡ shares_of (claims_job budget weights.now wbytes.now))
-        × (result ≡ spare_of (claims_job budget weights.now wbytes.now)) }
+fn share(budget: u32, weights: &Numbers, shares: &mut [u32]) -> u32
+    requires weights_len_bound { (length weights.now ≤ most_claims) × (0 < sum weights.now) }
+    requires shares_len { length shares.old ≡ length weights.now }
+    ensures { (shares.new ≡ shares_of (claims_job budget weights.now))
+        × (result ≡ spare_of (claims_job budget weights.now)) }
 {
-    let claimed = claims_sum(weights, wbytes);
-    let leavings = write_starts(budget, weights, wbytes, claimed, shares);
+    let claimed = claims_sum(weights);
+    let leavings = write_starts(budget, weights, claimed, shares);
     let spare = leavings.spare;
     if spare == 0 {
         return 0;
     }
-    let border = find_border(budget, weights, wbytes, claimed, shares, leavings);
+    let border = find_border(budget, weights, claimed, shares, leavings);
     give(
         budget,
         weights,
-        wbytes,
         claimed,
         shares,
         border.remainder,
@@ -330,12 +323,12 @@ fn share(budget: u32, weights: &[u32], wbytes: &[u8], shares: &mut [u32]) -> u32
 }
 
 // Kind 7: the shares and the spare of a job that no refusal meets.
-pub fn solve(budget: u32, weights: &[u32], wbytes: &[u8], picks: &mut [u32]) -> Answer
-    requires { Unrefused sharing (weights_from 7 (budget ∷ []) weights.now wbytes.now) (lent_of [] [] picks.old) }
-    ensures { SolvedInPicks (weights_from 7 (budget ∷ []) weights.now wbytes.now) picks.old result
+pub fn solve(budget: u32, weights: &Numbers, picks: &mut [u32]) -> Answer
+    requires { Unrefused sharing (weights_from 7 (budget ∷ []) weights.now) (lent_of [] [] picks.old) }
+    ensures { SolvedInPicks (weights_from 7 (budget ∷ []) weights.now) picks.old result
         picks.new }
 {
-    let n = numbers::list_length(weights, wbytes);
-    let spare = share(budget, weights, wbytes, &mut picks[..n]);
+    let n = weights.len();
+    let spare = share(budget, weights, &mut picks[..n]);
     Answer::Shares(spare)
 }

@@ -1,6 +1,5 @@
 // Kind 9: a stated share of the best. Values are cut by a common divisor; cell t of a row is the least weight for total t of cut values, and the
 // picks are read off by going back through the rows.
-// A list comes as numbers or as a part of the job bytes (`list_from`), so each has two slices.
 #![tactic(auto)]
 
 ghost use Rattle.std.specs.Prelude.{◌≡◌, [], ℕ, ◌+◌, ◌-◌, ◌*◌, ◌/◌, ◌≤◌, ◌<◌, max, leb, length};
@@ -13,12 +12,13 @@ ghost use Rattle.meaning.specs.Refusals.{rules_of, job_refusal};
 ghost use Rattle.meaning.specs.Cuts.{that_fit, greatest_of, divisor, cut_by, cut_sum, stated_cells};
 ghost use Rattle.meaning.specs.Solved.{Unrefused};
 ghost use Rattle.meaning.specs.SolvedIn.{SolvedInCells};
-ghost use Rattle.numbers.specs.TwoSlices.{list_from, stated_from};
+ghost use Rattle.numbers.specs.Lists.{stated_from};
 ghost use Rattle.rows.specs.Rows.{Stored};
 ghost use Rattle.stated.specs.LeastWeights.{lighter, NextWeights, LabelAdded, row_of, cell_of, Roomy, Filled};
 ghost use Rattle.stated.specs.ReadOff.{Valued, Highest, apart, TracedBack, ReadOff};
 
 use meaning::Answer;
+use numbers::Numbers;
 
 // ---- the divisor, and what it leaves of the values
 
@@ -40,16 +40,16 @@ fn if_light(x: u32, w: u32, budget: u32) -> u32
 }
 
 // How many labels remain.
-fn count_remaining(budget: u32, weights: &[u32], wbytes: &[u8]) -> u32
-    requires { length (list_from weights.now wbytes.now) ≤ most_labels }
-    ensures { (result ≡ row_of budget (list_from weights.now wbytes.now)
-        (length (list_from weights.now wbytes.now))) × (result ≤ most_labels) }
+fn count_remaining(budget: u32, weights: &Numbers) -> u32
+    requires { length weights.now ≤ most_labels }
+    ensures { (result ≡ row_of budget weights.now
+        (length weights.now)) × (result ≤ most_labels) }
 {
-    let n = numbers::list_length(weights, wbytes);
+    let n = weights.len();
     let mut m = 0;
     let mut i = 0;
     while i < n {
-        let w = numbers::item(weights, wbytes, i);
+        let w = weights.at(i);
         m += if_light(1, w, budget);
         i += 1;
     }
@@ -57,17 +57,17 @@ fn count_remaining(budget: u32, weights: &[u32], wbytes: &[u8]) -> u32
 }
 
 // The greatest value of those that remain.
-fn greatest_value(budget: u32, weights: &[u32], wbytes: &[u8], values: &[u32], vbytes: &[u8]) -> u32
-    requires { length (list_from values.now vbytes.now) ≡ length (list_from weights.now wbytes.now) }
-    ensures { result ≡ greatest_of (that_fit budget (list_from weights.now wbytes.now)
-        (list_from values.now vbytes.now)) }
+fn greatest_value(budget: u32, weights: &Numbers, values: &Numbers) -> u32
+    requires { length values.now ≡ length weights.now }
+    ensures { result ≡ greatest_of (that_fit budget weights.now
+        values.now) }
 {
-    let n = numbers::list_length(weights, wbytes);
+    let n = weights.len();
     let mut p = 0;
     let mut i = 0;
     while i < n {
-        let w = numbers::item(weights, wbytes, i);
-        let v = numbers::item(values, vbytes, i);
+        let w = weights.at(i);
+        let v = values.at(i);
         p = greater(p, if_light(v, w, budget));
         i += 1;
     }
@@ -90,21 +90,19 @@ fn divisor_of(p: u32, m: u32, q: u32) -> u32
 fn cut_sum(
     budget: u32,
     divisor: u32,
-    weights: &[u32],
-    wbytes: &[u8],
-    values: &[u32],
-    vbytes: &[u8],
+    weights: &Numbers,
+    values: &Numbers,
 ) -> u32
-    requires { (0 < divisor) × Valued (list_from weights.now wbytes.now) (list_from values.now vbytes.now) }
-    ensures { result ≡ sum (that_fit budget (list_from weights.now wbytes.now)
-        (cut_by divisor (list_from values.now vbytes.now))) }
+    requires { (0 < divisor) × Valued weights.now values.now }
+    ensures { result ≡ sum (that_fit budget weights.now
+        (cut_by divisor values.now)) }
 {
-    let n = numbers::list_length(weights, wbytes);
+    let n = weights.len();
     let mut sum = 0;
     let mut i = 0;
     while i < n {
-        let w = numbers::item(weights, wbytes, i);
-        let v = numbers::item(values, vbytes, i);
+        let w = weights.at(i);
+        let v = values.at(i);
         sum += if_light(v / divisor, w, budget);
         i += 1;
     }
@@ -123,21 +121,19 @@ struct Measures {
 fn measure(
     budget: u32,
     q: u32,
-    weights: &[u32],
-    wbytes: &[u8],
-    values: &[u32],
-    vbytes: &[u8],
+    weights: &Numbers,
+    values: &Numbers,
 ) -> Measures
-    requires { (q ≤ most_q) × Valued (list_from weights.now wbytes.now) (list_from values.now vbytes.now) }
+    requires { (q ≤ most_q) × Valued weights.now values.now }
     ensures { (result.divisor
-        ≡ divisor (stated_from budget q weights.now wbytes.now values.now vbytes.now))
-        × ((result.width ≡ cut_sum (stated_from budget q weights.now wbytes.now values.now vbytes.now) + 1)
-        × (result.cells ≡ stated_cells (stated_from budget q weights.now wbytes.now values.now vbytes.now))) }
+        ≡ divisor (stated_from budget q weights.now values.now))
+        × ((result.width ≡ cut_sum (stated_from budget q weights.now values.now) + 1)
+        × (result.cells ≡ stated_cells (stated_from budget q weights.now values.now))) }
 {
-    let m = count_remaining(budget, weights, wbytes);
-    let p = greatest_value(budget, weights, wbytes, values, vbytes);
+    let m = count_remaining(budget, weights);
+    let p = greatest_value(budget, weights, values);
     let divisor = divisor_of(p, m, q);
-    let sum = cut_sum(budget, divisor, weights, wbytes, values, vbytes);
+    let sum = cut_sum(budget, divisor, weights, values);
     let width = sum as usize + 1;
     let cells = (m as usize + 1) * width;
     Measures {
@@ -209,27 +205,25 @@ fn fill(
     budget: u32,
     divisor: u32,
     width: usize,
-    weights: &[u32],
-    wbytes: &[u8],
-    values: &[u32],
-    vbytes: &[u8],
+    weights: &Numbers,
+    values: &Numbers,
     cells: &mut [u32],
 )
     requires budget_le_most_budget { (budget ≤ most_budget) × ((0 < divisor)
-        × (length (list_from values.now vbytes.now) ≡ length (list_from weights.now wbytes.now))) }
-    requires roomy { Roomy budget (list_from weights.now wbytes.now) (cut_by divisor (list_from values.now vbytes.now))
+        × (length values.now ≡ length weights.now)) }
+    requires roomy { Roomy budget weights.now (cut_by divisor values.now)
         width (length cells.old) }
-    ensures { Filled budget (list_from weights.now wbytes.now)
-        (cut_by divisor (list_from values.now vbytes.now)) width
-        (length (list_from weights.now wbytes.now)) cells.new }
+    ensures { Filled budget weights.now
+        (cut_by divisor values.now) width
+        (length weights.now) cells.new }
 {
     rows::mark_rest(&mut cells[..width]);
-    let n = numbers::list_length(weights, wbytes);
+    let n = weights.len();
     let mut i = 0;
     let mut from = 0;
     while i < n {
-        let w = numbers::item(weights, wbytes, i);
-        let v = numbers::item(values, vbytes, i);
+        let w = weights.at(i);
+        let v = values.at(i);
         from = add_label(cells, from, width, budget, w, (v / divisor) as usize);
         i += 1;
     }
@@ -272,30 +266,28 @@ fn trace_back(
     budget: u32,
     divisor: u32,
     width: usize,
-    weights: &[u32],
-    wbytes: &[u8],
-    values: &[u32],
-    vbytes: &[u8],
+    weights: &Numbers,
+    values: &Numbers,
     cells: &[u32],
     top: usize,
     picks: &mut [u32],
 )
-    requires divisor_nonzero { (0 < divisor) × ((length (list_from values.now vbytes.now) ≡ length (list_from weights.now wbytes.now))
-        × ((length (list_from weights.now wbytes.now) ≡ length picks.old) × (top < width))) }
-    requires roomy { Roomy budget (list_from weights.now wbytes.now) (cut_by divisor (list_from values.now vbytes.now)) width (length cells.now)
-        × Filled budget (list_from weights.now wbytes.now) (cut_by divisor (list_from values.now vbytes.now)) width
-        (length (list_from weights.now wbytes.now)) cells.now }
-    ensures { TracedBack (cell_of budget (list_from weights.now wbytes.now) width cells.now)
-        (cut_by divisor (list_from values.now vbytes.now))
-        (length (list_from weights.now wbytes.now)) top picks.new }
+    requires divisor_nonzero { (0 < divisor) × ((length values.now ≡ length weights.now)
+        × ((length weights.now ≡ length picks.old) × (top < width))) }
+    requires roomy { Roomy budget weights.now (cut_by divisor values.now) width (length cells.now)
+        × Filled budget weights.now (cut_by divisor values.now) width
+        (length weights.now) cells.now }
+    ensures { TracedBack (cell_of budget weights.now width cells.now)
+        (cut_by divisor values.now)
+        (length weights.now) top picks.new }
 {
     let mut i = picks.len();
     let mut row = cells.len() - width;
     let mut t = top;
     while 0 < i {
         i -= 1;
-        let w = numbers::item(weights, wbytes, i);
-        let v = numbers::item(values, vbytes, i);
+        let w = weights.at(i);
+        let v = values.at(i);
         let before = row_before(row, width, budget, w);
         let x = differ(cells[before + t], cells[row + t]);
         picks[i] = x;
@@ -305,15 +297,15 @@ fn trace_back(
 }
 
 // What picks are worth, in the uncut values.
-fn value_of(values: &[u32], vbytes: &[u8], picks: &[u32]) -> u32
-    requires valued { Valued picks.now (list_from values.now vbytes.now) }
+fn value_of(values: &Numbers, picks: &[u32]) -> u32
+    requires valued { Valued picks.now values.now }
     requires by_index { (i : ℕ) → i < length picks.now → at picks.now i ≤ 1 }
-    ensures { result ≡ total (list_from values.now vbytes.now) picks.now }
+    ensures { result ≡ total values.now picks.now }
 {
     let mut value = 0;
     let mut i = 0;
     while i < picks.len() {
-        value += numbers::item(values, vbytes, i) * picks[i];
+        value += values.at(i) * picks[i];
         i += 1;
     }
     value
@@ -324,28 +316,26 @@ fn pack(
     budget: u32,
     divisor: u32,
     width: usize,
-    weights: &[u32],
-    wbytes: &[u8],
-    values: &[u32],
-    vbytes: &[u8],
+    weights: &Numbers,
+    values: &Numbers,
     cells: &mut [u32],
     picks: &mut [u32],
 ) -> Answer
-    requires budget_le_most_budget { (budget ≤ most_budget) × ((0 < divisor) × Valued (list_from weights.now wbytes.now) (list_from values.now vbytes.now)) }
-    requires roomy { Roomy budget (list_from weights.now wbytes.now) (cut_by divisor (list_from values.now vbytes.now)) width (length cells.old)
-        × (length (list_from weights.now wbytes.now) ≡ length picks.old) }
-    ensures { ReadOff budget (list_from weights.now wbytes.now) (list_from values.now vbytes.now)
-        (cut_by divisor (list_from values.now vbytes.now)) width cells.new picks.new result }
+    requires budget_le_most_budget { (budget ≤ most_budget) × ((0 < divisor) × Valued weights.now values.now) }
+    requires roomy { Roomy budget weights.now (cut_by divisor values.now) width (length cells.old)
+        × (length weights.now ≡ length picks.old) }
+    ensures { ReadOff budget weights.now values.now
+        (cut_by divisor values.now) width cells.new picks.new result }
 {
     fill(
-        budget, divisor, width, weights, wbytes, values, vbytes, cells,
+        budget, divisor, width, weights, values, cells,
     );
     let last = cells.len() - width;
     let top = highest(&cells[last..]);
     trace_back(
-        budget, divisor, width, weights, wbytes, values, vbytes, cells, top, picks,
+        budget, divisor, width, weights, values, cells, top, picks,
     );
-    let value = value_of(values, vbytes, picks);
+    let value = value_of(values, picks);
     let weight = cells[last + top];
     Answer::Knapsack { value, weight }
 }
@@ -356,44 +346,38 @@ fn pack(
 pub fn cells_needed(
     budget: u32,
     q: u32,
-    weights: &[u32],
-    wbytes: &[u8],
-    values: &[u32],
-    vbytes: &[u8],
+    weights: &Numbers,
+    values: &Numbers,
 ) -> usize
-    requires { job_refusal (rules_of stated_share) (stated_from budget q weights.now wbytes.now values.now vbytes.now) 0 ≡ 0 }
+    requires { job_refusal (rules_of stated_share) (stated_from budget q weights.now values.now) 0 ≡ 0 }
     ensures { result
-        ≡ stated_cells (stated_from budget q weights.now wbytes.now values.now vbytes.now) }
+        ≡ stated_cells (stated_from budget q weights.now values.now) }
 {
-    measure(budget, q, weights, wbytes, values, vbytes).cells
+    measure(budget, q, weights, values).cells
 }
 
 // Kind 9: the table, and the picks that it leads to.
 pub fn solve(
     budget: u32,
     q: u32,
-    weights: &[u32],
-    wbytes: &[u8],
-    values: &[u32],
-    vbytes: &[u8],
+    weights: &Numbers,
+    values: &Numbers,
     cells: &mut [u32],
     picks: &mut [u32],
 ) -> Answer
-    requires { Unrefused stated_share (stated_from budget q weights.now wbytes.now values.now vbytes.now)
+    requires { Unrefused stated_share (stated_from budget q weights.now values.now)
         (lent_of cells.old [] picks.old) }
-    ensures { SolvedInCells (stated_from budget q weights.now wbytes.now values.now vbytes.now)
+    ensures { SolvedInCells (stated_from budget q weights.now values.now)
         cells.old picks.old result cells.new picks.new }
 {
-    let n = numbers::list_length(weights, wbytes);
-    let measures = measure(budget, q, weights, wbytes, values, vbytes);
+    let n = weights.len();
+    let measures = measure(budget, q, weights, values);
     pack(
         budget,
         measures.divisor,
         measures.width,
         weights,
-        wbytes,
         values,
-        vbytes,
         &mut cells[..measures.cells],
         &mut picks[..n],
     )

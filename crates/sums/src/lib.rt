@@ -1,5 +1,4 @@
 // Kind 4: the totals that some labels weigh exactly, as bits of words. Bit t is set exactly if t is such a total.
-// The weights come as numbers or as a part of the job bytes (`list_from`), so they have two slices.
 #![tactic(auto)]
 
 ghost use Rattle.std.specs.Prelude.{◌≡◌, [], ◌∷◌, ◌+◌, ◌*◌, ◌/◌, ◌≤◌, ◌<◌, length};
@@ -9,10 +8,11 @@ ghost use Rattle.meaning.specs.Lent.{lent_of};
 ghost use Rattle.meaning.specs.Bounds.{most_budget};
 ghost use Rattle.meaning.specs.Solved.{Unrefused};
 ghost use Rattle.meaning.specs.SolvedIn.{SolvedInWords};
-ghost use Rattle.numbers.specs.TwoSlices.{list_from, weights_from};
+ghost use Rattle.numbers.specs.Lists.{weights_from};
 ghost use Rattle.sums.specs.Words.{is_set, Added, Marked, Trimmed, Tabled};
 
 use meaning::Answer;
+use numbers::Numbers;
 
 // ---- the words, label by label
 
@@ -81,16 +81,16 @@ fn add_label(words: &mut [u64], w: u32)
 }
 
 // The words of all labels.
-fn fill(weights: &[u32], wbytes: &[u8], words: &mut [u64])
+fn fill(weights: &Numbers, words: &mut [u64])
     requires { 0 < length words.old }
-    ensures { Marked (list_from weights.now wbytes.now) (length words.old)
-        (length (list_from weights.now wbytes.now)) words.new }
+    ensures { Marked weights.now (length words.old)
+        (length weights.now) words.new }
 {
     rows::first_alone(words);
-    let n = numbers::list_length(weights, wbytes);
+    let n = weights.len();
     let mut i = 0;
     while i < n {
-        add_label(words, numbers::item(weights, wbytes, i));
+        add_label(words, weights.at(i));
         i += 1;
     }
 }
@@ -132,12 +132,12 @@ fn count_totals(words: &[u64]) -> u32
 // ---- the door
 
 // The words and the answer, on just the words that are needed.
-fn table(budget: u32, weights: &[u32], wbytes: &[u8], words: &mut [u64]) -> Answer
+fn table(budget: u32, weights: &Numbers, words: &mut [u64]) -> Answer
     requires { (budget ≤ most_budget) × (length words.old ≡ budget / 64 + 1) }
-    ensures { Tabled (weights_from 4 (budget ∷ []) weights.now wbytes.now) result words.new }
+    ensures { Tabled (weights_from 4 (budget ∷ []) weights.now) result words.new }
 {
     let last = budget as usize;
-    fill(weights, wbytes, words);
+    fill(weights, words);
     trim(words, last);
     let yes = is_set(words, last);
     let totals = count_totals(words);
@@ -145,11 +145,11 @@ fn table(budget: u32, weights: &[u32], wbytes: &[u8], words: &mut [u64]) -> Answ
 }
 
 // Kind 4: the words, yes or no, and the number of totals of a job that no refusal meets.
-pub fn solve(budget: u32, weights: &[u32], wbytes: &[u8], words: &mut [u64]) -> Answer
-    requires { Unrefused subset_sums (weights_from 4 (budget ∷ []) weights.now wbytes.now) (lent_of [] words.old []) }
-    ensures { SolvedInWords (weights_from 4 (budget ∷ []) weights.now wbytes.now)
+pub fn solve(budget: u32, weights: &Numbers, words: &mut [u64]) -> Answer
+    requires { Unrefused subset_sums (weights_from 4 (budget ∷ []) weights.now) (lent_of [] words.old []) }
+    ensures { SolvedInWords (weights_from 4 (budget ∷ []) weights.now)
         words.old result words.new }
 {
     let needed = (budget / 64 + 1) as usize;
-    table(budget, weights, wbytes, &mut words[..needed])
+    table(budget, weights, &mut words[..needed])
 }

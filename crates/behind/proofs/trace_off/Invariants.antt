@@ -4,7 +4,6 @@ use Prim.Native.Nat.{◌-◌, ◌<◌}
 use lib.ListN.{length}
 use Rattle.meaning.specs.Lists.{at}
 use Rattle.meaning.specs.Cells.{no_way}
-use Rattle.numbers.specs.TwoSlices.{list_from}
 use Rattle.behind.specs.Firsts.{TraceOff}
 use Rattle.behind.proofs.trace_off.Given as goal
 
@@ -12,7 +11,7 @@ abbrev pub invariant-loop-t : goal.invariant-loop-t
 invariant-loop-t l = (l.t < length l.row)
     × (¬ (at l.row l.t ≡ no_way))
     × (length l.picks ≡ length l.initial.picks)
-    × TraceOff (at l.row) (list_from l.weights l.wbytes) (length l.row - 1) l.t l.picks
+    × TraceOff (at l.row) l.weights (length l.row - 1) l.t l.picks
 
 -- the labels that are shown come down, so that there are no more turns than labels
 abbrev pub decreases-loop-t : goal.decreases-loop-t

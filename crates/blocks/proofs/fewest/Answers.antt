@@ -13,7 +13,6 @@ use Rattle.meaning.specs.Job.{Job, job_of, fewest_blocks, labels}
 use Rattle.meaning.specs.Lent.{lent_of, room_by, room_of}
 use Rattle.meaning.specs.Refusals.{rules_of}
 use Rattle.meaning.proofs.SolvedIn.{kept}
-use Rattle.numbers.specs.TwoSlices.{list_from}
 use Rattle.rows.proofs.Parts.{front_part, front_room, front_last}
 use Rattle.blocks.specs.Sizes.{Bounded, FewestGrown, TraceDown}
 use Rattle.blocks.proofs.BlocksDoor.{bounded, no_blocks, blocks_laid}
@@ -21,20 +20,20 @@ use Rattle.blocks.proofs.fewest.Goals as goal
 
 -- and the first picks are one for each size
 picks_long : (c : goal.After-trace_down-arg-1) →
-    let sizes : List ℕ = list_from c.args.weights.now c.args.wbytes.now in
-    length (take c.list_length-n.result c.args.picks.now) ≡ length (sizes)
+    let sizes : List ℕ = c.args.weights.now in
+    length (take c.len-n.result c.args.picks.now) ≡ length (sizes)
 unfolding job_of labels lent_of room_by room_of rules_of
 picks_long c =
-    let sizes : List ℕ = list_from c.args.weights.now c.args.wbytes.now in
-    let counted : c.list_length-n.result ≡ length (sizes) = c.list_length-n.ensures in
+    let sizes : List ℕ = c.args.weights.now in
+    let counted : c.len-n.result ≡ length (sizes) = c.len-n.ensures in
     let job : Job = job_of 5 (c.args.budget ∷ []) sizes [] [] in
     let picks_room : length sizes ≤ length c.args.picks.now = (kept fewest_blocks job (lent_of c.args.cells.now [] c.args.picks.now) c.requires).picks_room in
-    length-take-le c.list_length-n.result c.args.picks.now (omega (arith, counted, (picks_room))) ∙ counted
+    length-take-le c.len-n.result c.args.picks.now (omega (arith, counted, (picks_room))) ∙ counted
 
 pub slice_bounds-fill_fewest-end : goal.slice_bounds-fill_fewest-end
 unfolding job_of labels lent_of room_by room_of rules_of
 slice_bounds-fill_fewest-end c =
-    let sizes : List ℕ = list_from c.args.weights.now c.args.wbytes.now in
+    let sizes : List ℕ = c.args.weights.now in
     let job : Job = job_of 5 (c.args.budget ∷ []) sizes [] [] in
     let cells_room : c.args.budget + 1 ≤ length c.args.cells.now = (kept fewest_blocks job (lent_of c.args.cells.now [] c.args.picks.now) c.requires).cells_room in
     cells_room
@@ -42,7 +41,7 @@ slice_bounds-fill_fewest-end c =
 pub slice_bounds-fill_fewest-end-2 : goal.slice_bounds-fill_fewest-end-2
 unfolding job_of labels lent_of room_by room_of rules_of
 slice_bounds-fill_fewest-end-2 c =
-    let sizes : List ℕ = list_from c.args.weights.now c.args.wbytes.now in
+    let sizes : List ℕ = c.args.weights.now in
     let job : Job = job_of 5 (c.args.budget ∷ []) sizes [] [] in
     let cells_room : c.args.budget + 1 ≤ length c.args.cells.now = (kept fewest_blocks job (lent_of c.args.cells.now [] c.args.picks.now) c.requires).cells_room in
     let lent : length (take (c.args.budget + 1) c.args.cells.now) ≡ c.args.budget + 1 = length-take-le (c.args.budget + 1) c.args.cells.now cells_room in
@@ -51,7 +50,7 @@ slice_bounds-fill_fewest-end-2 c =
 pub fill_fewest-requires : goal.fill_fewest-requires
 unfolding job_of labels lent_of room_by room_of rules_of
 fill_fewest-requires c =
-    let sizes : List ℕ = list_from c.args.weights.now c.args.wbytes.now in
+    let sizes : List ℕ = c.args.weights.now in
     let job : Job = job_of 5 (c.args.budget ∷ []) sizes [] [] in
     let bounds : Bounded (c.args.budget + 1) sizes = bounded fewest_blocks job (lent_of c.args.cells.now [] c.args.picks.now) refl (kept fewest_blocks job (lent_of c.args.cells.now [] c.args.picks.now) c.requires) in
     let cells_room : c.args.budget + 1 ≤ length c.args.cells.now = (kept fewest_blocks job (lent_of c.args.cells.now [] c.args.picks.now) c.requires).cells_room in
@@ -62,7 +61,7 @@ pub bounds-cells-width : goal.bounds-cells-width
 unfolding job_of labels lent_of room_by room_of rules_of
 bounds-cells-width c =
     let cells : List ℕ = c.fill_fewest.new.row ++ drop (c.args.budget + 1) c.args.cells.now in
-    let sizes : List ℕ = list_from c.args.weights.now c.args.wbytes.now in
+    let sizes : List ℕ = c.args.weights.now in
     let job : Job = job_of 5 (c.args.budget ∷ []) sizes [] [] in
     let cells_room : c.args.budget + 1 ≤ length c.args.cells.now = (kept fewest_blocks job (lent_of c.args.cells.now [] c.args.picks.now) c.requires).cells_room in
     let lent : length (take (c.args.budget + 1) c.args.cells.now) ≡ c.args.budget + 1 = length-take-le (c.args.budget + 1) c.args.cells.now cells_room in
@@ -73,7 +72,7 @@ bounds-cells-width c =
 pub returns-then-is_marked : goal.returns-then-is_marked
 unfolding job_of labels lent_of room_by room_of rules_of
 returns-then-is_marked c =
-    let sizes : List ℕ = list_from c.args.weights.now c.args.wbytes.now in
+    let sizes : List ℕ = c.args.weights.now in
     let job : Job = job_of 5 (c.args.budget ∷ []) sizes [] [] in
     let bounds : Bounded (c.args.budget + 1) sizes = bounded fewest_blocks job (lent_of c.args.cells.now [] c.args.picks.now) refl (kept fewest_blocks job (lent_of c.args.cells.now [] c.args.picks.now) c.requires) in
     let cells : List ℕ = c.fill_fewest.new.row ++ drop (c.args.budget + 1) c.args.cells.now in
@@ -89,7 +88,7 @@ pub slice_bounds-trace_down-end : goal.slice_bounds-trace_down-end
 unfolding job_of labels lent_of room_by room_of rules_of
 slice_bounds-trace_down-end c =
     let cells : List ℕ = c.fill_fewest.new.row ++ drop (c.args.budget + 1) c.args.cells.now in
-    let sizes : List ℕ = list_from c.args.weights.now c.args.wbytes.now in
+    let sizes : List ℕ = c.args.weights.now in
     let job : Job = job_of 5 (c.args.budget ∷ []) sizes [] [] in
     let cells_room : c.args.budget + 1 ≤ length c.args.cells.now = (kept fewest_blocks job (lent_of c.args.cells.now [] c.args.picks.now) c.requires).cells_room in
     let lent : length (take (c.args.budget + 1) c.args.cells.now) ≡ c.args.budget + 1 = length-take-le (c.args.budget + 1) c.args.cells.now cells_room in
@@ -101,7 +100,7 @@ pub slice_bounds-trace_down-end-2 : goal.slice_bounds-trace_down-end-2
 unfolding job_of labels lent_of room_by room_of rules_of
 slice_bounds-trace_down-end-2 c =
     let cells : List ℕ = c.fill_fewest.new.row ++ drop (c.args.budget + 1) c.args.cells.now in
-    let sizes : List ℕ = list_from c.args.weights.now c.args.wbytes.now in
+    let sizes : List ℕ = c.args.weights.now in
     let job : Job = job_of 5 (c.args.budget ∷ []) sizes [] [] in
     let cells_room : c.args.budget + 1 ≤ length c.args.cells.now = (kept fewest_blocks job (lent_of c.args.cells.now [] c.args.picks.now) c.requires).cells_room in
     let lent : length (take (c.args.budget + 1) c.args.cells.now) ≡ c.args.budget + 1 = length-take-le (c.args.budget + 1) c.args.cells.now cells_room in
@@ -112,22 +111,22 @@ slice_bounds-trace_down-end-2 c =
 pub slice_bounds-trace_down-end-3 : goal.slice_bounds-trace_down-end-3
 unfolding job_of labels lent_of room_by room_of rules_of
 slice_bounds-trace_down-end-3 c =
-    let sizes : List ℕ = list_from c.args.weights.now c.args.wbytes.now in
-    let counted : c.list_length-n.result ≡ length sizes = c.list_length-n.ensures in
+    let sizes : List ℕ = c.args.weights.now in
+    let counted : c.len-n.result ≡ length sizes = c.len-n.ensures in
     let job : Job = job_of 5 (c.args.budget ∷ []) sizes [] [] in
     let picks_room : length sizes ≤ length c.args.picks.now = (kept fewest_blocks job (lent_of c.args.cells.now [] c.args.picks.now) c.requires).picks_room in
     omega (arith, counted, picks_room)
 
 pub slice_bounds-trace_down-end-4 : goal.slice_bounds-trace_down-end-4
 slice_bounds-trace_down-end-4 c =
-    let sizes : List ℕ = list_from c.args.weights.now c.args.wbytes.now in
-    let counted : c.list_length-n.result ≡ length sizes = c.list_length-n.ensures in
+    let sizes : List ℕ = c.args.weights.now in
+    let counted : c.len-n.result ≡ length sizes = c.len-n.ensures in
     counted ∙ sym (picks_long c)
 
 pub trace_down-requires : goal.trace_down-requires
 unfolding job_of labels lent_of room_by room_of rules_of
 trace_down-requires c =
-    let sizes : List ℕ = list_from c.args.weights.now c.args.wbytes.now in
+    let sizes : List ℕ = c.args.weights.now in
     let job : Job = job_of 5 (c.args.budget ∷ []) sizes [] [] in
     let bounds : Bounded (c.args.budget + 1) sizes = bounded fewest_blocks job (lent_of c.args.cells.now [] c.args.picks.now) refl (kept fewest_blocks job (lent_of c.args.cells.now [] c.args.picks.now) c.requires) in
     let cells : List ℕ = c.fill_fewest.new.row ++ drop (c.args.budget + 1) c.args.cells.now in
@@ -135,15 +134,15 @@ trace_down-requires c =
     let lent : length (take (c.args.budget + 1) c.args.cells.now) ≡ c.args.budget + 1 = length-take-le (c.args.budget + 1) c.args.cells.now cells_room in
     let row_long : length c.fill_fewest.new.row ≡ c.args.budget + 1 = c.fill_fewest.auto.row ∙ lent in
     let row_front : take (c.args.budget + 1) cells ≡ c.fill_fewest.new.row = front_part c.fill_fewest.new.row c.args.cells.now (c.args.budget + 1) row_long in
-    rw (row_front, row_long) record { bounded = bounds; wbytes_len = sym (picks_long c) }
+    rw (row_front, row_long) record { bounded = bounds; weights_len = sym (picks_long c) }
 
 pub returns : goal.returns
 unfolding job_of labels lent_of room_by room_of rules_of
 returns c =
-    let sizes : List ℕ = list_from c.args.weights.now c.args.wbytes.now in
+    let sizes : List ℕ = c.args.weights.now in
     let job : Job = job_of 5 (c.args.budget ∷ []) sizes [] [] in
     let bounds : Bounded (c.args.budget + 1) sizes = bounded fewest_blocks job (lent_of c.args.cells.now [] c.args.picks.now) refl (kept fewest_blocks job (lent_of c.args.cells.now [] c.args.picks.now) c.requires) in
-    let counted : c.list_length-n.result ≡ length sizes = c.list_length-n.ensures in
+    let counted : c.len-n.result ≡ length sizes = c.len-n.ensures in
     let cells : List ℕ = c.fill_fewest.new.row ++ drop (c.args.budget + 1) c.args.cells.now in
     let cells_room : c.args.budget + 1 ≤ length c.args.cells.now = (kept fewest_blocks job (lent_of c.args.cells.now [] c.args.picks.now) c.requires).cells_room in
     let lent : length (take (c.args.budget + 1) c.args.cells.now) ≡ c.args.budget + 1 = length-take-le (c.args.budget + 1) c.args.cells.now cells_room in

@@ -2,13 +2,12 @@
 use Prim.Native.Nat.{◌-◌}
 use lib.ListN.{length}
 use Rattle.meaning.specs.Cells.{no_way}
-use Rattle.numbers.specs.TwoSlices.{list_from}
 use Rattle.blocks.specs.Sizes.{fewer_of}
 use Rattle.blocks.proofs.Growing.{Growing}
 use Rattle.blocks.proofs.fill_fewest.Given as goal
 
 abbrev pub invariant-loop-i : goal.invariant-loop-i
-invariant-loop-i l = Growing fewer_of 0 no_way (list_from l.weights l.wbytes) l.n (length l.initial.row) l.i l.row
+invariant-loop-i l = Growing fewer_of 0 no_way l.weights l.n (length l.initial.row) l.i l.row
 
 abbrev pub decreases-loop-i : goal.decreases-loop-i
 decreases-loop-i l = l.n - l.i

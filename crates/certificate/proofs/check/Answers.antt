@@ -6,7 +6,6 @@ use Rattle.meaning.specs.Job.{Job, job_of}
 use Rattle.meaning.specs.Bytes.{JobRead, readable}
 use Rattle.meaning.specs.Certificates.{HasCertificates, verdict_of, verdict_on_job}
 use Rattle.meaning.proofs.Budgets.{verdict_ignores}
-use Rattle.numbers.specs.TwoSlices.{job_from}
 use Rattle.requests.specs.Reading.{PartsOf}
 use Rattle.requests.proofs.Reading.{lists_cut, unread, read_in}
 use Rattle.verdicts.specs.Asked.{knapsack_in}
@@ -36,7 +35,7 @@ bytes_at-copies-requires c =
 pub returns-then-refused-ne0 : goal.returns-then-refused-ne0
 unfolding verdict_of
 returns-then-refused-ne0 c =
-    let job : Job = job_from (c.in-Read.parts).kind ((c.in-Read.parts).budget ∷ [])
+    let job : Job = job_of (c.in-Read.parts).kind ((c.in-Read.parts).budget ∷ [])
     [] c.bytes_at-weights.result.now [] c.bytes_at-values.result.now [] c.bytes_at-copies.result.now in
     let parts_in : PartsOf c.args.job.now c.in-Read.parts = read_in _ c.in-Read.is c.read_job-request.ensures in
     let judged : (cert_b : List ℕ) → verdict_of c.args.job.now cert_b ≡ verdict_on_job (readable job) cert_b = λ cert_b. ap (λ (r : JobRead). verdict_on_job r cert_b)
@@ -47,7 +46,7 @@ returns-then-refused-ne0 c =
 pub judge-requires : goal.judge-requires
 unfolding job_of
 judge-requires c =
-    let job : Job = job_from (c.in-Read.parts).kind ((c.in-Read.parts).budget ∷ [])
+    let job : Job = job_of (c.in-Read.parts).kind ((c.in-Read.parts).budget ∷ [])
     [] c.bytes_at-weights.result.now [] c.bytes_at-values.result.now [] c.bytes_at-copies.result.now in
     let has : let j = job in HasCertificates (knapsack_in j.kind_number) j = not_refused job (sym c.job_refusal-refused.ensures ∙ c.if-refused-ne0.false) in
     has
@@ -55,7 +54,7 @@ judge-requires c =
 pub returns : goal.returns
 unfolding job_of verdict_of
 returns c =
-    let job : Job = job_from (c.in-Read.parts).kind ((c.in-Read.parts).budget ∷ [])
+    let job : Job = job_of (c.in-Read.parts).kind ((c.in-Read.parts).budget ∷ [])
     [] c.bytes_at-weights.result.now [] c.bytes_at-values.result.now [] c.bytes_at-copies.result.now in
     let has : let j = job in HasCertificates (knapsack_in j.kind_number) j = not_refused job (sym c.job_refusal-refused.ensures ∙ c.if-refused-ne0.false) in
     let parts_in : PartsOf c.args.job.now c.in-Read.parts = read_in _ c.in-Read.is c.read_job-request.ensures in

@@ -9,7 +9,6 @@ use Rattle.meaning.specs.Job.{Job, Knapsack, job_of, labels}
 use Rattle.meaning.specs.Bytes.{between, numbers_in, read_section}
 use Rattle.meaning.specs.Certificates.{certificate_cells, verdict_on_cells, verdict_on_certificate}
 use Rattle.meaning.proofs.Numbers.{numbers_long}
-use Rattle.numbers.specs.TwoSlices.{list_from}
 use Rattle.requests.proofs.Reading.{SectionNumbers, Whole}
 use Rattle.verdicts.specs.Asked.{bytes_job, knapsack_in}
 use Rattle.certificate.proofs.Counting.{few_labels, room_asked, cells_needed, few_cells}
@@ -21,14 +20,14 @@ unfolding job_of
 knapsack_room-needed-requires c = let asked = room_asked c.requires in (omega (arith, asked.0), omega (arith, asked.1))
 
 pub overflow_cast-labels : goal.overflow_cast-labels
-unfolding job_of labels list_from
+unfolding job_of labels
 overflow_cast-labels c =
     let job : Job = bytes_job c.args.kind c.args.budget c.args.weights.now c.args.values.now c.args.copies.now in
     let labels_are : labels job ≡ length c.args.weights.now / 4 = numbers_long c.args.weights.now in
     omega (arith, few_labels c.requires _ labels_are)
 
 pub returns-in_default : goal.returns-in_default
-unfolding job_of labels list_from
+unfolding job_of labels
 returns-in_default c =
     let job : Job = bytes_job c.args.kind c.args.budget c.args.weights.now c.args.values.now c.args.copies.now in
     let labels_are : labels job ≡ length c.args.weights.now / 4 = numbers_long c.args.weights.now in
@@ -37,14 +36,14 @@ returns-in_default c =
     c.refused_with.ensures ∙ picks_broken _ _ _ c.in_default.field-0 (picks_asked ∙ c.in_default.is)
 
 pub overflow_cast-many : goal.overflow_cast-many
-unfolding job_of labels list_from
+unfolding job_of labels
 overflow_cast-many c =
     let job : Job = bytes_job c.args.kind c.args.budget c.args.weights.now c.args.values.now c.args.copies.now in
     let labels_are : labels job ≡ length c.args.weights.now / 4 = numbers_long c.args.weights.now in
     omega (arith, few_cells c.requires _ labels_are _ c.knapsack_room-needed.ensures)
 
 pub returns-in_default-second : goal.returns-in_default-second
-unfolding job_of labels list_from
+unfolding job_of labels
 returns-in_default-second c =
     let job : Job = bytes_job c.args.kind c.args.budget c.args.weights.now c.args.values.now c.args.copies.now in
     let knapsack : Knapsack = knapsack_in c.args.kind in
@@ -60,7 +59,7 @@ returns-in_default-second c =
     c.refused_with-in_default-second.ensures ∙ cells_broken _ _ _ _ _ _ picks_read c.in_default-second.field-0 (cells_asked ∙ c.in_default-second.is)
 
 pub returns-then-cells_end-certificate : goal.returns-then-cells_end-certificate
-unfolding job_of labels list_from
+unfolding job_of labels
 returns-then-cells_end-certificate c =
     let job : Job = bytes_job c.args.kind c.args.budget c.args.weights.now c.args.values.now c.args.copies.now in
     let knapsack : Knapsack = knapsack_in c.args.kind in
@@ -77,7 +76,7 @@ returns-then-cells_end-certificate c =
     c.refused_with-then-cells_end-certificate.ensures ∙ left_over _ _ _ _ _ _ picks_read _ _ _ cells_read c.if-cells_end-certificate.true
 
 pub slice_bounds-judge_cells-count : goal.slice_bounds-judge_cells-count
-unfolding job_of labels list_from
+unfolding job_of labels
 slice_bounds-judge_cells-count c =
     let job : Job = bytes_job c.args.kind c.args.budget c.args.weights.now c.args.values.now c.args.copies.now in
     let labels_are : labels job ≡ length c.args.weights.now / 4 = numbers_long c.args.weights.now in
@@ -87,7 +86,7 @@ slice_bounds-judge_cells-count c =
     (held _ _ _ _ _ _ picks_read).part_within.ordered
 
 pub slice_bounds-judge_cells-start : goal.slice_bounds-judge_cells-start
-unfolding job_of labels list_from
+unfolding job_of labels
 slice_bounds-judge_cells-start c =
     let job : Job = bytes_job c.args.kind c.args.budget c.args.weights.now c.args.values.now c.args.copies.now in
     let labels_are : labels job ≡ length c.args.weights.now / 4 = numbers_long c.args.weights.now in
@@ -97,7 +96,7 @@ slice_bounds-judge_cells-start c =
     (held _ _ _ _ _ _ picks_read).part_within.ordered
 
 pub slice_bounds-judge_cells-end : goal.slice_bounds-judge_cells-end
-unfolding job_of labels list_from
+unfolding job_of labels
 slice_bounds-judge_cells-end c =
     let job : Job = bytes_job c.args.kind c.args.budget c.args.weights.now c.args.values.now c.args.copies.now in
     let labels_are : labels job ≡ length c.args.weights.now / 4 = numbers_long c.args.weights.now in
@@ -107,7 +106,7 @@ slice_bounds-judge_cells-end c =
     (held _ _ _ _ _ _ picks_read).part_within.inside
 
 pub slice_bounds-judge_cells-count-2 : goal.slice_bounds-judge_cells-count-2
-unfolding job_of labels list_from
+unfolding job_of labels
 slice_bounds-judge_cells-count-2 c =
     let job : Job = bytes_job c.args.kind c.args.budget c.args.weights.now c.args.values.now c.args.copies.now in
     let knapsack : Knapsack = knapsack_in c.args.kind in
@@ -121,7 +120,7 @@ slice_bounds-judge_cells-count-2 c =
     (held _ _ _ _ _ _ cells_read).part_within.ordered
 
 pub slice_bounds-judge_cells-start-2 : goal.slice_bounds-judge_cells-start-2
-unfolding job_of labels list_from
+unfolding job_of labels
 slice_bounds-judge_cells-start-2 c =
     let job : Job = bytes_job c.args.kind c.args.budget c.args.weights.now c.args.values.now c.args.copies.now in
     let knapsack : Knapsack = knapsack_in c.args.kind in
@@ -135,7 +134,7 @@ slice_bounds-judge_cells-start-2 c =
     (held _ _ _ _ _ _ cells_read).part_within.ordered
 
 pub slice_bounds-judge_cells-end-2 : goal.slice_bounds-judge_cells-end-2
-unfolding job_of labels list_from
+unfolding job_of labels
 slice_bounds-judge_cells-end-2 c =
     let job : Job = bytes_job c.args.kind c.args.budget c.args.weights.now c.args.values.now c.args.copies.now in
     let knapsack : Knapsack = knapsack_in c.args.kind in
@@ -149,7 +148,7 @@ slice_bounds-judge_cells-end-2 c =
     (held _ _ _ _ _ _ cells_read).part_within.inside
 
 pub judge_cells-requires : goal.judge_cells-requires
-unfolding between job_of labels list_from
+unfolding between job_of labels
 judge_cells-requires c =
     let job : Job = bytes_job c.args.kind c.args.budget c.args.weights.now c.args.values.now c.args.copies.now in
     let knapsack : Knapsack = knapsack_in c.args.kind in
@@ -168,7 +167,7 @@ judge_cells-requires c =
     record { cells_read = record { has_certificates = c.requires; long = cells_held.long }; picks_len = picks_held.long }
 
 pub returns : goal.returns
-unfolding between job_of labels list_from
+unfolding between job_of labels
 returns c =
     let job : Job = bytes_job c.args.kind c.args.budget c.args.weights.now c.args.values.now c.args.copies.now in
     let knapsack : Knapsack = knapsack_in c.args.kind in

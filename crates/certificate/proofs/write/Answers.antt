@@ -3,7 +3,6 @@ use mathlib.Core.List.{[], ◌∷◌}
 use mathlib.Core.Path.{subst}
 use Rattle.meaning.specs.Job.{Job}
 use Rattle.meaning.specs.Writer.{Writes}
-use Rattle.numbers.proofs.TwoSlices.{job_of_lists}
 use Rattle.certificate.proofs.write.Goals as goal
 
 pub returns : goal.returns

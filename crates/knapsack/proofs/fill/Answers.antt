@@ -5,7 +5,6 @@ use native.Mathlib.Nat.{zero-mul}
 use native.Mathlib.Omega.{arith}
 use mathlib.Core.List.{List}
 use lib.ListN.{length}
-use Rattle.numbers.specs.TwoSlices.{list_from}
 use Rattle.knapsack.specs.Tables.{limit_of}
 use Rattle.rows.proofs.AnyRows.{one_row_more}
 use Rattle.knapsack.proofs.FullRows.{rows_within, filled_none, filled_more, filled_capped}
@@ -13,14 +12,14 @@ use Rattle.knapsack.proofs.fill.Goals as goal
 
 pub set_all-requires : goal.set_all-requires
 set_all-requires c =
-    let weights : List ℕ = list_from c.args.weights.now c.args.wbytes.now in
+    let weights : List ℕ = c.args.weights.now in
     omega (arith, one_row_more (length weights) c.args.width, c.requires.width_value)
 
 pub loop-i-init : goal.loop-i-init
 loop-i-init c =
-    let limits : ℕ → ℕ = limit_of c.args.kind (list_from c.args.copies.now c.args.cbytes.now) in
-    let values : List ℕ = list_from c.args.values.now c.args.vbytes.now in
-    let weights : List ℕ = list_from c.args.weights.now c.args.wbytes.now in
+    let limits : ℕ → ℕ = limit_of c.args.kind c.args.copies.now in
+    let values : List ℕ = c.args.values.now in
+    let weights : List ℕ = c.args.weights.now in
     let zeros = c.set_all in
     let a = c.args in (
       omega arith,
@@ -29,35 +28,35 @@ loop-i-init c =
       filled_none weights values limits a.width a.cells.now zeros.new.cells zeros.ensures,
     )
 
-pub item-w-requires : goal.item-w-requires
-item-w-requires c =
-    let weights : List ℕ = list_from c.args.weights.now c.args.wbytes.now in
-    let inside : c.loop-i.i < length weights = omega (arith, c.list_length-n.ensures) in
+pub at-w-requires : goal.at-w-requires
+at-w-requires c =
+    let weights : List ℕ = c.args.weights.now in
+    let inside : c.loop-i.i < length weights = omega (arith, c.len-n.ensures) in
     inside
 
-pub item-v-requires : goal.item-v-requires
-item-v-requires c =
-    let weights : List ℕ = list_from c.args.weights.now c.args.wbytes.now in
-    let inside : c.loop-i.i < length weights = omega (arith, c.list_length-n.ensures) in
+pub at-v-requires : goal.at-v-requires
+at-v-requires c =
+    let weights : List ℕ = c.args.weights.now in
+    let inside : c.loop-i.i < length weights = omega (arith, c.len-n.ensures) in
     rw c.requires.bounded.valued inside
 
 pub allowed-limit-requires : goal.allowed-limit-requires
 allowed-limit-requires c =
-    let weights : List ℕ = list_from c.args.weights.now c.args.wbytes.now in
-    let inside : c.loop-i.i < length weights = omega (arith, c.list_length-n.ensures) in
-    λ other. rw (c.requires.cbytes_len other) inside
+    let weights : List ℕ = c.args.weights.now in
+    let inside : c.loop-i.i < length weights = omega (arith, c.len-n.ensures) in
+    λ other. rw (c.requires.copies_len other) inside
 
 pub next_row-requires : goal.next_row-requires
 next_row-requires c =
-    let weights : List ℕ = list_from c.args.weights.now c.args.wbytes.now in
-    let inside : c.loop-i.i < length weights = omega (arith, c.list_length-n.ensures) in
-    let limits : ℕ → ℕ = limit_of c.args.kind (list_from c.args.copies.now c.args.cbytes.now) in
+    let weights : List ℕ = c.args.weights.now in
+    let inside : c.loop-i.i < length weights = omega (arith, c.len-n.ensures) in
+    let limits : ℕ → ℕ = limit_of c.args.kind c.args.copies.now in
     let long : length c.loop-i.cells ≡ length c.args.cells.now = c.loop-i.invariant.2 ∙ c.set_all.auto.cells in
     let room : let a = c.args in c.loop-i.from + a.width + a.width ≤ length a.cells.now = let n = length weights in
     omega (arith, rows_within c.loop-i.i n c.args.width inside, c.requires.width_value, c.loop-i.invariant.1) in
-    let values : List ℕ = list_from c.args.values.now c.args.vbytes.now in
-    let w = c.item-w.ensures in
-    let v = c.item-v.ensures in
+    let values : List ℕ = c.args.values.now in
+    let w = c.at-w.ensures in
+    let v = c.at-v.ensures in
     let l = c.loop-i in
     let a = c.args in
     let b = c.requires.bounded in record {
@@ -70,21 +69,21 @@ next_row-requires c =
 
 pub overflow_add-from : goal.overflow_add-from
 overflow_add-from c =
-    let weights : List ℕ = list_from c.args.weights.now c.args.wbytes.now in
-    let inside : c.loop-i.i < length weights = omega (arith, c.list_length-n.ensures) in
+    let weights : List ℕ = c.args.weights.now in
+    let inside : c.loop-i.i < length weights = omega (arith, c.len-n.ensures) in
     let room : let a = c.args in c.loop-i.from + a.width + a.width ≤ length a.cells.now = let n = length weights in
     omega (arith, rows_within c.loop-i.i n c.args.width inside, c.requires.width_value, c.loop-i.invariant.1) in
     omega (arith, room, c.well_formed)
 
 pub loop-i-preserved : goal.loop-i-preserved
 loop-i-preserved c =
-    let limits : ℕ → ℕ = limit_of c.args.kind (list_from c.args.copies.now c.args.cbytes.now) in
-    let values : List ℕ = list_from c.args.values.now c.args.vbytes.now in
-    let weights : List ℕ = list_from c.args.weights.now c.args.wbytes.now in
+    let limits : ℕ → ℕ = limit_of c.args.kind c.args.copies.now in
+    let values : List ℕ = c.args.values.now in
+    let weights : List ℕ = c.args.weights.now in
     let row = c.next_row in
     let limit = c.allowed-limit in
-    let v = c.item-v in
-    let w = c.item-w in
+    let v = c.at-v in
+    let w = c.at-w in
     let l = c.loop-i in
     let a = c.args in (
       omega arith,
@@ -96,6 +95,6 @@ loop-i-preserved c =
 
 pub returns : goal.returns
 returns c =
-    let weights : List ℕ = list_from c.args.weights.now c.args.wbytes.now in
-    let all : c.loop-i.i ≡ length weights = omega (arith, c.list_length-n.ensures) in
+    let weights : List ℕ = c.args.weights.now in
+    let all : c.loop-i.i ≡ length weights = omega (arith, c.len-n.ensures) in
     rw (← all) c.loop-i.invariant.3

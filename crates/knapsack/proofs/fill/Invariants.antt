@@ -2,7 +2,6 @@
 use mathlib.Core.Path.{◌≡◌}
 use Prim.Native.Nat.{◌-◌, ◌*◌, ◌≤◌}
 use lib.ListN.{length}
-use Rattle.numbers.specs.TwoSlices.{list_from}
 use Rattle.knapsack.specs.Tables.{limit_of, Filled}
 use Rattle.knapsack.proofs.fill.Given as goal
 
@@ -10,7 +9,7 @@ abbrev pub invariant-loop-i : goal.invariant-loop-i
 invariant-loop-i l = (l.i ≤ l.n)
     × (l.from ≡ l.i * l.width)
     × (length l.cells ≡ length l.initial.cells)
-    × Filled (list_from l.weights l.wbytes) (list_from l.values l.vbytes) (limit_of l.kind (list_from l.copies l.cbytes)) l.width l.i l.cells
+    × Filled l.weights l.values (limit_of l.kind l.copies) l.width l.i l.cells
 
 abbrev pub decreases-loop-i : goal.decreases-loop-i
 decreases-loop-i l = l.n - l.i

@@ -3,7 +3,6 @@ use mathlib.Core.Path.{◌≡◌}
 use mathlib.Core.List.{[], ◌∷◌}
 use Rattle.meaning.specs.declared.Way.TheVariants.{Full}
 use Rattle.meaning.specs.Job.{job_of, packing, free}
-use Rattle.numbers.specs.TwoSlices.{list_from}
 use Rattle.meaning.specs.Lent.{lent_of}
 use Rattle.meaning.specs.Solved.{UnrefusedBy}
 use Rattle.knapsack.proofs.KnapsackDoor.{any_below, job_free}
@@ -11,20 +10,20 @@ use Rattle.knapsack.proofs.solve.Goals as goal
 
 pub one_row-requires : goal.one_row-requires
 one_row-requires c =
-    let three : ((job_of c.args.kind (c.args.budget ∷ []) (list_from c.args.weights.now c.args.wbytes.now) (list_from c.args.values.now c.args.vbytes.now) (list_from c.args.copies.now c.args.cbytes.now)) ≡ (job_of 3 (c.args.budget ∷ []) (list_from c.args.weights.now c.args.wbytes.now) (list_from c.args.values.now c.args.vbytes.now) [])) × UnrefusedBy Full (packing free) (job_of 3 (c.args.budget ∷ []) (list_from c.args.weights.now c.args.wbytes.now) (list_from c.args.values.now c.args.vbytes.now) []) (lent_of c.args.cells.now [] c.args.picks.now) = let a = c.args in
-    job_free a.kind a.budget (list_from c.args.weights.now c.args.wbytes.now) (list_from c.args.values.now c.args.vbytes.now) (list_from c.args.copies.now c.args.cbytes.now) a.cells.now a.picks.now c.if-kind-eq3.true c.requires in
+    let three : ((job_of c.args.kind (c.args.budget ∷ []) c.args.weights.now c.args.values.now c.args.copies.now) ≡ (job_of 3 (c.args.budget ∷ []) c.args.weights.now c.args.values.now [])) × UnrefusedBy Full (packing free) (job_of 3 (c.args.budget ∷ []) c.args.weights.now c.args.values.now []) (lent_of c.args.cells.now [] c.args.picks.now) = let a = c.args in
+    job_free a.kind a.budget c.args.weights.now c.args.values.now c.args.copies.now a.cells.now a.picks.now c.if-kind-eq3.true c.requires in
     three.1
 
 pub returns-then-kind-eq3 : goal.returns-then-kind-eq3
 returns-then-kind-eq3 c =
-    let three : ((job_of c.args.kind (c.args.budget ∷ []) (list_from c.args.weights.now c.args.wbytes.now) (list_from c.args.values.now c.args.vbytes.now) (list_from c.args.copies.now c.args.cbytes.now)) ≡ (job_of 3 (c.args.budget ∷ []) (list_from c.args.weights.now c.args.wbytes.now) (list_from c.args.values.now c.args.vbytes.now) [])) × UnrefusedBy Full (packing free) (job_of 3 (c.args.budget ∷ []) (list_from c.args.weights.now c.args.wbytes.now) (list_from c.args.values.now c.args.vbytes.now) []) (lent_of c.args.cells.now [] c.args.picks.now) = let a = c.args in
-    job_free a.kind a.budget (list_from c.args.weights.now c.args.wbytes.now) (list_from c.args.values.now c.args.vbytes.now) (list_from c.args.copies.now c.args.cbytes.now) a.cells.now a.picks.now c.if-kind-eq3.true c.requires in
+    let three : ((job_of c.args.kind (c.args.budget ∷ []) c.args.weights.now c.args.values.now c.args.copies.now) ≡ (job_of 3 (c.args.budget ∷ []) c.args.weights.now c.args.values.now [])) × UnrefusedBy Full (packing free) (job_of 3 (c.args.budget ∷ []) c.args.weights.now c.args.values.now []) (lent_of c.args.cells.now [] c.args.picks.now) = let a = c.args in
+    job_free a.kind a.budget c.args.weights.now c.args.values.now c.args.copies.now a.cells.now a.picks.now c.if-kind-eq3.true c.requires in
     rw three.0 c.one_row.ensures
 
 pub full_table-requires : goal.full_table-requires
 unfolding job_of
 full_table-requires c =
-    record { let_in = c.requires; kind_bound = any_below (job_of c.args.kind (c.args.budget ∷ []) (list_from c.args.weights.now c.args.wbytes.now) (list_from c.args.values.now c.args.vbytes.now) (list_from c.args.copies.now c.args.cbytes.now)) c.args.cells.now c.args.picks.now c.if-kind-eq3.false c.requires }
+    record { let_in = c.requires; kind_bound = any_below (job_of c.args.kind (c.args.budget ∷ []) c.args.weights.now c.args.values.now c.args.copies.now) c.args.cells.now c.args.picks.now c.if-kind-eq3.false c.requires }
 
 pub returns : goal.returns
 returns c = c.full_table.ensures

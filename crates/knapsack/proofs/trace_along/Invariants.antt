@@ -3,15 +3,14 @@ use mathlib.Core.Path.{◌≡◌}
 use Prim.Native.Nat.{◌+◌, ◌-◌, ◌≤◌, ◌<◌}
 use lib.ListN.{length}
 use Rattle.meaning.specs.Lists.{at}
-use Rattle.numbers.specs.TwoSlices.{list_from}
 use Rattle.knapsack.proofs.FreeRow.{AlongTo}
 use Rattle.knapsack.proofs.trace_along.Given as goal
 
 abbrev pub invariant-loop-label : goal.invariant-loop-label
-invariant-loop-label l = (l.label ≤ length (list_from l.weights l.wbytes))
+invariant-loop-label l = (l.label ≤ length l.weights)
     × (l.c < length l.row)
     × (length l.picks ≡ length l.initial.picks)
-    × AlongTo (at l.row) (list_from l.weights l.wbytes) (list_from l.values l.vbytes) (length l.row - 1) l.label l.c l.picks
+    × AlongTo (at l.row) l.weights l.values (length l.row - 1) l.label l.c l.picks
 
 abbrev pub decreases-loop-label : goal.decreases-loop-label
 decreases-loop-label l = length l.initial.picks - l.label + l.c

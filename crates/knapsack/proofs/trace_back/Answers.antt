@@ -7,7 +7,6 @@ use native.Mathlib.Omega.{arith}
 use mathlib.Core.List.{List}
 use lib.ListN.{length, length-set}
 use Rattle.meaning.specs.Bounds.{most_budget}
-use Rattle.numbers.specs.TwoSlices.{list_from}
 use Rattle.knapsack.specs.Tables.{row_of}
 use Rattle.rows.specs.Traces.{begin}
 use Rattle.knapsack.proofs.FullRows.{rows_within}
@@ -15,7 +14,7 @@ use Rattle.rows.proofs.AnyRows.{trace_more}
 use Rattle.knapsack.proofs.trace_back.Goals as goal
 
 -- what is picked weighs no more than the greatest budget
-spent : (c : goal.After-least_count-x) → c.item-w.result * c.least_count-x.result ≤ most_budget
+spent : (c : goal.After-least_count-x) → c.at-w.result * c.least_count-x.result ≤ most_budget
 spent c =
     omega (arith, c.least_count-x.ensures.made.spent, c.requires.bounded.narrow)
 
@@ -25,21 +24,21 @@ loop-i-init c =
     let n = c.requires.width_value.1 in
     (omega arith, omega (arith, c.requires.bounded.wide), refl, rw (n, drop-length a.picks.now) begin)
 
-pub item-w-requires : goal.item-w-requires
-item-w-requires c =
-    let weights : List ℕ = list_from c.args.weights.now c.args.wbytes.now in
+pub at-w-requires : goal.at-w-requires
+at-w-requires c =
+    let weights : List ℕ = c.args.weights.now in
     let inside : c.loop-i.i - 1 < length weights = omega (arith, c.requires.width_value.1) in
     inside
 
-pub item-v-requires : goal.item-v-requires
-item-v-requires c =
-    let weights : List ℕ = list_from c.args.weights.now c.args.wbytes.now in
+pub at-v-requires : goal.at-v-requires
+at-v-requires c =
+    let weights : List ℕ = c.args.weights.now in
     let inside : c.loop-i.i - 1 < length weights = omega (arith, c.requires.width_value.1) in
     rw c.requires.bounded.valued inside
 
 pub overflow_mul-from : goal.overflow_mul-from
 overflow_mul-from c =
-    let weights : List ℕ = list_from c.args.weights.now c.args.wbytes.now in
+    let weights : List ℕ = c.args.weights.now in
     let inside : c.loop-i.i - 1 < length weights = omega (arith, c.requires.width_value.1) in
     let room : let a = c.args in let l = c.loop-i in (l.i - 1) * a.width + a.width + l.c < length a.cells.now = let n = length weights in
     omega (arith, rows_within (c.loop-i.i - 1) n c.args.width inside, c.requires.width_value.0) in
@@ -47,7 +46,7 @@ overflow_mul-from c =
 
 pub overflow_add-goal : goal.overflow_add-goal
 overflow_add-goal c =
-    let weights : List ℕ = list_from c.args.weights.now c.args.wbytes.now in
+    let weights : List ℕ = c.args.weights.now in
     let inside : c.loop-i.i - 1 < length weights = omega (arith, c.requires.width_value.1) in
     let room : let a = c.args in let l = c.loop-i in (l.i - 1) * a.width + a.width + l.c < length a.cells.now = let n = length weights in
     omega (arith, rows_within (c.loop-i.i - 1) n c.args.width inside, c.requires.width_value.0) in
@@ -55,7 +54,7 @@ overflow_add-goal c =
 
 pub overflow_add-goal-in-loop-i : goal.overflow_add-goal-in-loop-i
 overflow_add-goal-in-loop-i c =
-    let weights : List ℕ = list_from c.args.weights.now c.args.wbytes.now in
+    let weights : List ℕ = c.args.weights.now in
     let inside : c.loop-i.i - 1 < length weights = omega (arith, c.requires.width_value.1) in
     let room : let a = c.args in let l = c.loop-i in (l.i - 1) * a.width + a.width + l.c < length a.cells.now = let n = length weights in
     omega (arith, rows_within (c.loop-i.i - 1) n c.args.width inside, c.requires.width_value.0) in
@@ -63,7 +62,7 @@ overflow_add-goal-in-loop-i c =
 
 pub offset_bounds-cells-from : goal.offset_bounds-cells-from
 offset_bounds-cells-from c =
-    let weights : List ℕ = list_from c.args.weights.now c.args.wbytes.now in
+    let weights : List ℕ = c.args.weights.now in
     let inside : c.loop-i.i - 1 < length weights = omega (arith, c.requires.width_value.1) in
     let room : let a = c.args in let l = c.loop-i in (l.i - 1) * a.width + a.width + l.c < length a.cells.now = let n = length weights in
     omega (arith, rows_within (c.loop-i.i - 1) n c.args.width inside, c.requires.width_value.0) in
@@ -71,7 +70,7 @@ offset_bounds-cells-from c =
 
 pub bounds-cells-from : goal.bounds-cells-from
 bounds-cells-from c =
-    let weights : List ℕ = list_from c.args.weights.now c.args.wbytes.now in
+    let weights : List ℕ = c.args.weights.now in
     let inside : c.loop-i.i - 1 < length weights = omega (arith, c.requires.width_value.1) in
     let room : let a = c.args in let l = c.loop-i in (l.i - 1) * a.width + a.width + l.c < length a.cells.now = let n = length weights in
     omega (arith, rows_within (c.loop-i.i - 1) n c.args.width inside, c.requires.width_value.0) in
@@ -80,12 +79,12 @@ bounds-cells-from c =
 pub least_count-x-requires : goal.least_count-x-requires
 unfolding most_budget
 least_count-x-requires c =
-    let weights : List ℕ = list_from c.args.weights.now c.args.wbytes.now in
+    let weights : List ℕ = c.args.weights.now in
     let inside : c.loop-i.i - 1 < length weights = omega (arith, c.requires.width_value.1) in
     let room : let a = c.args in let l = c.loop-i in (l.i - 1) * a.width + a.width + l.c < length a.cells.now = let n = length weights in
     omega (arith, rows_within (c.loop-i.i - 1) n c.args.width inside, c.requires.width_value.0) in
-    let w = c.item-w.ensures in
-    let v = c.item-v.ensures in
+    let w = c.at-w.ensures in
+    let v = c.at-v.ensures in
     let l = c.loop-i in
     let m = l.i - 1 in record { le_w = (rw w (c.requires.bounded.heavy m inside), (omega (arith, c.requires.bounded.narrow), omega (arith, room))); some_count = rw (w, v) (rw suc-mul at (c.requires.by_index m l.c inside l.invariant.1)) }
 
@@ -99,10 +98,10 @@ overflow_cast-c c = omega (arith, spent c)
 
 pub loop-i-preserved : goal.loop-i-preserved
 loop-i-preserved c =
-    let values : List ℕ = list_from c.args.values.now c.args.vbytes.now in
-    let weights : List ℕ = list_from c.args.weights.now c.args.wbytes.now in
-    let w = c.item-w.ensures in
-    let v = c.item-v.ensures in
+    let values : List ℕ = c.args.values.now in
+    let weights : List ℕ = c.args.weights.now in
+    let w = c.at-w.ensures in
+    let v = c.at-v.ensures in
     let l = c.loop-i in
     let a = c.args in
     let least = c.least_count-x in (

@@ -6,7 +6,6 @@ use native.Mathlib.Omega.{arith}
 use lib.ListN.{length}
 use Rattle.meaning.specs.Job.{job_of, labels}
 use Rattle.meaning.specs.Bounds.{most_budget}
-use Rattle.numbers.specs.TwoSlices.{list_from}
 use Rattle.light.specs.Labels.{Lit}
 use Rattle.light.proofs.Picks.{bit_fits, packed}
 use Rattle.light.proofs.pack.Goals as goal
@@ -17,11 +16,11 @@ fill-requires c = record { bounded = rw c.requires.row_len.0 c.requires.bounded;
 pub trace_bits-requires : goal.trace_bits-requires
 unfolding most_budget
 trace_bits-requires c =
-    let lit : Lit (list_from c.args.weights.now c.args.wbytes.now) (list_from c.args.values.now c.args.vbytes.now) (c.args.budget + 1) (c.args.budget / 64 + 1) (length (list_from c.args.weights.now c.args.wbytes.now)) c.fill.new.row c.fill.new.words = rw c.requires.row_len.0 at c.fill.ensures in
-    record { budget_le_most_budget = (omega (arith, c.requires.bounded.narrow), (refl, (c.requires.row_len.1.0 ∙ sym c.fill.auto.words, c.requires.row_len.1.1))); by_index = bit_fits (list_from c.args.weights.now c.args.wbytes.now) (list_from c.args.values.now c.args.vbytes.now) (c.args.budget + 1) (c.args.budget / 64 + 1) (length (list_from c.args.weights.now c.args.wbytes.now)) c.fill.new.row c.fill.new.words lit }
+    let lit : Lit c.args.weights.now c.args.values.now (c.args.budget + 1) (c.args.budget / 64 + 1) (length c.args.weights.now) c.fill.new.row c.fill.new.words = rw c.requires.row_len.0 at c.fill.ensures in
+    record { budget_le_most_budget = (omega (arith, c.requires.bounded.narrow), (refl, (c.requires.row_len.1.0 ∙ sym c.fill.auto.words, c.requires.row_len.1.1))); by_index = bit_fits c.args.weights.now c.args.values.now (c.args.budget + 1) (c.args.budget / 64 + 1) (length c.args.weights.now) c.fill.new.row c.fill.new.words lit }
 
 pub returns : goal.returns
 unfolding job_of labels
 returns c =
-    let lit : Lit (list_from c.args.weights.now c.args.wbytes.now) (list_from c.args.values.now c.args.vbytes.now) (c.args.budget + 1) (c.args.budget / 64 + 1) (length (list_from c.args.weights.now c.args.wbytes.now)) c.fill.new.row c.fill.new.words = rw c.requires.row_len.0 at c.fill.ensures in
-    packed (job_of 1 (c.args.budget ∷ []) (list_from c.args.weights.now c.args.wbytes.now) (list_from c.args.values.now c.args.vbytes.now) []) c.fill.new.row c.fill.new.words lit c.trace_bits.ensures
+    let lit : Lit c.args.weights.now c.args.values.now (c.args.budget + 1) (c.args.budget / 64 + 1) (length c.args.weights.now) c.fill.new.row c.fill.new.words = rw c.requires.row_len.0 at c.fill.ensures in
+    packed (job_of 1 (c.args.budget ∷ []) c.args.weights.now c.args.values.now []) c.fill.new.row c.fill.new.words lit c.trace_bits.ensures

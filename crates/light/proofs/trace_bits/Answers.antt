@@ -6,34 +6,33 @@ use native.Mathlib.Omega.{arith}
 use mathlib.Core.List.{List}
 use lib.ListN.{length}
 use Rattle.meaning.specs.Bounds.{most_budget}
-use Rattle.numbers.specs.TwoSlices.{list_from}
 use Rattle.light.proofs.Picks.{tracing_none, tracing_more}
 use Rattle.light.proofs.trace_bits.Goals as goal
 
 -- and its words are within the words
-room : (c : goal.After-item-w) → (c.loop-i.i - 1) * c.args.per + c.loop-i.c / 64 < length c.args.words.now
+room : (c : goal.After-at-w) → (c.loop-i.i - 1) * c.args.per + c.loop-i.c / 64 < length c.args.words.now
 room c =
-    let weights : List ℕ = list_from c.args.weights.now c.args.wbytes.now in
+    let weights : List ℕ = c.args.weights.now in
     let inside : c.loop-i.i - 1 < length (weights) = omega (arith, c.loop-i.invariant.some_of) in
     let per = c.args.per in
     omega (arith, mul-le-mul_right per inside, suc-mul (c.loop-i.i - 1) per, c.requires.budget_le_most_budget, c.loop-i.invariant.left)
 
 -- what it weighs, if it is picked, is still left
-fits : (c : goal.After-bit_at-x) → c.item-w.result * c.bit_at-x.result ≤ c.loop-i.c
+fits : (c : goal.After-bit_at-x) → c.at-w.result * c.bit_at-x.result ≤ c.loop-i.c
 fits c =
-    let weights : List ℕ = list_from c.args.weights.now c.args.wbytes.now in
+    let weights : List ℕ = c.args.weights.now in
     let inside : c.loop-i.i - 1 < length (weights) = omega (arith, c.loop-i.invariant.some_of) in
     let l = c.loop-i in
-    rw (c.item-w.ensures, c.bit_at-x.ensures) (c.requires.by_index (l.i - 1) l.c (inside) (omega (arith, l.invariant.left)))
+    rw (c.at-w.ensures, c.bit_at-x.ensures) (c.requires.by_index (l.i - 1) l.c (inside) (omega (arith, l.invariant.left)))
 
 pub loop-i-init : goal.loop-i-init
 loop-i-init c =
-    let weights : List ℕ = list_from c.args.weights.now c.args.wbytes.now in
+    let weights : List ℕ = c.args.weights.now in
     tracing_none weights c.args.words.now c.args.per (length weights) c.args.budget c.args.picks.now c.requires.budget_le_most_budget.1.1.1
 
-pub item-w-requires : goal.item-w-requires
-item-w-requires c =
-    let weights : List ℕ = list_from c.args.weights.now c.args.wbytes.now in
+pub at-w-requires : goal.at-w-requires
+at-w-requires c =
+    let weights : List ℕ = c.args.weights.now in
     let inside : c.loop-i.i - 1 < length weights = omega (arith, c.loop-i.invariant.some_of) in
     inside
 
@@ -45,7 +44,7 @@ bit_at-x-requires c = room c
 
 pub bounds-picks-i : goal.bounds-picks-i
 bounds-picks-i c =
-    let weights : List ℕ = list_from c.args.weights.now c.args.wbytes.now in
+    let weights : List ℕ = c.args.weights.now in
     let inside : c.loop-i.i - 1 < length weights = omega (arith, c.loop-i.invariant.some_of) in
     omega (arith, inside, c.loop-i.invariant.long)
 
@@ -62,10 +61,10 @@ overflow_sub-c c = fits c
 
 pub loop-i-preserved : goal.loop-i-preserved
 loop-i-preserved c =
-    let weights : List ℕ = list_from c.args.weights.now c.args.wbytes.now in
+    let weights : List ℕ = c.args.weights.now in
     let l = c.loop-i in
-    tracing_more weights c.args.words.now c.args.per (length weights) c.args.budget l.i l.c c.item-w.result
-    c.bit_at-x.result l.picks (omega arith) l.invariant c.item-w.ensures c.bit_at-x.ensures (fits c)
+    tracing_more weights c.args.words.now c.args.per (length weights) c.args.budget l.i l.c c.at-w.result
+    c.bit_at-x.result l.picks (omega arith) l.invariant c.at-w.ensures c.bit_at-x.ensures (fits c)
 
 pub returns : goal.returns
 returns c =

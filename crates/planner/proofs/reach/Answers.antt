@@ -9,15 +9,15 @@ use Rattle.meaning.specs.Lent.{Lent, lent_of, room_by, room_of}
 use Rattle.meaning.specs.Refusals.{claims_fit, rules_of, weight_rules}
 use Rattle.meaning.specs.Solved.{Unrefused}
 use Rattle.meaning.specs.SolvedIn.{SolvedInWords}
-use Rattle.numbers.specs.TwoSlices.{job_from, weights_from}
+use Rattle.numbers.specs.Lists.{weights_from}
 use Rattle.planner.proofs.Preamble.{Lowest, asked_counted, let_in, turned_away, unneeded, weights_alone}
 use Rattle.planner.proofs.reach.Goals as goal
 
 pub returns-then-refused-ne0 : goal.returns-then-refused-ne0
 unfolding SolvedInWords all_kinds job_of kind_of labels lent_of room_by room_of
 returns-then-refused-ne0 c cells picks =
-    let job : Job = job_from 4 (c.args.budget ∷ []) c.args.weights.now c.args.wbytes.now
-    c.args.values.now c.args.vbytes.now c.args.copies.now c.args.cbytes.now in
+    let job : Job = job_of 4 (c.args.budget ∷ []) c.args.weights.now
+    c.args.values.now c.args.copies.now in
     let lent : List ℕ → List ℕ → Lent = λ cells picks. lent_of cells c.args.words.now picks in
     let lowest : (cells picks : List ℕ) → Lowest subset_sums job (lent cells picks) c.refusal-refused.result = λ cells picks.
     asked_counted subset_sums job (lent cells picks) _ false c.sums_room-room.result 0 _ 0 c.refusal-refused.result (labels job) refl
@@ -28,9 +28,9 @@ returns-then-refused-ne0 c cells picks =
 pub solve-requires : goal.solve-requires
 unfolding all_kinds claims_fit job_of kind_of labels lent_of room_by room_of rules_of weight_rules
 solve-requires c =
-    let bare : Job = weights_from 4 (c.args.budget ∷ []) c.args.weights.now c.args.wbytes.now in
-    let job : Job = job_from 4 (c.args.budget ∷ []) c.args.weights.now c.args.wbytes.now
-    c.args.values.now c.args.vbytes.now c.args.copies.now c.args.cbytes.now in
+    let bare : Job = weights_from 4 (c.args.budget ∷ []) c.args.weights.now in
+    let job : Job = job_of 4 (c.args.budget ∷ []) c.args.weights.now
+    c.args.values.now c.args.copies.now in
     let lent : List ℕ → List ℕ → Lent = λ cells picks. lent_of cells c.args.words.now picks in
     let lowest : (cells picks : List ℕ) → Lowest subset_sums job (lent cells picks) c.refusal-refused.result = λ cells picks.
     asked_counted subset_sums job (lent cells picks) _ false c.sums_room-room.result 0 _ 0 c.refusal-refused.result (labels job) refl
@@ -42,9 +42,9 @@ solve-requires c =
 pub returns : goal.returns
 unfolding all_kinds job_of kind_of labels lent_of room_by room_of rules_of weight_rules
 returns c =
-    let bare : Job = weights_from 4 (c.args.budget ∷ []) c.args.weights.now c.args.wbytes.now in
-    let job : Job = job_from 4 (c.args.budget ∷ []) c.args.weights.now c.args.wbytes.now
-    c.args.values.now c.args.vbytes.now c.args.copies.now c.args.cbytes.now in
+    let bare : Job = weights_from 4 (c.args.budget ∷ []) c.args.weights.now in
+    let job : Job = job_of 4 (c.args.budget ∷ []) c.args.weights.now
+    c.args.values.now c.args.copies.now in
     let lent : List ℕ → List ℕ → Lent = λ cells picks. lent_of cells c.args.words.now picks in
     let lowest : (cells picks : List ℕ) → Lowest subset_sums job (lent cells picks) c.refusal-refused.result = λ cells picks.
     asked_counted subset_sums job (lent cells picks) _ false c.sums_room-room.result 0 _ 0 c.refusal-refused.result (labels job) refl

@@ -4,7 +4,6 @@ use mathlib.Core.Path.{subst}
 use Rattle.meaning.specs.Job.{Job}
 use Rattle.meaning.specs.Lent.{Lent, lent_of}
 use Rattle.meaning.specs.Solved.{SolvedBy}
-use Rattle.numbers.proofs.TwoSlices.{job_of_lists}
 use Rattle.planner.proofs.solve_by.Goals as goal
 
 pub returns : goal.returns

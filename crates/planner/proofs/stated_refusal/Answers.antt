@@ -7,7 +7,6 @@ use mathlib.Core.List.{List}
 use Rattle.meaning.specs.Job.{Job, job_of, labels, once, packing, stated_share, kind_of, all_kinds}
 use Rattle.meaning.specs.Cuts.{stated_cells}
 use Rattle.meaning.specs.Refusals.{job_refusal, rules_of}
-use Rattle.numbers.specs.TwoSlices.{list_from}
 use Rattle.rules.specs.Ruling.{rules_from}
 use Rattle.planner.proofs.Stating.{as_kind_1, asks_room, bare, bare_is, bare_passes, few_cells, few_picks, fits, job, q_outside}
 use Rattle.planner.proofs.Stating.{room_enough, then_room}
@@ -17,11 +16,11 @@ pub returns-then-refused-ne0 : goal.returns-then-refused-ne0
 unfolding all_kinds kind_of
 returns-then-refused-ne0 c =
     let budget : ℕ = c.args.budget in
-    let copies : List ℕ = list_from c.args.copies.now c.args.cbytes.now in
+    let copies : List ℕ = c.args.copies.now in
     let its_rules : rules_from c.knapsack_rules-rules.result false ≡ rules_of (packing once) = c.knapsack_rules-rules.ensures once refl in
     let q : ℕ = c.args.q in
-    let values : List ℕ = list_from c.args.values.now c.args.vbytes.now in
-    let weights : List ℕ = list_from c.args.weights.now c.args.wbytes.now in
+    let values : List ℕ = c.args.values.now in
+    let weights : List ℕ = c.args.weights.now in
     let its_job : Job = job budget q weights values copies in
     let room_number : ℕ = asks_room (stated_cells its_job) (labels its_job) c.args.cells c.args.picks in
     as_kind_1 budget q weights values copies c.knapsack_rules-rules.result c.job_refusal-refused.result its_rules (c.job_refusal-refused.ensures 9 false)
@@ -31,11 +30,11 @@ pub returns-then-not-q_fits : goal.returns-then-not-q_fits
 unfolding all_kinds kind_of
 returns-then-not-q_fits c =
     let budget : ℕ = c.args.budget in
-    let copies : List ℕ = list_from c.args.copies.now c.args.cbytes.now in
+    let copies : List ℕ = c.args.copies.now in
     let its_rules : rules_from c.knapsack_rules-rules.result false ≡ rules_of (packing once) = c.knapsack_rules-rules.ensures once refl in
     let q : ℕ = c.args.q in
-    let values : List ℕ = list_from c.args.values.now c.args.vbytes.now in
-    let weights : List ℕ = list_from c.args.weights.now c.args.wbytes.now in
+    let values : List ℕ = c.args.values.now in
+    let weights : List ℕ = c.args.weights.now in
     let its_job : Job = job budget q weights values copies in
     let room_number : ℕ = asks_room (stated_cells its_job) (labels its_job) c.args.cells c.args.picks in
     q_outside budget q weights values copies c.knapsack_rules-rules.result c.job_refusal-refused.result its_rules (c.job_refusal-refused.ensures 9 false)
@@ -45,11 +44,11 @@ pub cells_needed-needed-requires : goal.cells_needed-needed-requires
 unfolding all_kinds kind_of
 cells_needed-needed-requires c =
     let budget : ℕ = c.args.budget in
-    let copies : List ℕ = list_from c.args.copies.now c.args.cbytes.now in
+    let copies : List ℕ = c.args.copies.now in
     let its_rules : rules_from c.knapsack_rules-rules.result false ≡ rules_of (packing once) = c.knapsack_rules-rules.ensures once refl in
     let q : ℕ = c.args.q in
-    let values : List ℕ = list_from c.args.values.now c.args.vbytes.now in
-    let weights : List ℕ = list_from c.args.weights.now c.args.wbytes.now in
+    let values : List ℕ = c.args.values.now in
+    let weights : List ℕ = c.args.weights.now in
     let within : fits q ≡ true = sym c.q_fits.ensures ∙ c.if-not-q_fits.false in
     bare_passes budget q weights values copies c.knapsack_rules-rules.result c.job_refusal-refused.result its_rules (c.job_refusal-refused.ensures 9 false)
     c.if-refused-ne0.false within
@@ -58,10 +57,10 @@ pub returns-then-cells-needed : goal.returns-then-cells-needed
 unfolding all_kinds kind_of
 returns-then-cells-needed c =
     let budget : ℕ = c.args.budget in
-    let copies : List ℕ = list_from c.args.copies.now c.args.cbytes.now in
+    let copies : List ℕ = c.args.copies.now in
     let q : ℕ = c.args.q in
-    let values : List ℕ = list_from c.args.values.now c.args.vbytes.now in
-    let weights : List ℕ = list_from c.args.weights.now c.args.wbytes.now in
+    let values : List ℕ = c.args.values.now in
+    let weights : List ℕ = c.args.weights.now in
     let its_job : Job = job budget q weights values copies in
     let its_rules : rules_from c.knapsack_rules-rules.result false ≡ rules_of (packing once) = c.knapsack_rules-rules.ensures once refl in
     let within : fits q ≡ true = sym c.q_fits.ensures ∙ c.if-not-q_fits.false in
@@ -75,14 +74,14 @@ returns-then-cells-needed c =
     let a = c.args in
     few_cells (stated_cells j) (labels j) a.cells a.picks (omega (arith, needed)) ∙ room_next room_number
 
-pub returns-then-picks-list_length : goal.returns-then-picks-list_length
+pub returns-then-picks-len : goal.returns-then-picks-len
 unfolding all_kinds job_of kind_of labels
-returns-then-picks-list_length c =
+returns-then-picks-len c =
     let budget : ℕ = c.args.budget in
-    let copies : List ℕ = list_from c.args.copies.now c.args.cbytes.now in
+    let copies : List ℕ = c.args.copies.now in
     let q : ℕ = c.args.q in
-    let values : List ℕ = list_from c.args.values.now c.args.vbytes.now in
-    let weights : List ℕ = list_from c.args.weights.now c.args.wbytes.now in
+    let values : List ℕ = c.args.values.now in
+    let weights : List ℕ = c.args.weights.now in
     let its_job : Job = job budget q weights values copies in
     let its_rules : rules_from c.knapsack_rules-rules.result false ≡ rules_of (packing once) = c.knapsack_rules-rules.ensures once refl in
     let within : fits q ≡ true = sym c.q_fits.ensures ∙ c.if-not-q_fits.false in
@@ -95,17 +94,17 @@ returns-then-picks-list_length c =
     let j = its_job in
     let a = c.args in
     few_picks (stated_cells j) (labels j) a.cells a.picks
-    (omega (arith, needed)) (omega (arith, c.list_length.ensures))
+    (omega (arith, needed)) (omega (arith, c.len.ensures))
     ∙ room_next room_number
 
 pub returns : goal.returns
 unfolding all_kinds job_of kind_of labels
 returns c =
     let budget : ℕ = c.args.budget in
-    let copies : List ℕ = list_from c.args.copies.now c.args.cbytes.now in
+    let copies : List ℕ = c.args.copies.now in
     let q : ℕ = c.args.q in
-    let values : List ℕ = list_from c.args.values.now c.args.vbytes.now in
-    let weights : List ℕ = list_from c.args.weights.now c.args.wbytes.now in
+    let values : List ℕ = c.args.values.now in
+    let weights : List ℕ = c.args.weights.now in
     let its_job : Job = job budget q weights values copies in
     let its_rules : rules_from c.knapsack_rules-rules.result false ≡ rules_of (packing once) = c.knapsack_rules-rules.ensures once refl in
     let within : fits q ≡ true = sym c.q_fits.ensures ∙ c.if-not-q_fits.false in
@@ -118,5 +117,5 @@ returns c =
     let j = its_job in
     let a = c.args in
     room_enough (stated_cells j) (labels j) a.cells a.picks
-    (omega (arith, needed)) (omega (arith, c.list_length.ensures))
+    (omega (arith, needed)) (omega (arith, c.len.ensures))
     ∙ room_next room_number

@@ -26,4 +26,4 @@ pub returns : goal.returns
 returns c =
     let parts : PartsOf c.args.job.now c.in-Read.parts = read_in _ c.in-Read.is c.read_job-request.ensures in
     let cut = lists_cut _ parts c.bytes_at-weights.ensures c.bytes_at-values.ensures c.bytes_at-copies.ensures in
-    told_read _ _ _ _ _ _ _ _ _ _ cut c.list_length-labels.ensures c.decide-answer.ensures
+    told_read _ _ _ _ _ _ _ _ _ _ cut c.len-labels.ensures c.decide-answer.ensures

@@ -3,11 +3,10 @@ use mathlib.Core.Path.{◌≡◌}
 use Prim.Native.Nat.{◌-◌}
 use lib.ListN.{drop}
 use Rattle.meaning.specs.Refusals.{ascending_from}
-use Rattle.numbers.specs.TwoSlices.{list_from}
 use Rattle.requests.proofs.ascending.Given as goal
 
 abbrev pub invariant-loop-i : goal.invariant-loop-i
-invariant-loop-i l = ascending_from 1 (list_from l.numbers l.bytes) ≡ ascending_from l.least (drop l.i (list_from l.numbers l.bytes))
+invariant-loop-i l = ascending_from 1 l.numbers ≡ ascending_from l.least (drop l.i l.numbers)
 
 abbrev pub decreases-loop-i : goal.decreases-loop-i
 decreases-loop-i l = l.n - l.i

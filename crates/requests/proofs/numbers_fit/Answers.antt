@@ -5,7 +5,6 @@ use mathlib.Core.Bool.{true}
 use Rattle.meaning.specs.Job.{job_of}
 use Rattle.meaning.specs.Bounds.{most_value}
 use Rattle.meaning.specs.Refusals.{each_within}
-use Rattle.numbers.specs.TwoSlices.{list_from, job_from}
 use Rattle.rules.specs.Ruling.{rule_from}
 use Rattle.requests.proofs.Judging.{within_as, weights_wrong, values_wrong, rest_copies}
 use Rattle.requests.proofs.numbers_fit.Goals as goal
@@ -14,24 +13,24 @@ pub returns-then-not-keeps : goal.returns-then-not-keeps
 unfolding job_of
 returns-then-not-keeps c kind budget needs_sum =
     let a = c.args in
-    let job = job_from kind (budget ∷ []) a.weights.now a.wbytes.now a.values.now a.vbytes.now a.copies.now a.cbytes.now in
+    let job = job_of kind (budget ∷ []) a.weights.now a.values.now a.copies.now in
     weights_wrong c.args.rules needs_sum job (sym c.keeps.ensures ∙ c.if-not-keeps.true)
 
 pub returns-then-not-each_within : goal.returns-then-not-each_within
 unfolding job_of
 returns-then-not-each_within c kind budget needs_sum =
     let a = c.args in
-    let job = job_from kind (budget ∷ []) a.weights.now a.wbytes.now a.values.now a.vbytes.now a.copies.now a.cbytes.now in
-    let kept : rule_from a.rules.weights (list_from a.weights.now a.wbytes.now) ≡ true = sym c.keeps.ensures ∙ c.if-not-keeps.false in
-    let valued : c.each_within.result ≡ each_within a.rules.floor most_value (list_from a.values.now a.vbytes.now) = within_as c.value_bounds-worth.ensures.0 c.value_bounds-worth.ensures.1 c.each_within.ensures in
+    let job = job_of kind (budget ∷ []) a.weights.now a.values.now a.copies.now in
+    let kept : rule_from a.rules.weights a.weights.now ≡ true = sym c.keeps.ensures ∙ c.if-not-keeps.false in
+    let valued : c.each_within.result ≡ each_within a.rules.floor most_value a.values.now = within_as c.value_bounds-worth.ensures.0 c.value_bounds-worth.ensures.1 c.each_within.ensures in
     values_wrong c.args.rules needs_sum job kept (sym valued ∙ c.if-not-each_within.true)
 
 pub returns : goal.returns
 unfolding job_of
 returns c kind budget needs_sum =
     let a = c.args in
-    let job = job_from kind (budget ∷ []) a.weights.now a.wbytes.now a.values.now a.vbytes.now a.copies.now a.cbytes.now in
-    let kept : rule_from a.rules.weights (list_from a.weights.now a.wbytes.now) ≡ true = sym c.keeps.ensures ∙ c.if-not-keeps.false in
-    let valued : c.each_within.result ≡ each_within a.rules.floor most_value (list_from a.values.now a.vbytes.now) = within_as c.value_bounds-worth.ensures.0 c.value_bounds-worth.ensures.1 c.each_within.ensures in
+    let job = job_of kind (budget ∷ []) a.weights.now a.values.now a.copies.now in
+    let kept : rule_from a.rules.weights a.weights.now ≡ true = sym c.keeps.ensures ∙ c.if-not-keeps.false in
+    let valued : c.each_within.result ≡ each_within a.rules.floor most_value a.values.now = within_as c.value_bounds-worth.ensures.0 c.value_bounds-worth.ensures.1 c.each_within.ensures in
     within_as c.copies_bounds-counts.ensures.0 c.copies_bounds-counts.ensures.1 c.each_within-2.ensures
     ∙ rest_copies c.args.rules needs_sum job kept (sym valued ∙ c.if-not-each_within.false)

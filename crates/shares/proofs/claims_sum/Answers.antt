@@ -4,7 +4,6 @@ use borrow.Author.Rules.{rules}
 use Rattle.meaning.specs.Lists.{sum}
 use Rattle.meaning.specs.Bounds.{most_claims}
 use Rattle.meaning.proofs.Loops.{sum_step, sum_done}
-use Rattle.numbers.specs.TwoSlices.{list_from}
 use Rattle.shares.proofs.claims_sum.Goals as goal
 
 pub loop-i-init : goal.loop-i-init
@@ -13,14 +12,14 @@ loop-i-init c = search rules
 
 pub overflow_add-sum : goal.overflow_add-sum
 unfolding most_claims
-overflow_add-sum c = omega (arith, c.list_length-n.ensures)
+overflow_add-sum c = omega (arith, c.len-n.ensures)
 
 pub loop-i-preserved : goal.loop-i-preserved
 loop-i-preserved c =
     let l = c.loop-i in
-    let inside = c.list_length-n.ensures in
-    (omega arith, rw c.item.ensures (sum_step (list_from c.args.weights.now c.args.wbytes.now) l.sum l.i (omega (arith, inside)) l.invariant.1), omega arith)
+    let inside = c.len-n.ensures in
+    (omega arith, rw c.at.ensures (sum_step c.args.weights.now l.sum l.i (omega (arith, inside)) l.invariant.1), omega arith)
 
 pub returns : goal.returns
 returns c =
-    sum_done (list_from c.args.weights.now c.args.wbytes.now) c.loop-i.sum c.loop-i.i (omega (arith, c.list_length-n.ensures)) c.loop-i.invariant.1
+    sum_done c.args.weights.now c.loop-i.sum c.loop-i.i (omega (arith, c.len-n.ensures)) c.loop-i.invariant.1

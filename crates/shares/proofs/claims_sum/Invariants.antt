@@ -3,11 +3,10 @@ use mathlib.Core.Path.{◌≡◌}
 use Prim.Native.Nat.{◌*◌, ◌-◌, ◌≤◌}
 use lib.ListN.{take}
 use Rattle.meaning.specs.Lists.{sum}
-use Rattle.numbers.specs.TwoSlices.{list_from}
 use Rattle.shares.proofs.claims_sum.Given as goal
 
 abbrev pub invariant-loop-i : goal.invariant-loop-i
-invariant-loop-i l = (l.i ≤ l.n) × (l.sum ≡ sum (take l.i (list_from l.weights l.wbytes))) × (l.sum ≤ l.i * 4_294_967_295)
+invariant-loop-i l = (l.i ≤ l.n) × (l.sum ≡ sum (take l.i l.weights)) × (l.sum ≤ l.i * 4_294_967_295)
 
 abbrev pub decreases-loop-i : goal.decreases-loop-i
 decreases-loop-i l = l.n - l.i

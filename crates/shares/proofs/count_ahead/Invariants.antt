@@ -7,7 +7,7 @@ use Rattle.shares.specs.Borders.{claims_job, ahead_in}
 use Rattle.shares.proofs.count_ahead.Given as goal
 
 abbrev pub invariant-loop-i : goal.invariant-loop-i
-invariant-loop-i l = (l.i ≤ length l.starts) × (l.count ≡ tally (ahead_in (claims_job l.budget l.weights l.wbytes) l.border) (up_to l.i))
+invariant-loop-i l = (l.i ≤ length l.starts) × (l.count ≡ tally (ahead_in (claims_job l.budget l.weights) l.border) (up_to l.i))
 
 abbrev pub decreases-loop-i : goal.decreases-loop-i
 decreases-loop-i l = length l.starts - l.i

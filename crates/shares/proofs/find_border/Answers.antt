@@ -13,7 +13,7 @@ use Rattle.shares.proofs.find_border.Goals as goal
 use Rattle.shares.proofs.find_border.Goals.{then-loop-found-test+else-high-low-gt1, else-loop-found-test}
 
 near : (c : goal.After-struct_known-then-close-1) →
-    let job : Job = claims_job c.args.budget c.args.weights.now c.args.wbytes.now in
+    let job : Job = claims_job c.args.budget c.args.weights.now in
     let l = c.loop-found in
     let reach = c.reach_between-reach.result in
     Reaches (job) (labels (job)) l.low l.high reach.least reach.greatest
@@ -22,7 +22,7 @@ near c =
 
 still : (c : goal.After-struct_known-then-close-1) → c.reach_between-reach.result.least < c.reach_between-reach.result.greatest + 1
 still c =
-    let job : Job = claims_job c.args.budget c.args.weights.now c.args.wbytes.now in
+    let job : Job = claims_job c.args.budget c.args.weights.now in
     let l = c.loop-found in
     let reach = c.reach_between-reach.result in
     still_some (job) l.low l.high reach.least reach.greatest (near c) (omega (arith, l.invariant.2, c.requires.leaves.units)) l.invariant.4
@@ -30,7 +30,7 @@ still c =
 pub loop-found-init : goal.loop-found-init
 unfolding job_of
 loop-found-init c =
-    let job : Job = claims_job c.args.budget c.args.weights.now c.args.wbytes.now in
+    let job : Job = claims_job c.args.budget c.args.weights.now in
     let least = c.args.leavings.least in
     let greatest = c.args.leavings.greatest in
     let started = c.requires.leaves.started in
@@ -53,7 +53,7 @@ loop-found-smaller-then-close c = let l = c.loop-found in omega (arith, (near c)
 
 pub loop-found-preserved-then-close : goal.loop-found-preserved-then-close
 loop-found-preserved-then-close c =
-    let job : Job = claims_job c.args.budget c.args.weights.now c.args.wbytes.now in
+    let job : Job = claims_job c.args.budget c.args.weights.now in
     let l = c.loop-found in
     let reach = c.reach_between-reach.result in (
       still c,
@@ -84,7 +84,7 @@ loop-found-smaller c =
 pub loop-found-preserved : goal.loop-found-preserved
 loop-found-preserved c =
     let apart : 1 < c.loop-found.high - c.loop-found.low = let l = c.loop-found in c.if-high-low-gt1.true in
-    let job : Job = claims_job c.args.budget c.args.weights.now c.args.wbytes.now in
+    let job : Job = claims_job c.args.budget c.args.weights.now in
     let l = c.loop-found in
     let count = c.count_ahead-count in
     let lowest = next_lowest job (l.low + (l.high - l.low) / 2) count.result count.ensures (omega (arith, c.requires.leaves.units)) in
@@ -92,7 +92,7 @@ loop-found-preserved c =
 
 pub returns : goal.returns
 returns c =
-    let job : Job = claims_job c.args.budget c.args.weights.now c.args.wbytes.now in
+    let job : Job = claims_job c.args.budget c.args.weights.now in
     let l = c.loop-found in
     let spare = c.args.leavings.spare in
     let units = c.requires.leaves.units in

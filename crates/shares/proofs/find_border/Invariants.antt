@@ -8,9 +8,9 @@ use Rattle.shares.proofs.find_border.Given as goal
 abbrev pub invariant-loop-found : goal.invariant-loop-found
 invariant-loop-found l = (l.low < l.high)
     × (l.high ≤ l.claimed)
-    × (l.found ≡ count_of (claims_job l.budget l.weights l.wbytes) l.high)
+    × (l.found ≡ count_of (claims_job l.budget l.weights) l.high)
     × (l.found ≤ l.units)
-    × NoLower (claims_job l.budget l.weights l.wbytes) (l.low + 1)
+    × NoLower (claims_job l.budget l.weights) (l.low + 1)
 
 abbrev pub decreases-loop-found : goal.decreases-loop-found
 decreases-loop-found l = 2 * (l.high - l.low) + bool_byte l.close

@@ -10,8 +10,8 @@ use Rattle.shares.proofs.give.Given as goal
 abbrev pub invariant-loop-i : goal.invariant-loop-i
 invariant-loop-i l = (l.i ≤ length l.initial.shares)
     × (length l.shares ≡ length l.initial.shares)
-    × Stored l.initial.shares l.shares 0 0 l.i (share_of (claims_job l.budget l.weights l.wbytes))
-    × (l.seen ≡ behind_of (claims_job l.budget l.weights l.wbytes) l.border l.i)
+    × Stored l.initial.shares l.shares 0 0 l.i (share_of (claims_job l.budget l.weights))
+    × (l.seen ≡ behind_of (claims_job l.budget l.weights) l.border l.i)
 
 abbrev pub decreases-loop-i : goal.decreases-loop-i
 decreases-loop-i l = length l.initial.shares - l.i

@@ -9,17 +9,17 @@ use Rattle.shares.proofs.SharesDoor.{Ready, ready, shared}
 use Rattle.shares.proofs.solve.Goals as goal
 
 -- the part that is lent has a place for each label
-cut : (c : goal.After-share-arg-1) → length (take c.list_length-n.result c.args.picks.now) ≡ c.list_length-n.result
+cut : (c : goal.After-share-arg-1) → length (take c.len-n.result c.args.picks.now) ≡ c.len-n.result
 unfolding job_of labels
 cut c =
-    let keeps : Ready (claims_job c.args.budget c.args.weights.now c.args.wbytes.now) c.args.picks.now = ready (claims_job c.args.budget c.args.weights.now c.args.wbytes.now) c.args.picks.now c.requires in
-    length-take-le c.list_length-n.result c.args.picks.now (omega (arith, c.list_length-n.ensures, (keeps).room))
+    let keeps : Ready (claims_job c.args.budget c.args.weights.now) c.args.picks.now = ready (claims_job c.args.budget c.args.weights.now) c.args.picks.now c.requires in
+    length-take-le c.len-n.result c.args.picks.now (omega (arith, c.len-n.ensures, (keeps).room))
 
 pub slice_bounds-share-end : goal.slice_bounds-share-end
 unfolding job_of labels
 slice_bounds-share-end c =
-    let keeps : Ready (claims_job c.args.budget c.args.weights.now c.args.wbytes.now) c.args.picks.now = ready (claims_job c.args.budget c.args.weights.now c.args.wbytes.now) c.args.picks.now c.requires in
-    omega (arith, c.list_length-n.ensures, keeps.room)
+    let keeps : Ready (claims_job c.args.budget c.args.weights.now) c.args.picks.now = ready (claims_job c.args.budget c.args.weights.now) c.args.picks.now c.requires in
+    omega (arith, c.len-n.ensures, keeps.room)
 
 pub slice_bounds-share-end-2 : goal.slice_bounds-share-end-2
 slice_bounds-share-end-2 c = sym (cut c)
@@ -27,13 +27,13 @@ slice_bounds-share-end-2 c = sym (cut c)
 pub share-spare-requires : goal.share-spare-requires
 unfolding job_of labels
 share-spare-requires c =
-    let keeps : Ready (claims_job c.args.budget c.args.weights.now c.args.wbytes.now) c.args.picks.now = ready (claims_job c.args.budget c.args.weights.now c.args.wbytes.now) c.args.picks.now c.requires in
+    let keeps : Ready (claims_job c.args.budget c.args.weights.now) c.args.picks.now = ready (claims_job c.args.budget c.args.weights.now) c.args.picks.now c.requires in
     let k = keeps in
-    record { wbytes_len_bound = (k.few, k.claims); shares_len = cut c ∙ c.list_length-n.ensures }
+    record { weights_len_bound = (k.few, k.claims); shares_len = cut c ∙ c.len-n.ensures }
 
 pub returns : goal.returns
 unfolding job_of labels
 returns c =
     let w = c.share-spare in
-    let n = c.list_length-n in
-    shared (claims_job c.args.budget c.args.weights.now c.args.wbytes.now) c.args.picks.now c.requires w.new.shares n.result w.result n.ensures w.ensures.0 w.ensures.1
+    let n = c.len-n in
+    shared (claims_job c.args.budget c.args.weights.now) c.args.picks.now c.requires w.new.shares n.result w.result n.ensures w.ensures.0 w.ensures.1

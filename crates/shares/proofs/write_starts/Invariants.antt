@@ -12,9 +12,9 @@ use Rattle.shares.proofs.write_starts.Given as goal
 abbrev pub invariant-loop-i : goal.invariant-loop-i
 invariant-loop-i l = (l.i ≤ length l.initial.shares)
     × (length l.shares ≡ length l.initial.shares)
-    × Stored l.initial.shares l.shares 0 0 l.i (start_of (claims_job l.budget l.weights l.wbytes))
-    × (l.spare + sum (take l.i (starts (claims_job l.budget l.weights l.wbytes))) ≡ l.budget)
-    × Reaches (claims_job l.budget l.weights l.wbytes) l.i 0 l.claimed l.least l.greatest
+    × Stored l.initial.shares l.shares 0 0 l.i (start_of (claims_job l.budget l.weights))
+    × (l.spare + sum (take l.i (starts (claims_job l.budget l.weights))) ≡ l.budget)
+    × Reaches (claims_job l.budget l.weights) l.i 0 l.claimed l.least l.greatest
 
 abbrev pub decreases-loop-i : goal.decreases-loop-i
 decreases-loop-i l = length l.initial.shares - l.i

@@ -5,14 +5,13 @@ use lib.ListN.{drop}
 use Rattle.meaning.specs.Lists.{sum}
 use Rattle.meaning.specs.Bounds.{most_value}
 use Rattle.meaning.specs.Cuts.{that_fit, cut_by}
-use Rattle.numbers.specs.TwoSlices.{list_from}
 use Rattle.stated.proofs.cut_sum.Given as goal
 
 abbrev pub invariant-loop-i : goal.invariant-loop-i
 invariant-loop-i l = (l.i ≤ l.n)
     × (l.sum ≤ most_value * l.i)
-    × (l.sum + sum (that_fit l.budget (drop l.i (list_from l.weights l.wbytes)) (drop l.i (cut_by l.divisor (list_from l.values l.vbytes))))
-    ≡ sum (that_fit l.budget (list_from l.weights l.wbytes) (cut_by l.divisor (list_from l.values l.vbytes))))
+    × (l.sum + sum (that_fit l.budget (drop l.i l.weights) (drop l.i (cut_by l.divisor l.values)))
+    ≡ sum (that_fit l.budget l.weights (cut_by l.divisor l.values)))
 
 abbrev pub decreases-loop-i : goal.decreases-loop-i
 decreases-loop-i l = l.n - l.i

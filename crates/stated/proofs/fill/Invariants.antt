@@ -3,15 +3,14 @@ use mathlib.Core.Path.{◌≡◌}
 use Prim.Native.Nat.{◌-◌, ◌*◌, ◌≤◌}
 use lib.ListN.{length}
 use Rattle.meaning.specs.Cuts.{cut_by}
-use Rattle.numbers.specs.TwoSlices.{list_from}
 use Rattle.stated.specs.LeastWeights.{row_of, Filled}
 use Rattle.stated.proofs.fill.Given as goal
 
 abbrev pub invariant-loop-i : goal.invariant-loop-i
 invariant-loop-i l = (l.i ≤ l.n)
-    × (l.from ≡ row_of l.budget (list_from l.weights l.wbytes) l.i * l.width)
+    × (l.from ≡ row_of l.budget l.weights l.i * l.width)
     × (length l.cells ≡ length l.initial.cells)
-    × Filled l.budget (list_from l.weights l.wbytes) (cut_by l.divisor (list_from l.values l.vbytes)) l.width l.i l.cells
+    × Filled l.budget l.weights (cut_by l.divisor l.values) l.width l.i l.cells
 
 abbrev pub decreases-loop-i : goal.decreases-loop-i
 decreases-loop-i l = l.n - l.i

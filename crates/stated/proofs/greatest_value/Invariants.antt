@@ -2,14 +2,13 @@
 use mathlib.Core.Path.{◌≡◌}
 use Prim.Native.Nat.{◌-◌, ◌≤◌, max}
 use lib.ListN.{drop}
-use Rattle.numbers.specs.TwoSlices.{list_from}
 use Rattle.meaning.specs.Cuts.{that_fit, greatest_of}
 use Rattle.stated.proofs.greatest_value.Given as goal
 
 abbrev pub invariant-loop-i : goal.invariant-loop-i
 invariant-loop-i l = (l.i ≤ l.n)
-    × (max l.p (greatest_of (that_fit l.budget (drop l.i (list_from l.weights l.wbytes)) (drop l.i (list_from l.values l.vbytes))))
-    ≡ greatest_of (that_fit l.budget (list_from l.weights l.wbytes) (list_from l.values l.vbytes)))
+    × (max l.p (greatest_of (that_fit l.budget (drop l.i l.weights) (drop l.i l.values)))
+    ≡ greatest_of (that_fit l.budget l.weights l.values))
 
 abbrev pub decreases-loop-i : goal.decreases-loop-i
 decreases-loop-i l = l.n - l.i

@@ -6,7 +6,6 @@ use mathlib.Core.List.{List, [], ◌∷◌}
 use Rattle.meaning.specs.Job.{Job, job_of, labels, has_q}
 use Rattle.meaning.specs.Lists.{if}
 use Rattle.meaning.specs.Cuts.{remain_of, remain, divisor, cut_values, cut_sum, stated_cells}
-use Rattle.numbers.specs.TwoSlices.{list_from}
 use Rattle.stated.proofs.Fitting.{cells_fit}
 use Rattle.stated.proofs.StatedDoor.{measured_divisor, divisor_positive}
 use Rattle.stated.proofs.measure.Goals as goal
@@ -23,8 +22,8 @@ divisor_of-divisor-requires c = (c.count_remaining-m.ensures.1, c.requires.0)
 pub cut_sum-sum-requires : goal.cut_sum-sum-requires
 unfolding has_q if job_of labels remain remain_of
 cut_sum-sum-requires c =
-    let values : List ℕ = list_from c.args.values.now c.args.vbytes.now in
-    let weights : List ℕ = list_from c.args.weights.now c.args.wbytes.now in
+    let values : List ℕ = c.args.values.now in
+    let weights : List ℕ = c.args.weights.now in
     let job : Job = job_of 9 (c.args.budget ∷ c.args.q ∷ []) weights values [] in
     let count_is : c.count_remaining-m.result ≡ remain job = c.count_remaining-m.ensures.0 in
     let divisor_is : c.divisor_of-divisor.result ≡ divisor job = measured_divisor job c.greatest_value-p.result c.count_remaining-m.result c.divisor_of-divisor.result
@@ -39,8 +38,8 @@ overflow_mul-cells c =
 pub returns : goal.returns
 unfolding cut_sum cut_values has_q if job_of labels remain remain_of stated_cells
 returns c =
-    let values : List ℕ = list_from c.args.values.now c.args.vbytes.now in
-    let weights : List ℕ = list_from c.args.weights.now c.args.wbytes.now in
+    let values : List ℕ = c.args.values.now in
+    let weights : List ℕ = c.args.weights.now in
     let job : Job = job_of 9 (c.args.budget ∷ c.args.q ∷ []) weights values [] in
     let count_is : c.count_remaining-m.result ≡ remain job = c.count_remaining-m.ensures.0 in
     let divisor_is : c.divisor_of-divisor.result ≡ divisor job = measured_divisor job c.greatest_value-p.result c.count_remaining-m.result c.divisor_of-divisor.result

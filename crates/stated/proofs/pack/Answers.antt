@@ -9,7 +9,6 @@ use Rattle.meaning.specs.declared.Answer.TheVariants as Says
 use Rattle.meaning.specs.Lists.{at}
 use Rattle.meaning.specs.Cells.{no_way}
 use Rattle.meaning.specs.Cuts.{cut_by}
-use Rattle.numbers.specs.TwoSlices.{list_from}
 use Rattle.rows.proofs.Parts.{end_of, end_long, end_at}
 use Rattle.stated.specs.LeastWeights.{row_of, cell_of, Roomy, Filled}
 use Rattle.stated.specs.ReadOff.{Highest, TracedBack}
@@ -23,10 +22,10 @@ fill-requires c = record { budget_le_most_budget = (c.requires.budget_le_most_bu
 pub overflow_sub-last : goal.overflow_sub-last
 overflow_sub-last c =
     let last : ℕ = length c.fill.new.cells - c.args.width in
-    let values : List ℕ = list_from c.args.values.now c.args.vbytes.now in
+    let values : List ℕ = c.args.values.now in
     let cuts : List ℕ = cut_by c.args.divisor values in
     let table_long : length c.fill.new.cells ≡ length c.args.cells.now = c.fill.auto.cells in
-    let weights : List ℕ = list_from c.args.weights.now c.args.wbytes.now in
+    let weights : List ℕ = c.args.weights.now in
     let roomy : Roomy c.args.budget weights cuts c.args.width (length c.fill.new.cells) = rw table_long c.requires.roomy.0 in
     let wide : last + c.args.width ≡ length c.fill.new.cells = omega (arith, first_within c.args.budget weights c.args.width roomy) in
     omega (arith, wide)
@@ -34,9 +33,9 @@ overflow_sub-last c =
 pub highest-top-requires : goal.highest-top-requires
 unfolding no_way
 highest-top-requires c =
-    let values : List ℕ = list_from c.args.values.now c.args.vbytes.now in
+    let values : List ℕ = c.args.values.now in
     let cuts : List ℕ = cut_by c.args.divisor values in
-    let weights : List ℕ = list_from c.args.weights.now c.args.wbytes.now in
+    let weights : List ℕ = c.args.weights.now in
     let filled : Filled c.args.budget weights cuts c.args.width (length weights) c.fill.new.cells = c.fill.ensures in
     let last : ℕ = length c.fill.new.cells - c.args.width in
     let cell : ℕ → ℕ = cell_of c.args.budget weights c.args.width c.fill.new.cells (length weights) in
@@ -59,9 +58,9 @@ highest-top-requires c =
 
 pub trace_back-requires : goal.trace_back-requires
 trace_back-requires c =
-    let values : List ℕ = list_from c.args.values.now c.args.vbytes.now in
+    let values : List ℕ = c.args.values.now in
     let cuts : List ℕ = cut_by c.args.divisor values in
-    let weights : List ℕ = list_from c.args.weights.now c.args.wbytes.now in
+    let weights : List ℕ = c.args.weights.now in
     let filled : Filled c.args.budget weights cuts c.args.width (length weights) c.fill.new.cells = c.fill.ensures in
     let cell : ℕ → ℕ = cell_of c.args.budget weights c.args.width c.fill.new.cells (length weights) in
     let last : ℕ = length c.fill.new.cells - c.args.width in
@@ -77,9 +76,9 @@ trace_back-requires c =
 
 pub value_of-value-requires : goal.value_of-value-requires
 value_of-value-requires c =
-    let weights : List ℕ = list_from c.args.weights.now c.args.wbytes.now in
+    let weights : List ℕ = c.args.weights.now in
     let found_long : length c.trace_back.new.picks ≡ length weights = c.trace_back.auto.picks ∙ sym c.requires.roomy.1 in
-    let values : List ℕ = list_from c.args.values.now c.args.vbytes.now in
+    let values : List ℕ = c.args.values.now in
     let cuts : List ℕ = cut_by c.args.divisor values in
     let read : TracedBack (cell_of c.args.budget weights c.args.width c.fill.new.cells) cuts (length weights) c.highest-top.result c.trace_back.new.picks = c.trace_back.ensures in
     let v = c.requires.budget_le_most_budget.1.1 in record {
@@ -94,10 +93,10 @@ value_of-value-requires c =
 pub overflow_add-weight : goal.overflow_add-weight
 overflow_add-weight c =
     let table_long : length c.fill.new.cells ≡ length c.args.cells.now = c.fill.auto.cells in
-    let weights : List ℕ = list_from c.args.weights.now c.args.wbytes.now in
+    let weights : List ℕ = c.args.weights.now in
     let cell : ℕ → ℕ = cell_of c.args.budget weights c.args.width c.fill.new.cells (length weights) in
     let last : ℕ = length c.fill.new.cells - c.args.width in
-    let values : List ℕ = list_from c.args.values.now c.args.vbytes.now in
+    let values : List ℕ = c.args.values.now in
     let cuts : List ℕ = cut_by c.args.divisor values in
     let roomy : Roomy c.args.budget weights cuts c.args.width (length c.fill.new.cells) = rw table_long c.requires.roomy.0 in
     let wide : last + c.args.width ≡ length c.fill.new.cells = omega (arith, first_within c.args.budget weights c.args.width roomy) in
@@ -112,10 +111,10 @@ overflow_add-weight c =
 pub offset_bounds-cells-last-2 : goal.offset_bounds-cells-last-2
 offset_bounds-cells-last-2 c =
     let table_long : length c.fill.new.cells ≡ length c.args.cells.now = c.fill.auto.cells in
-    let weights : List ℕ = list_from c.args.weights.now c.args.wbytes.now in
+    let weights : List ℕ = c.args.weights.now in
     let cell : ℕ → ℕ = cell_of c.args.budget weights c.args.width c.fill.new.cells (length weights) in
     let last : ℕ = length c.fill.new.cells - c.args.width in
-    let values : List ℕ = list_from c.args.values.now c.args.vbytes.now in
+    let values : List ℕ = c.args.values.now in
     let cuts : List ℕ = cut_by c.args.divisor values in
     let roomy : Roomy c.args.budget weights cuts c.args.width (length c.fill.new.cells) = rw table_long c.requires.roomy.0 in
     let wide : last + c.args.width ≡ length c.fill.new.cells = omega (arith, first_within c.args.budget weights c.args.width roomy) in
@@ -129,10 +128,10 @@ offset_bounds-cells-last-2 c =
 
 pub bounds-cells-last : goal.bounds-cells-last
 bounds-cells-last c =
-    let weights : List ℕ = list_from c.args.weights.now c.args.wbytes.now in
+    let weights : List ℕ = c.args.weights.now in
     let cell : ℕ → ℕ = cell_of c.args.budget weights c.args.width c.fill.new.cells (length weights) in
     let last : ℕ = length c.fill.new.cells - c.args.width in
-    let values : List ℕ = list_from c.args.values.now c.args.vbytes.now in
+    let values : List ℕ = c.args.values.now in
     let cuts : List ℕ = cut_by c.args.divisor values in
     let table_long : length c.fill.new.cells ≡ length c.args.cells.now = c.fill.auto.cells in
     let roomy : Roomy c.args.budget weights cuts c.args.width (length c.fill.new.cells) = rw table_long c.requires.roomy.0 in
@@ -147,9 +146,9 @@ bounds-cells-last c =
 
 pub returns : goal.returns
 returns c =
-    let values : List ℕ = list_from c.args.values.now c.args.vbytes.now in
+    let values : List ℕ = c.args.values.now in
     let cuts : List ℕ = cut_by c.args.divisor values in
-    let weights : List ℕ = list_from c.args.weights.now c.args.wbytes.now in
+    let weights : List ℕ = c.args.weights.now in
     let filled : Filled c.args.budget weights cuts c.args.width (length weights) c.fill.new.cells = c.fill.ensures in
     let cell : ℕ → ℕ = cell_of c.args.budget weights c.args.width c.fill.new.cells (length weights) in
     let last : ℕ = length c.fill.new.cells - c.args.width in

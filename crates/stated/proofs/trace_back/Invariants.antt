@@ -3,7 +3,6 @@ use mathlib.Core.Path.{◌≡◌}
 use Prim.Native.Nat.{◌*◌, ◌≤◌, ◌<◌}
 use lib.ListN.{length, drop}
 use Rattle.meaning.specs.Cuts.{cut_by}
-use Rattle.numbers.specs.TwoSlices.{list_from}
 use Rattle.stated.specs.LeastWeights.{row_of, cell_of}
 use Rattle.stated.specs.ReadOff.{TraceBack}
 use Rattle.stated.proofs.trace_back.Given as goal
@@ -11,10 +10,10 @@ use Rattle.stated.proofs.trace_back.Given as goal
 abbrev pub invariant-loop-i : goal.invariant-loop-i
 invariant-loop-i l = (l.i ≤ length l.initial.picks)
     × (length l.picks ≡ length l.initial.picks)
-    × (l.row ≡ row_of l.budget (list_from l.weights l.wbytes) l.i * l.width)
+    × (l.row ≡ row_of l.budget l.weights l.i * l.width)
     × (l.t < l.width)
-    × TraceBack (cell_of l.budget (list_from l.weights l.wbytes) l.width l.cells) (cut_by l.divisor (list_from l.values l.vbytes))
-    (length (list_from l.weights l.wbytes)) l.top l.i l.t (drop l.i l.picks)
+    × TraceBack (cell_of l.budget l.weights l.width l.cells) (cut_by l.divisor l.values)
+    (length l.weights) l.top l.i l.t (drop l.i l.picks)
 
 abbrev pub decreases-loop-i : goal.decreases-loop-i
 decreases-loop-i l = l.i

@@ -8,25 +8,24 @@ use Rattle.meaning.specs.Bounds.{most_value}
 use Rattle.meaning.proofs.Totals.{total_none}
 use Rattle.meaning.proofs.EachLabel.{total_next, product_one}
 use Rattle.meaning.proofs.Sections.{limit32}
-use Rattle.numbers.specs.TwoSlices.{list_from}
 use Rattle.stated.proofs.Fitting.{sum_fits}
 use Rattle.stated.proofs.value_of.Goals as goal
 
-few : (c : goal.After-shared_slice_known-in-loop-i-1) → c.item.result * (at c.args.picks.now c.loop-i.i) ≤ c.item.result
+few : (c : goal.After-shared_slice_known-in-loop-i-1) → c.at.result * (at c.args.picks.now c.loop-i.i) ≤ c.at.result
 few c =
-    product_one c.item.result (at c.args.picks.now c.loop-i.i) (c.requires.by_index c.loop-i.i (omega arith))
+    product_one c.at.result (at c.args.picks.now c.loop-i.i) (c.requires.by_index c.loop-i.i (omega arith))
 
-cheap : (c : goal.After-shared_slice_known-in-loop-i-1) → c.item.result ≤ most_value
+cheap : (c : goal.After-shared_slice_known-in-loop-i-1) → c.at.result ≤ most_value
 cheap c =
-    rw c.item.ensures (c.requires.valued.cheap c.loop-i.i (omega arith))
+    rw c.at.ensures (c.requires.valued.cheap c.loop-i.i (omega arith))
 
-fits : (c : goal.After-shared_slice_known-in-loop-i-1) → (c.loop-i.value + c.item.result * (at c.args.picks.now c.loop-i.i) ≤ most_value * (c.loop-i.i + 1)) × (c.loop-i.value + c.item.result * (at c.args.picks.now c.loop-i.i) < limit32)
+fits : (c : goal.After-shared_slice_known-in-loop-i-1) → (c.loop-i.value + c.at.result * (at c.args.picks.now c.loop-i.i) ≤ most_value * (c.loop-i.i + 1)) × (c.loop-i.value + c.at.result * (at c.args.picks.now c.loop-i.i) < limit32)
 fits c =
-    sum_fits c.loop-i.value (c.item.result * (at c.args.picks.now c.loop-i.i)) c.loop-i.i c.loop-i.invariant.1 (omega (arith, (few c), (cheap c)))
+    sum_fits c.loop-i.value (c.at.result * (at c.args.picks.now c.loop-i.i)) c.loop-i.i c.loop-i.invariant.1 (omega (arith, (few c), (cheap c)))
     (omega (arith, c.requires.valued.few))
 
 pub loop-i-init : goal.loop-i-init
-loop-i-init c = (omega arith, omega arith, sym (total_none (list_from c.args.values.now c.args.vbytes.now)))
+loop-i-init c = (omega arith, omega arith, sym (total_none c.args.values.now))
 
 pub overflow_mul-value : goal.overflow_mul-value
 overflow_mul-value c = omega (arith, few c)
@@ -39,10 +38,10 @@ loop-i-preserved c =
     let l = c.loop-i in (
       omega arith,
       (fits c).0,
-      ap₂ ◌+◌ l.invariant.2 (ap (λ (v : ℕ). v * (at c.args.picks.now c.loop-i.i)) c.item.ensures) ∙ sym (total_next (list_from c.args.values.now c.args.vbytes.now) c.args.picks.now l.i (omega arith)),
+      ap₂ ◌+◌ l.invariant.2 (ap (λ (v : ℕ). v * (at c.args.picks.now c.loop-i.i)) c.at.ensures) ∙ sym (total_next c.args.values.now c.args.picks.now l.i (omega arith)),
     )
 
 pub returns : goal.returns
 returns c =
     let l = c.loop-i in
-    l.invariant.2 ∙ ap (total (list_from c.args.values.now c.args.vbytes.now)) (take_all l.i c.args.picks.now (omega arith))
+    l.invariant.2 ∙ ap (total c.args.values.now) (take_all l.i c.args.picks.now (omega arith))

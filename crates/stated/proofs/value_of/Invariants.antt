@@ -4,11 +4,10 @@ use Prim.Native.Nat.{◌-◌, ◌*◌, ◌≤◌}
 use lib.ListN.{length, take}
 use Rattle.meaning.specs.Lists.{total}
 use Rattle.meaning.specs.Bounds.{most_value}
-use Rattle.numbers.specs.TwoSlices.{list_from}
 use Rattle.stated.proofs.value_of.Given as goal
 
 abbrev pub invariant-loop-i : goal.invariant-loop-i
-invariant-loop-i l = (l.i ≤ length l.picks) × (l.value ≤ most_value * l.i) × (l.value ≡ total (list_from l.values l.vbytes) (take l.i l.picks))
+invariant-loop-i l = (l.i ≤ length l.picks) × (l.value ≤ most_value * l.i) × (l.value ≡ total l.values (take l.i l.picks))
 
 abbrev pub decreases-loop-i : goal.decreases-loop-i
 decreases-loop-i l = length l.picks - l.i

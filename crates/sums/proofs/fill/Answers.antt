@@ -11,9 +11,9 @@ loop-i-init c = let words = c.first_alone in rounds_none (rw words.auto.words wo
 pub loop-i-preserved : goal.loop-i-preserved
 loop-i-preserved c =
     rounds_more c.loop-i.invariant c.loop-i-test.true c.add_label.auto.words
-    (rw c.item.ensures at c.add_label.ensures)
+    (rw c.at.ensures at c.add_label.ensures)
 
 pub returns : goal.returns
 returns c =
     let long : length c.loop-i.words ≡ length c.args.words.now = c.loop-i.invariant.long ∙ c.first_alone.auto.words in
-    rounds_all _ _ c.loop-i.invariant (omega arith) c.list_length-n.ensures long
+    rounds_all _ _ c.loop-i.invariant (omega arith) c.len-n.ensures long

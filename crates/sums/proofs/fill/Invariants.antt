@@ -1,7 +1,6 @@
 -- `sums::fill` meets its contract: total 0 alone with no labels, and then a label more each turn.
 use Prim.Native.Nat.{◌-◌}
 use lib.ListN.{length}
-use Rattle.numbers.specs.TwoSlices.{list_from}
 use Rattle.meaning.specs.Lists.{at}
 use Rattle.rows.specs.Rows.{FirstAlone}
 use Rattle.rows.proofs.Rounds.{Rounds}
@@ -9,7 +8,7 @@ use Rattle.sums.specs.Words.{Added}
 use Rattle.sums.proofs.fill.Given as goal
 
 abbrev pub invariant-loop-i : goal.invariant-loop-i
-invariant-loop-i l = Rounds (FirstAlone 1 0) (λ len m s t. Added s t (at (list_from l.weights l.wbytes) m) 0 len) l.n (length l.initial.words) l.i l.words
+invariant-loop-i l = Rounds (FirstAlone 1 0) (λ len m s t. Added s t (at l.weights m) 0 len) l.n (length l.initial.words) l.i l.words
 
 abbrev pub decreases-loop-i : goal.decreases-loop-i
 decreases-loop-i l = l.n - l.i

@@ -5,7 +5,7 @@ use native.Mathlib.Omega.{arith}
 use lib.ListN.{length}
 use Rattle.meaning.specs.Job.{job_of, labels}
 use Rattle.meaning.specs.Bounds.{most_budget}
-use Rattle.numbers.specs.TwoSlices.{weights_from}
+use Rattle.numbers.specs.Lists.{weights_from}
 use Rattle.sums.proofs.Meant.{bit_table, tabled}
 use Rattle.sums.proofs.table.Goals as goal
 
@@ -19,7 +19,7 @@ unfolding job_of labels
 returns c =
     let yes = c.is_set-yes in
     let a = c.args in
-    let j = weights_from 4 (a.budget ∷ []) a.weights.now a.wbytes.now in
+    let j = weights_from 4 (a.budget ∷ []) a.weights.now in
     let words = c.trim.new.words in
     let kept = c.fill.auto.words in
     tabled j words (length words) (c.trim.auto.words ∙ kept ∙ c.requires.1)

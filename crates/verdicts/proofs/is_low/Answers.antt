@@ -8,7 +8,6 @@ use Rattle.meaning.specs.Bytes.{numbers_in}
 use Rattle.meaning.specs.Job.{Job, Knapsack, job_of, labels}
 use Rattle.meaning.specs.Bounds.{most_budget}
 use Rattle.meaning.specs.Certificates.{certificate_cells}
-use Rattle.numbers.specs.TwoSlices.{list_from}
 use Rattle.meaning.proofs.Valid.{Valid}
 use Rattle.verdicts.specs.Asked.{bytes_job, knapsack_in, InRow}
 use Rattle.verdicts.proofs.Taken.{copied, taken_free, valid_read}
@@ -16,7 +15,7 @@ use Rattle.verdicts.proofs.LowRows.{TableOf, RowRead, tabled, table_of, row_read
 use Rattle.verdicts.proofs.is_low.Goals as goal
 
 pub stretch_is_low-requires : goal.stretch_is_low-requires
-unfolding certificate_cells job_of labels list_from most_budget
+unfolding certificate_cells job_of labels most_budget
 stretch_is_low-requires c =
     let job : Job = bytes_job c.args.kind c.args.budget c.args.weights.now c.args.values.now c.args.copies.now in
     let knapsack : Knapsack = knapsack_in c.args.kind in
@@ -25,7 +24,7 @@ stretch_is_low-requires c =
     record { values_len = valid.valued; end_bound = (omega (arith, c.requires.run.inside, single, valid.small), omega (arith, c.requires.run.inside, c.requires.cells_read.long)) }
 
 pub returns-then-kind-eq3 : goal.returns-then-kind-eq3
-unfolding job_of list_from
+unfolding job_of
 returns-then-kind-eq3 c =
     let job : Job = bytes_job c.args.kind c.args.budget c.args.weights.now c.args.values.now c.args.copies.now in
     free_low (taken_free _ c.if-kind-eq3.true) job _ _ _ _ (c.stretch_is_low.ensures job refl refl)
@@ -54,7 +53,7 @@ overflow_sub-i c =
     the_row.not_first
 
 pub number_in-w-requires : goal.number_in-w-requires
-unfolding job_of labels list_from
+unfolding job_of labels
 number_in-w-requires c =
     let claims : List ℕ = numbers_in c.args.cells.now in
     let job : Job = bytes_job c.args.kind c.args.budget c.args.weights.now c.args.values.now c.args.copies.now in
@@ -68,7 +67,7 @@ number_in-w-requires c =
     label_there
 
 pub number_in-v-requires : goal.number_in-v-requires
-unfolding job_of labels list_from
+unfolding job_of labels
 number_in-v-requires c =
     let claims : List ℕ = numbers_in c.args.cells.now in
     let job : Job = bytes_job c.args.kind c.args.budget c.args.weights.now c.args.values.now c.args.copies.now in
@@ -83,7 +82,7 @@ number_in-v-requires c =
     omega (arith, label_there, valid.valued)
 
 pub most_picks-most-requires : goal.most_picks-most-requires
-unfolding job_of labels list_from
+unfolding job_of labels
 most_picks-most-requires c is-limited =
     let claims : List ℕ = numbers_in c.args.cells.now in
     let job : Job = bytes_job c.args.kind c.args.budget c.args.weights.now c.args.values.now c.args.copies.now in
@@ -98,7 +97,7 @@ most_picks-most-requires c is-limited =
     omega (arith, label_there, copied valid is-limited)
 
 pub row_breaks-requires : goal.row_breaks-requires
-unfolding job_of list_from
+unfolding job_of
 row_breaks-requires c =
     let claims : List ℕ = numbers_in c.args.cells.now in
     let job : Job = bytes_job c.args.kind c.args.budget c.args.weights.now c.args.values.now c.args.copies.now in
@@ -116,7 +115,7 @@ row_breaks-requires c =
     }
 
 pub returns : goal.returns
-unfolding job_of list_from
+unfolding job_of
 returns c =
     let claims : List ℕ = numbers_in c.args.cells.now in
     let job : Job = bytes_job c.args.kind c.args.budget c.args.weights.now c.args.values.now c.args.copies.now in

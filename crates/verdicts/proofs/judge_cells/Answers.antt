@@ -10,7 +10,6 @@ use Rattle.meaning.specs.Job.{Job, Knapsack, job_of, labels}
 use Rattle.meaning.specs.Bytes.{numbers_in}
 use Rattle.meaning.specs.Certificates.{cell_at, over_picked, low_cell}
 use Rattle.meaning.proofs.Numbers.{numbers_long}
-use Rattle.numbers.specs.TwoSlices.{list_from}
 use Rattle.verdicts.specs.Asked.{FewPicks, bytes_job, knapsack_in}
 use Rattle.verdicts.specs.Searching.{place_of}
 use Rattle.meaning.proofs.Valid.{Valid}
@@ -28,7 +27,7 @@ some_claim c =
     some_cell (job) (cells) (knapsack) c.requires.cells_read.long
 
 pub over_picked-over-requires : goal.over_picked-over-requires
-unfolding job_of list_from
+unfolding job_of
 over_picked-over-requires c is-limited =
     let job : Job = bytes_job c.args.kind c.args.budget c.args.weights.now c.args.values.now c.args.copies.now in
     let knapsack : Knapsack = knapsack_in c.args.kind in
@@ -36,7 +35,7 @@ over_picked-over-requires c is-limited =
     copied valid is-limited ∙ sym c.requires.picks_len
 
 pub returns-in-At : goal.returns-in-At
-unfolding job_of list_from place_of
+unfolding job_of place_of
 returns-in-At c =
     let job : Job = bytes_job c.args.kind c.args.budget c.args.weights.now c.args.values.now c.args.copies.now in
     let knapsack : Knapsack = knapsack_in c.args.kind in
@@ -45,7 +44,7 @@ returns-in-At c =
     c.refused_at.ensures ∙ over_12 _ _ _ _ _ (sym over_is ∙ ap place_of c.in-At.is)
 
 pub picked-requires : goal.picked-requires
-unfolding job_of list_from place_of
+unfolding job_of place_of
 picked-requires c =
     let job : Job = bytes_job c.args.kind c.args.budget c.args.weights.now c.args.values.now c.args.copies.now in
     let knapsack : Knapsack = knapsack_in c.args.kind in
@@ -57,7 +56,7 @@ picked-requires c =
     weights_few
 
 pub returns-then-budget-picked : goal.returns-then-budget-picked
-unfolding job_of list_from place_of
+unfolding job_of place_of
 returns-then-budget-picked c =
     let job : Job = bytes_job c.args.kind c.args.budget c.args.weights.now c.args.values.now c.args.copies.now in
     let knapsack : Knapsack = knapsack_in c.args.kind in
@@ -67,7 +66,7 @@ returns-then-budget-picked c =
     c.refused_at-then-budget-picked.ensures ∙ heavy_13 _ _ _ _ none_over (omega (arith, c.picked.ensures, c.if-budget-picked.true))
 
 pub returns-in-At-low : goal.returns-in-At-low
-unfolding job_of list_from place_of
+unfolding job_of place_of
 returns-in-At-low c =
     let picks : List ℕ = numbers_in c.args.picks.now in
     let light : total (numbers_in c.args.weights.now) picks ≤ c.args.budget = omega (arith, c.picked.ensures, c.if-budget-picked.false) in
@@ -87,7 +86,7 @@ pub number_in-value-requires : goal.number_in-value-requires
 number_in-value-requires c = omega (arith, numbers_long c.args.cells.now, some_claim c)
 
 pub picked-requires-2 : goal.picked-requires-2
-unfolding job_of list_from place_of
+unfolding job_of place_of
 picked-requires-2 c =
     let job : Job = bytes_job c.args.kind c.args.budget c.args.weights.now c.args.values.now c.args.copies.now in
     let knapsack : Knapsack = knapsack_in c.args.kind in
@@ -99,7 +98,7 @@ picked-requires-2 c =
     values_few
 
 pub returns-then-value-picked : goal.returns-then-value-picked
-unfolding job_of list_from place_of
+unfolding job_of place_of
 returns-then-value-picked c =
     let cells : List ℕ = numbers_in c.args.cells.now in
     let job : Job = bytes_job c.args.kind c.args.budget c.args.weights.now c.args.values.now c.args.copies.now in
@@ -117,7 +116,7 @@ returns-then-value-picked c =
     (λ e. c.if-value-picked.true (e ∙ sym c.picked-2.ensures))
 
 pub returns : goal.returns
-unfolding job_of list_from place_of
+unfolding job_of place_of
 returns c =
     let cells : List ℕ = numbers_in c.args.cells.now in
     let job : Job = bytes_job c.args.kind c.args.budget c.args.weights.now c.args.values.now c.args.copies.now in
