@@ -146,11 +146,9 @@ fn climb(row: &mut [u32], w: u32, v: u32)
     ensures { Raised (at row.old) (at row.new) (at row.new) w v (length row.old) }
 {
     let w = w as usize;
-    let mut c = w;
-    while c < row.len() {
+    for c in (w..row.len()).step_by(w) {
         let end = stretch_end(row.len(), c, w);
         raise_stretch(row, c, end, w, v);
-        c = end;
     }
 }
 
