@@ -9,30 +9,12 @@ ghost use Rattle.meaning.specs.Bounds.{most_budget, most_value};
 ghost use Rattle.rows.specs.Rows.{Stored, FirstAlone, Swept, raised_by, Raised, Capped, Repeated, Bundled, NextRow};
 ghost use Rattle.rows.specs.Rows.{GreatestRow, AnyCount, SomeCount, Least, leads_on};
 
-// The lesser of two numbers.
-fn lesser(a: u32, b: u32) -> u32
-    ensures { result ≡ min a b }
-{
-    if a < b { a } else { b }
-}
-
-// The greater of two numbers.
-fn greater(a: u32, b: u32) -> u32
-    ensures { result ≡ max a b }
-{
-    if a < b { b } else { a }
-}
-
 // The first cells of a table, all of them x.
 pub fn set_all(cells: &mut [u32], width: usize, x: u32)
     requires { width ≤ length cells.old }
     ensures { Stored cells.old cells.new 0 0 width (λ c. x) }
 {
-    let mut c = 0;
-    while c < width {
-        cells[c] = x;
-        c += 1;
-    }
+    cells[..width].fill(x);
 }
 
 // The first words, all 0.
@@ -40,11 +22,7 @@ pub fn clear(words: &mut [u64], to: usize)
     requires { to ≤ length words.old }
     ensures { Stored words.old words.new 0 0 to (λ m. 0) }
 {
-    let mut m = 0;
-    while m < to {
-        words[m] = 0;
-        m += 1;
-    }
+    words[..to].fill(0);
 }
 
 // The words of no labels: 1 in the first, for the empty list alone, and 0 in the others.
@@ -84,11 +62,7 @@ pub fn copy(cells: &mut [u32], from: usize, to: usize, count: usize)
     requires { (from + count ≤ to) × (to + count ≤ length cells.old) }
     ensures { Stored cells.old cells.new to 0 count (λ c. at cells.old (from + c)) }
 {
-    let mut c = 0;
-    while c < count {
-        cells[to + c] = cells[from + c];
-        c += 1;
-    }
+    cells.copy_within(from..from + count, to);
 }
 
 // One of a label of weight w and value v over the row at `from`, into the row at `to`, for the budgets that hold it. There is no test
@@ -99,12 +73,10 @@ fn raise(cells: &mut [u32], from: usize, to: usize, width: usize, w: usize, v: u
     ensures { Stored cells.old cells.new to w width
         (λ c. max (at cells.old (from + c)) (at cells.old (from + (c - w)) + v)) }
 {
-    let mut c = w;
-    while c < width {
+    for c in w..width {
         let without = cells[from + c];
-        let with = cells[from + c - w] + v;
-        cells[to + c] = greater(without, with);
-        c += 1;
+        let with = cells[from + (c - w)] + v;
+        cells[to + c] = u32::max(without, with);
     }
 }
 
@@ -116,12 +88,10 @@ fn add_one(row: &mut [u32], w: u32, v: u32)
     ensures { Raised (at row.old) (at row.old) (at row.new) w v (length row.old) }
 {
     let w = w as usize;
-    let mut c = row.len();
-    while w < c {
-        c -= 1;
+    for c in (w..row.len()).rev() {
         let without = row[c];
         let with = row[c - w] + v;
-        row[c] = greater(without, with);
+        row[c] = u32::max(without, with);
     }
 }
 
@@ -136,26 +106,25 @@ fn add_parts(row: &mut [u32], w: u32, v: u32, most: u32)
     requires capped { Capped (at row.old) (length row.old) }
     ensures { Repeated row.old row.new w v (length row.old) most }
 {
-    let mut m = lesser(1, most);
+    let mut m = u32::min(1, most);
     while m < most {
-        let part = lesser(m + 1, most - m);
+        let part = u32::min(m + 1, most - m);
         add_one(row, w * part % BUDGETS, v * part);
         m += part;
     }
 }
 
 // A stretch of a row from small budgets up: a label of weight w and value v is added as often as it may be.
+#[tactic(auto, using(crate::proofs::Stores::capped_more), unfolding(crate::specs::Rows::Capped, meaning::specs::Bounds::most_budget, meaning::specs::Bounds::most_value))]
 fn raise_stretch(row: &mut [u32], from: usize, to: usize, w: usize, v: u32)
     requires le_w { (1 ≤ w) × ((w ≤ from) × ((from ≤ to) × (to ≤ length row.old))) }
     requires v_bound { (v ≤ most_value * w) × ((length row.old ≤ most_budget + 1) × Capped (at row.old) (length row.old)) }
     ensures { Swept (raised_by v) row.old row.new w from to × Capped (at row.new) (length row.old) }
 {
-    let mut c = from;
-    while c < to {
+    for c in from..to {
         let without = row[c];
         let with = row[c - w] + v;
-        row[c] = greater(without, with);
-        c += 1;
+        row[c] = u32::max(without, with);
     }
 }
 
@@ -177,11 +146,9 @@ fn climb(row: &mut [u32], w: u32, v: u32)
     ensures { Raised (at row.old) (at row.new) (at row.new) w v (length row.old) }
 {
     let w = w as usize;
-    let mut c = w;
-    while c < row.len() {
+    for c in (w..row.len()).step_by(w) {
         let end = stretch_end(row.len(), c, w);
         raise_stretch(row, c, end, w, v);
-        c = end;
     }
 }
 
@@ -239,7 +206,7 @@ fn most_held(limit: u32, width: usize, w: u32) -> u32
     if limit < 2 {
         return limit;
     }
-    lesser(limit, budget / w)
+    u32::min(limit, budget / w)
 }
 
 // The row after the one at `from`, with up to `limit` of a label.

@@ -12,32 +12,32 @@ use Rattle.rows.proofs.add_parts.Goals as goal
 
 pub loop-m-init : goal.loop-m-init
 loop-m-init c =
-    let one : c.lesser-m.result ≡ min 1 c.args.most = c.lesser-m.ensures in
+    let one : c.min-m.result ≡ min 1 c.args.most = c.min-m.ensures in
     (omega arith, omega arith, refl, c.requires.capped, rw one (λ f greatest. greatest))
 
 pub overflow_mul-w : goal.overflow_mul-w
 unfolding most_budget most_value
 overflow_mul-w c =
-    let fits : let a = c.args in PartFits a.w a.v (c.lesser-part.result) (length a.row.now) = let a = c.args in
-    part_fits a.w a.v (c.lesser-part.result) a.most (length a.row.now) c.requires.le_w.0 c.requires.le_w.1.0
-    (omega (arith, c.lesser-part.ensures)) c.requires.le_w.1.1.1 in
+    let fits : let a = c.args in PartFits a.w a.v (c.min-part.result) (length a.row.now) = let a = c.args in
+    part_fits a.w a.v (c.min-part.result) a.most (length a.row.now) c.requires.le_w.0 c.requires.le_w.1.0
+    (omega (arith, c.min-part.ensures)) c.requires.le_w.1.1.1 in
     omega (arith, fits.light, c.requires.le_w)
 
 pub overflow_mul-v : goal.overflow_mul-v
 unfolding most_budget most_value
 overflow_mul-v c =
-    let fits : let a = c.args in PartFits a.w a.v (c.lesser-part.result) (length a.row.now) = let a = c.args in
-    part_fits a.w a.v (c.lesser-part.result) a.most (length a.row.now) c.requires.le_w.0 c.requires.le_w.1.0
-    (omega (arith, c.lesser-part.ensures)) c.requires.le_w.1.1.1 in
+    let fits : let a = c.args in PartFits a.w a.v (c.min-part.result) (length a.row.now) = let a = c.args in
+    part_fits a.w a.v (c.min-part.result) a.most (length a.row.now) c.requires.le_w.0 c.requires.le_w.1.0
+    (omega (arith, c.min-part.ensures)) c.requires.le_w.1.1.1 in
     omega (arith, fits, c.requires.le_w)
 
 pub add_one-requires : goal.add_one-requires
 unfolding Capped most_budget most_value
 add_one-requires c =
-    let fits : let a = c.args in PartFits a.w a.v (c.lesser-part.result) (length a.row.now) = let a = c.args in
-    part_fits a.w a.v (c.lesser-part.result) a.most (length a.row.now) c.requires.le_w.0 c.requires.le_w.1.0
-    (omega (arith, c.lesser-part.ensures)) c.requires.le_w.1.1.1 in
-    let whole : let w = c.args.w * c.lesser-part.result in w % 65_536 ≡ w = mod-eq_of_lt (omega (arith, fits.light, c.requires.le_w)) in
+    let fits : let a = c.args in PartFits a.w a.v (c.min-part.result) (length a.row.now) = let a = c.args in
+    part_fits a.w a.v (c.min-part.result) a.most (length a.row.now) c.requires.le_w.0 c.requires.le_w.1.0
+    (omega (arith, c.min-part.ensures)) c.requires.le_w.1.1.1 in
+    let whole : let w = c.args.w * c.min-part.result in w % 65_536 ≡ w = mod-eq_of_lt (omega (arith, fits.light, c.requires.le_w)) in
     λ d h.
     let l = c.loop-m in
     omega (arith, l.invariant.3 d (omega (arith, l.invariant.2)), fits.cheap, whole, l.invariant.2, c.requires.le_w)
@@ -45,11 +45,11 @@ add_one-requires c =
 pub loop-m-preserved : goal.loop-m-preserved
 unfolding GreatestRow most_budget
 loop-m-preserved c =
-    let fits : let a = c.args in PartFits a.w a.v (c.lesser-part.result) (length a.row.now) = let a = c.args in
-    part_fits a.w a.v (c.lesser-part.result) a.most (length a.row.now) c.requires.le_w.0 c.requires.le_w.1.0
-    (omega (arith, c.lesser-part.ensures)) c.requires.le_w.1.1.1 in
-    let whole : let w = c.args.w * c.lesser-part.result in w % 65_536 ≡ w = mod-eq_of_lt (omega (arith, fits.light, c.requires.le_w)) in
-    let least = c.lesser-part.ensures in
+    let fits : let a = c.args in PartFits a.w a.v (c.min-part.result) (length a.row.now) = let a = c.args in
+    part_fits a.w a.v (c.min-part.result) a.most (length a.row.now) c.requires.le_w.0 c.requires.le_w.1.0
+    (omega (arith, c.min-part.ensures)) c.requires.le_w.1.1.1 in
+    let whole : let w = c.args.w * c.min-part.result in w % 65_536 ≡ w = mod-eq_of_lt (omega (arith, fits.light, c.requires.le_w)) in
+    let least = c.min-part.ensures in
     let l = c.loop-m in
     let a = c.args in
     let width = length a.row.now in
@@ -58,9 +58,9 @@ loop-m-preserved c =
       omega (arith, least),
       omega (arith, least),
       c.add_one.auto.row ∙ l.invariant.2,
-      raised_capped (at l.row) after (a.w * c.lesser-part.result) (a.v * c.lesser-part.result) width fits.cheap l.invariant.3 raised,
+      raised_capped (at l.row) after (a.w * c.min-part.result) (a.v * c.min-part.result) width fits.cheap l.invariant.3 raised,
       λ f greatest.
-          greatest_part f (at l.row) after a.w a.v l.m (c.lesser-part.result) width (omega (arith, least)) (l.invariant.4 f greatest) raised,
+          greatest_part f (at l.row) after a.w a.v l.m (c.min-part.result) width (omega (arith, least)) (l.invariant.4 f greatest) raised,
     )
 
 pub returns : goal.returns
