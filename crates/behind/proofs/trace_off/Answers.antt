@@ -16,7 +16,7 @@ shows_few c =
     omega (arith, (shows).one_of, c.requires.traceable.few)
 
 -- the weight that is taken off
-weighs : (c : goal.After-item) → c.at.result ≡ at c.args.weights.now (at c.args.row.now c.loop-t.t - 1)
+weighs : (c : goal.After-at) → c.at.result ≡ at c.args.weights.now (at c.args.row.now c.loop-t.t - 1)
 weighs c =
     c.at.ensures
 
