@@ -7,13 +7,14 @@ ghost use Rattle.meaning.specs.Lists.{at};
 ghost use Rattle.meaning.specs.Job.{labels_behind};
 ghost use Rattle.meaning.specs.Lent.{lent_of};
 ghost use Rattle.meaning.specs.Bounds.{most_labels};
+ghost use Rattle.meaning.specs.Says.{said};
 ghost use Rattle.meaning.specs.Solved.{Unrefused};
 ghost use Rattle.meaning.specs.SolvedIn.{SolvedInCells};
 ghost use Rattle.numbers.specs.Lists.{weights_from};
 ghost use Rattle.rows.specs.Rows.{Joined};
 ghost use Rattle.behind.specs.Firsts.{first_by, FirstsGrown, Traceable, TraceOff};
 
-use meaning::Answer;
+use meaning::{Answer, Refusal};
 use numbers::Numbers;
 
 // ---- the row, label by label
@@ -84,17 +85,17 @@ pub fn solve(
     weights: &Numbers,
     cells: &mut [u32],
     picks: &mut [u32],
-) -> Answer
+) -> Result<Answer, Refusal>
     requires { Unrefused labels_behind (weights_from 8 (budget ∷ []) weights.now) (lent_of cells.old [] picks.old) }
     ensures { SolvedInCells (weights_from 8 (budget ∷ []) weights.now)
-        cells.old picks.old result cells.new picks.new }
+        cells.old picks.old (said result) cells.new picks.new }
 {
     let n = weights.len();
     let width = budget as usize + 1;
     fill(weights, &mut cells[..width]);
     if rows::is_marked(cells[width - 1]) {
-        return Answer::Refused(7);
+        return Err(Refusal::NoSum);
     }
     trace_off(weights, &cells[..width], &mut picks[..n]);
-    Answer::Weight(budget)
+    Ok(Answer::Weight(budget))
 }

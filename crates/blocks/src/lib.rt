@@ -5,6 +5,7 @@ ghost use Rattle.std.specs.Prelude.{◌≡◌, [], ◌∷◌, ◌+◌, ◌-◌, 
 ghost use Rattle.meaning.specs.Lists.{at};
 ghost use Rattle.meaning.specs.Job.{fewest_blocks, block_ways};
 ghost use Rattle.meaning.specs.Lent.{lent_of};
+ghost use Rattle.meaning.specs.Says.{said};
 ghost use Rattle.meaning.specs.Solved.{Solved, Unrefused};
 ghost use Rattle.meaning.specs.SolvedIn.{SolvedInCells, SolvedInWords};
 ghost use Rattle.numbers.specs.Lists.{weights_from};
@@ -12,7 +13,7 @@ ghost use Rattle.rows.specs.Rows.{Swept};
 ghost use Rattle.blocks.specs.Sizes.{Bounded, fewer_of, ways_of, FewestGrown, WaysGrown, leaves_fewer, TraceDown};
 ghost use Rattle.blocks.specs.BlocksDoor.{LetIn};
 
-use meaning::Answer;
+use meaning::{Answer, Refusal};
 use numbers::Numbers;
 
 // ---- kind 5: the fewest blocks
@@ -118,20 +119,20 @@ fn fewest(
     weights: &Numbers,
     cells: &mut [u32],
     picks: &mut [u32],
-) -> Answer
+) -> Result<Answer, Refusal>
     requires { Unrefused fewest_blocks (weights_from 5 (budget ∷ []) weights.now) (lent_of cells.old [] picks.old) }
     ensures { SolvedInCells (weights_from 5 (budget ∷ []) weights.now)
-        cells.old picks.old result cells.new picks.new }
+        cells.old picks.old (said result) cells.new picks.new }
 {
     let n = weights.len();
     let width = budget as usize + 1;
     fill_fewest(weights, &mut cells[..width]);
     let blocks = cells[width - 1];
     if rows::is_marked(blocks) {
-        return Answer::Refused(7);
+        return Err(Refusal::NoSum);
     }
     trace_down(weights, &cells[..width], &mut picks[..n]);
-    Answer::Blocks(blocks)
+    Ok(Answer::Blocks(blocks))
 }
 
 // ---- kind 6: the ways
@@ -178,17 +179,17 @@ fn fill_ways(weights: &Numbers, words: &mut [u64])
 }
 
 // Kind 6: the row, and the ways for the whole budget or that they are too many to count. No other amount has a say in that.
-fn ways(budget: u32, weights: &Numbers, words: &mut [u64]) -> Answer
+fn ways(budget: u32, weights: &Numbers, words: &mut [u64]) -> Result<Answer, Refusal>
     requires { Unrefused block_ways (weights_from 6 (budget ∷ []) weights.now) (lent_of [] words.old []) }
     ensures { SolvedInWords (weights_from 6 (budget ∷ []) weights.now)
-        words.old result words.new }
+        words.old (said result) words.new }
 {
     let width = budget as usize + 1;
     fill_ways(weights, &mut words[..width]);
     if words[width - 1] == TOO_MANY {
-        return Answer::Refused(8);
+        return Err(Refusal::TooMany);
     }
-    Answer::Ways(words[width - 1])
+    Ok(Answer::Ways(words[width - 1]))
 }
 
 // ---- the door
@@ -201,10 +202,10 @@ pub fn solve(
     cells: &mut [u32],
     words: &mut [u64],
     picks: &mut [u32],
-) -> Answer
+) -> Result<Answer, Refusal>
     requires { LetIn (weights_from kind (budget ∷ []) weights.now) (lent_of cells.old words.old picks.old) }
     ensures { Solved (weights_from kind (budget ∷ []) weights.now)
-        (lent_of cells.old words.old picks.old) result
+        (lent_of cells.old words.old picks.old) (said result)
         (lent_of cells.new words.new picks.new) }
 {
     if kind == 5 {

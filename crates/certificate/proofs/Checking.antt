@@ -4,8 +4,8 @@ use mathlib.Core.Path.{◌≡◌, refl, sym, ap, ◌∙◌}
 use mathlib.Core.Option.{Option, none, some}
 use Prim.Native.Nat.{ℕ, zero, suc}
 use mathlib.Core.List.{List}
-use Rattle.meaning.specs.declared.Verdict.{Verdict}
-use Rattle.meaning.specs.declared.Verdict.TheVariants.{Refused}
+use Rattle.meaning.specs.Judges.{Verdict}
+use Rattle.meaning.specs.Judges.{Refused}
 use Rattle.meaning.specs.Job.{Job, Knapsack, packing}
 use Rattle.meaning.specs.Refusals.{job_refusal, rules_of}
 use Rattle.meaning.specs.Bytes.{JobRead, read_job, readable, unreadable}

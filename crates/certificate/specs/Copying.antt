@@ -1,7 +1,7 @@
 -- What copying picks and cells into bytes comes to.
 -- Assumes nothing.
 use Rattle.std.specs.Prelude.{◌≡◌, ℕ, List}
-use Rattle.meaning.specs.declared.Written.{Written}
+use Rattle.meaning.specs.Reports.{Written}
 use Rattle.meaning.specs.Job.{Job, Knapsack, labels}
 use Rattle.meaning.specs.Certificates.{HasCertificates, certificate_cells}
 use Rattle.meaning.specs.Writer.{Writes}

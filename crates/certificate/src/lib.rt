@@ -3,7 +3,7 @@
 #![tactic(auto)]
 
 ghost use Rattle.std.specs.Prelude.{◌≡◌, ◌<◌, [], ◌∷◌};
-ghost use Rattle.meaning.specs.declared.Verdict.TheVariants.{Refused};
+ghost use Rattle.meaning.specs.Judges.{Refused};
 ghost use Rattle.meaning.specs.Job.{job_of};
 ghost use Rattle.meaning.specs.Certificates.{Checked, HasCertificates, verdict_on_certificate};
 ghost use Rattle.meaning.specs.Writer.{Writes, WritesBytes};

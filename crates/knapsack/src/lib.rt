@@ -6,6 +6,7 @@ ghost use Rattle.meaning.specs.Lists.{at};
 ghost use Rattle.meaning.specs.declared.Way.TheVariants.{Full};
 ghost use Rattle.meaning.specs.Job.{job_of, packing, free};
 ghost use Rattle.meaning.specs.Lent.{lent_of};
+ghost use Rattle.meaning.specs.Says.{given};
 ghost use Rattle.meaning.specs.Solved.{UnrefusedBy};
 ghost use Rattle.meaning.specs.SolvedIn.{SolvedInCellsBy};
 ghost use Rattle.rows.specs.Rows.{SomeCount, Capped};
@@ -160,7 +161,7 @@ fn full_table(
     requires kind_bound { kind < 3 }
     ensures { SolvedInCellsBy Full (job_of kind (budget ∷ []) weights.now
         values.now copies.now)
-        cells.old picks.old result cells.new picks.new }
+        cells.old picks.old (given result) cells.new picks.new }
 {
     let n = weights.len();
     let width = budget as usize + 1;
@@ -198,7 +199,7 @@ fn one_row(
         (lent_of cells.old [] picks.old) }
     ensures { SolvedInCellsBy Full (job_of 3 (budget ∷ []) weights.now
         values.now [])
-        cells.old picks.old result cells.new picks.new }
+        cells.old picks.old (given result) cells.new picks.new }
 {
     let n = weights.len();
     let width = budget as usize + 1;
@@ -229,7 +230,7 @@ pub fn solve(
         cells.old picks.old }
     ensures { SolvedInCellsBy Full (job_of kind (budget ∷ []) weights.now
         values.now copies.now)
-        cells.old picks.old result cells.new picks.new }
+        cells.old picks.old (given result) cells.new picks.new }
 {
     if kind == 3 {
         return one_row(budget, weights, values, cells, picks);

@@ -6,7 +6,7 @@ use native.Mathlib.Nat.{mul-le-mul}
 use native.Mathlib.Omega.{arith}
 use mathlib.Core.List.{List, ◌++◌}
 use lib.ListN.{length, drop}
-use Rattle.meaning.specs.declared.Answer.TheVariants as Says
+use Rattle.meaning.specs.Says as Says
 use Rattle.meaning.specs.declared.Way.TheVariants.{Light}
 use Rattle.meaning.specs.Lists.{at, total}
 use Rattle.meaning.specs.Job.{Job, once, packing, labels}

@@ -7,6 +7,7 @@ ghost use Rattle.meaning.specs.Job.{job_of, once, packing};
 ghost use Rattle.meaning.specs.Lent.{lent_of};
 ghost use Rattle.meaning.specs.Bounds.{most_budget};
 ghost use Rattle.meaning.specs.Sums.{bit};
+ghost use Rattle.meaning.specs.Says.{given};
 ghost use Rattle.meaning.specs.Solved.{Solved, Unrefused};
 ghost use Rattle.rows.specs.Bounded.{Bounded};
 ghost use Rattle.light.specs.Bits.{rose, Few, binary, spaced, exchanged, turned, Risen, RisenHigh, Lowered, RisenAll};
@@ -299,7 +300,7 @@ pub fn solve(
         (lent_of cells.old words.old picks.old) }
     ensures { Solved (job_of 1 (budget ∷ []) weights.now
         values.now [])
-        (lent_of cells.old words.old picks.old) result
+        (lent_of cells.old words.old picks.old) (given result)
         (lent_of cells.new words.new picks.new) }
 {
     let n = weights.len();

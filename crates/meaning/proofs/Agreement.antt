@@ -9,8 +9,8 @@ use native.Mathlib.Omega.{arith}
 use mathlib.Core.Bool.{Bool, false, not, true}
 use mathlib.Core.List.{List, [], ◌∷◌}
 use lib.ListN.{length}
-use Rattle.meaning.specs.declared.Answer.{Answer}
-use Rattle.meaning.specs.declared.Answer.TheVariants as Says
+use Rattle.meaning.specs.Says.{Answer}
+use Rattle.meaning.specs.Says as Says
 use Rattle.meaning.specs.Lists.{at, if, total}
 use Rattle.meaning.specs.Counting.{Counted}
 use Rattle.meaning.specs.Cells.{LeastShown, no_way}

@@ -7,7 +7,7 @@ use mathlib.Core.Bool.{Bool, true, false}
 use mathlib.Core.List.{List, [], ◌∷◌}
 use lib.Dec.{lit<}
 use borrow.Author.Tests.{eqb-true, ne_eqb}
-use Rattle.meaning.specs.declared.Written.{Written}
+use Rattle.meaning.specs.Reports.{Written}
 use Rattle.meaning.specs.Lists.{at, if}
 use Rattle.meaning.specs.Job.{Job, has_q, budget_count, job_of}
 use Rattle.meaning.specs.Bytes.{readable}

@@ -7,8 +7,8 @@ use mathlib.Core.Bool.{true}
 use mathlib.Core.List.{List, [], ◌∷◌}
 use lib.Dec.{lit≤}
 use lib.ListN.{replicate}
-use Rattle.meaning.specs.declared.Answer.{Answer}
-use Rattle.meaning.specs.declared.Answer.TheVariants.{Knapsack, Sums, Blocks, Ways, Shares, Weight}
+use Rattle.meaning.specs.Says.{Answer}
+use Rattle.meaning.specs.Says.{Knapsack, Sums, Blocks, Ways, Shares, Weight}
 use Rattle.meaning.specs.declared.Way.{Way}
 use Rattle.meaning.specs.declared.Way.TheVariants.{Light, Full}
 use Rattle.meaning.specs.Lists.{at}

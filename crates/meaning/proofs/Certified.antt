@@ -11,8 +11,8 @@ use lib.Dec.{T, lit<, ltb}
 use lib.ListN.{length}
 use mir.Facts.{and_yes, yes_and}
 use borrow.Author.Tests.{eq-eqb, eqb-true, le-ltb, ltb-false, lt-ltb, not-false}
-use Rattle.meaning.specs.declared.Verdict.{Verdict}
-use Rattle.meaning.specs.declared.Verdict.TheVariants.{Accepted}
+use Rattle.meaning.specs.Judges.{Verdict}
+use Rattle.meaning.specs.Judges.{Accepted}
 use Rattle.meaning.specs.Lists.{at, every, total}
 use Rattle.meaning.specs.Job.{Job, Knapsack, once, limited, free, packing, labels, kind_of, all_kinds}
 use Rattle.meaning.specs.Bounds.{most_budget}

@@ -4,10 +4,10 @@ use mathlib.Core.Path.{refl}
 use Prim.Native.Nat.{ℕ}
 use mathlib.Core.Bool.{false, true}
 use mathlib.Core.List.{[], ◌∷◌}
-use Rattle.meaning.specs.declared.Answer.{Answer}
-use Rattle.meaning.specs.declared.Answer.TheVariants as Says
-use Rattle.meaning.specs.declared.Verdict.TheVariants.{Accepted, Refused}
-use Rattle.meaning.specs.declared.Written.TheVariants as Reports
+use Rattle.meaning.specs.Says.{Answer}
+use Rattle.meaning.specs.Says as Says
+use Rattle.meaning.specs.Judges.{Accepted, Refused}
+use Rattle.meaning.specs.Reports as Reports
 use Rattle.meaning.specs.Answers.{is_blocks, is_knapsack, is_refusal, is_shares, is_sums}
 use Rattle.meaning.specs.Answers.{is_ways, is_weight, verdict_numbers, answer_numbers, written_numbers}
 use Rattle.meaning.specs.Solved.{ways_answer}

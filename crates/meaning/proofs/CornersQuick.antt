@@ -7,8 +7,8 @@ use mathlib.Core.Bool.{Bool, false, true}
 use mathlib.Core.List.{List, [], ◌∷◌}
 use lib.Dec.{T}
 use lib.ListN.{length, replicate}
-use Rattle.meaning.specs.declared.Quick.{Quick}
-use Rattle.meaning.specs.declared.Quick.TheVariants.{First, Refused, Second}
+use Rattle.meaning.specs.Hands.{Quick}
+use Rattle.meaning.specs.Hands.{First, Refused, Second}
 use Rattle.meaning.specs.Slices.{Holds, over}
 use Rattle.meaning.specs.Job.{Job, labels, once}
 use Rattle.meaning.specs.Bounds.{most_budget, most_labels, most_value}

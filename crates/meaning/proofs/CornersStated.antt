@@ -4,7 +4,7 @@ use mathlib.Core.Path.{◌≡◌, refl}
 use Prim.Native.Nat.{suc, ℕ}
 use mathlib.Core.List.{List, [], ◌∷◌, ◌++◌}
 use lib.ListN.{replicate, take}
-use Rattle.meaning.specs.declared.Answer.TheVariants as Says
+use Rattle.meaning.specs.Says as Says
 use Rattle.meaning.specs.Bounds.{least_q, most_budget, most_labels, most_q, most_value}
 use Rattle.meaning.specs.Job.{Job, job_of, stated_share}
 use Rattle.meaning.specs.Cuts.{cut_sum, cut_values, divisor, greatest_value, remain, stated_cells}

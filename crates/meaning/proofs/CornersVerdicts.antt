@@ -9,8 +9,8 @@ use mathlib.Core.List.{List, [], ◌++◌, ◌∷◌}
 use lib.Dec.{lit≤, ltb}
 use borrow.Author.Count.{below_more}
 use borrow.Author.Tests.{le-ltb}
-use Rattle.meaning.specs.declared.Verdict.{Verdict}
-use Rattle.meaning.specs.declared.Verdict.TheVariants.{Accepted, Refused}
+use Rattle.meaning.specs.Judges.{Verdict}
+use Rattle.meaning.specs.Judges.{Accepted, Refused}
 use Rattle.meaning.specs.Lists.{if, total}
 use Rattle.meaning.specs.Job.{Job, job_of, labels, limited}
 use Rattle.meaning.specs.Bounds.{most_copies}

@@ -4,7 +4,7 @@ use mathlib.Core.Path.{◌≡◌, refl}
 use Prim.Native.Nat.{suc, ℕ}
 use mathlib.Core.List.{List, [], ◌++◌, ◌∷◌}
 use lib.ListN.{replicate}
-use Rattle.meaning.specs.declared.Written.TheVariants as Reports
+use Rattle.meaning.specs.Reports as Reports
 use Rattle.meaning.specs.Slices.{Holds}
 use Rattle.meaning.specs.Bounds.{most_budget, most_labels}
 use Rattle.meaning.specs.Job.{Job, Knapsack, once, limited, free}

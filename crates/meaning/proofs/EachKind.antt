@@ -12,8 +12,8 @@ use lib.Dec.{T, eqb, ltb}
 use lib.ListN.{get_elem?, length}
 use mir.Facts.{and_yes, eqb_yes}
 use borrow.Author.Tests.{ltb-false}
-use Rattle.meaning.specs.declared.Answer.{Answer}
-use Rattle.meaning.specs.declared.Answer.TheVariants as Says
+use Rattle.meaning.specs.Says.{Answer}
+use Rattle.meaning.specs.Says as Says
 use Rattle.meaning.specs.declared.Way.{Way}
 use Rattle.meaning.specs.declared.Way.TheVariants.{Light, Full}
 use Rattle.meaning.specs.Lists.{at, if, sum, total}

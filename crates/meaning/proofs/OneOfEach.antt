@@ -10,8 +10,8 @@ use mathlib.Core.List.{List}
 use lib.Arith.{digits_div, digits_mod}
 use lib.ListN.{length}
 use lib.Seq.{ext_get_or}
-use Rattle.meaning.specs.declared.Answer.{Answer}
-use Rattle.meaning.specs.declared.Answer.TheVariants as Says
+use Rattle.meaning.specs.Says.{Answer}
+use Rattle.meaning.specs.Says as Says
 use Rattle.meaning.specs.Lists.{at, if, total}
 use Rattle.meaning.specs.Cells.{LeastShown, none_shown, shown}
 use Rattle.meaning.specs.Job.{Job, Knapsack, labels}

@@ -10,11 +10,11 @@ use lib.Dec.{T, leb}
 use lib.ListN.{length, length-append, take}
 use lib.Seq.{length-take-le}
 use mir.Facts.{and_yes, leb_yes, yes_and, yes_leb}
-use Rattle.meaning.specs.declared.Answer.{Answer}
-use Rattle.meaning.specs.declared.Answer.TheVariants as Says
+use Rattle.meaning.specs.Says.{Answer}
+use Rattle.meaning.specs.Says as Says
 use Rattle.meaning.specs.declared.Way.{Way}
 use Rattle.meaning.specs.declared.Way.TheVariants.{Full}
-use Rattle.meaning.specs.declared.Written.TheVariants.{Bytes, Refused}
+use Rattle.meaning.specs.Reports.{Bytes, Refused}
 use Rattle.meaning.specs.Lists.{if, total}
 use Rattle.meaning.specs.Slices.{Holds}
 use Rattle.meaning.specs.Job.{Job, Kind, kind_of, packing, labels, Knapsack}

@@ -10,8 +10,8 @@ use lib.Dec.{leb, ltb}
 use lib.ListN.{length, take}
 use borrow.Author.Tests.{ltb-true, ltb-false}
 use mir.Facts.{and_yes, leb_yes}
-use Rattle.meaning.specs.declared.Quick.{Quick}
-use Rattle.meaning.specs.declared.Quick.TheVariants as Hands
+use Rattle.meaning.specs.Hands.{Quick}
+use Rattle.meaning.specs.Hands as Hands
 use Rattle.meaning.specs.Lists.{at, total, if}
 use Rattle.meaning.specs.Job.{Job, labels, once, packing}
 use Rattle.meaning.specs.Refusals.{rules_of}

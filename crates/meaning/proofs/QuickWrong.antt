@@ -10,8 +10,8 @@ use mathlib.Core.List.{List, [], ◌∷◌}
 use lib.Dec.{lit≤}
 use lib.ListN.{length, take}
 use borrow.Author.Tests.{le-leb}
-use Rattle.meaning.specs.declared.Quick.{Quick}
-use Rattle.meaning.specs.declared.Quick.TheVariants.{First, Refused, Second}
+use Rattle.meaning.specs.Hands.{Quick}
+use Rattle.meaning.specs.Hands.{First, Refused, Second}
 use Rattle.meaning.specs.Lists.{at, if, total}
 use Rattle.meaning.specs.Slices.{Holds, over}
 use Rattle.meaning.specs.Job.{Job, labels, once}

@@ -6,7 +6,7 @@ use Prim.Native.Nat.{ℕ}
 use mathlib.Core.Bool.{false, true}
 use mathlib.Core.List.{List, [], ◌∷◌}
 use lib.Dec.{lit≤}
-use Rattle.meaning.specs.declared.Answer.{Answer}
+use Rattle.meaning.specs.Says.{Answer}
 use Rattle.meaning.specs.Job.{Job, Kind, block_ways, fewest_blocks, free, job_of, kind_of, packing, limited, once, sharing, subset_sums}
 use Rattle.meaning.specs.Lent.{room_for}
 use Rattle.meaning.specs.Refusals.{kind_refusal}

@@ -7,7 +7,7 @@ use mathlib.Core.List.{List, [], ◌++◌}
 use lib.Dec.{T, leb, leb-zero}
 use lib.ListN.{drop, length}
 use mir.Facts.{and_yes, leb_yes}
-use Rattle.meaning.specs.declared.Answer.{Answer}
+use Rattle.meaning.specs.Says.{Answer}
 use Rattle.meaning.specs.declared.Way.{Way}
 use Rattle.meaning.specs.declared.Way.TheVariants.{Light}
 use Rattle.meaning.specs.Slices.{Holds}

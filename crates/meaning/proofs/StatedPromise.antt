@@ -7,8 +7,8 @@ use native.Mathlib.Nat.{le_antisymm, zero-mul}
 use native.Mathlib.Omega.{arith}
 use mathlib.Core.List.{List, [], ◌∷◌}
 use lib.ListN.{length}
-use Rattle.meaning.specs.declared.Answer.{Answer}
-use Rattle.meaning.specs.declared.Answer.TheVariants as Says
+use Rattle.meaning.specs.Says.{Answer}
+use Rattle.meaning.specs.Says as Says
 use Rattle.meaning.specs.declared.Way.{Way}
 use Rattle.meaning.specs.Lists.{at, sum, total, if}
 use Rattle.meaning.specs.Job.{Job, all_kinds, has_q, job_of, kind_of, labels, once, packing, stated_share}

@@ -9,8 +9,8 @@ use mathlib.Core.List.{List, [], ◌++◌, append-nil}
 use lib.Dec.{ltb}
 use lib.ListN.{length}
 use borrow.Author.Tests.{eq-eqb, eqb-true}
-use Rattle.meaning.specs.declared.Verdict.{Verdict}
-use Rattle.meaning.specs.declared.Verdict.TheVariants.{Accepted, Refused}
+use Rattle.meaning.specs.Judges.{Verdict}
+use Rattle.meaning.specs.Judges.{Accepted, Refused}
 use Rattle.std.specs.Prelude.{Some, None, Ok, Err}
 use Rattle.meaning.specs.Lists.{if, total}
 use Rattle.meaning.specs.Job.{Job, Knapsack, labels, packing}

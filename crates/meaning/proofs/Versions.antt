@@ -9,10 +9,10 @@ use native.Mathlib.Omega.{arith}
 use mathlib.Core.List.{List, [], ◌∷◌, ◌++◌}
 use lib.Dec.{lit≤}
 use lib.ListN.{length}
-use Rattle.meaning.specs.declared.Answer.{Answer}
-use Rattle.meaning.specs.declared.Answer.TheVariants as Says
-use Rattle.meaning.specs.declared.Verdict.{Verdict}
-use Rattle.meaning.specs.declared.Verdict.TheVariants.{Accepted}
+use Rattle.meaning.specs.Says.{Answer}
+use Rattle.meaning.specs.Says as Says
+use Rattle.meaning.specs.Judges.{Verdict}
+use Rattle.meaning.specs.Judges.{Accepted}
 use Rattle.meaning.specs.declared.Way.{Way}
 use Rattle.meaning.specs.Lists.{at}
 use Rattle.meaning.specs.Job.{Job, Kind, Knapsack, labels, once, sharing}

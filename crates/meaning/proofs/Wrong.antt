@@ -9,14 +9,14 @@ use mathlib.Core.List.{List, [], ◌∷◌}
 use lib.Dec.{lit≤}
 use lib.ListN.{drop, length, replicate, take}
 use lib.Seq.{drop_at}
-use Rattle.meaning.specs.declared.Answer.{Answer}
-use Rattle.meaning.specs.declared.Answer.TheVariants as Says
+use Rattle.meaning.specs.Says.{Answer}
+use Rattle.meaning.specs.Says as Says
 use Rattle.meaning.specs.declared.Way.{Way}
-use Rattle.meaning.specs.declared.Written.{Written}
-use Rattle.meaning.specs.declared.Written.TheVariants.{Bytes}
-use Rattle.meaning.specs.declared.Written.TheVariants as Reports
-use Rattle.meaning.specs.declared.Verdict.{Verdict}
-use Rattle.meaning.specs.declared.Verdict.TheVariants.{Accepted, Refused}
+use Rattle.meaning.specs.Reports.{Written}
+use Rattle.meaning.specs.Reports.{Bytes}
+use Rattle.meaning.specs.Reports as Reports
+use Rattle.meaning.specs.Judges.{Verdict}
+use Rattle.meaning.specs.Judges.{Accepted, Refused}
 use Rattle.meaning.specs.Lists.{at}
 use Rattle.meaning.specs.Slices.{Holds}
 use Rattle.meaning.specs.Cells.{LeastShown}

@@ -3,14 +3,14 @@
 -- is named. The first field of each tells cases apart that have the same numbers.
 -- Assumes nothing.
 use Rattle.std.specs.Prelude.{ℕ, Bool, true, false}
-use Rattle.meaning.specs.declared.Answer.{Answer}
-use Rattle.meaning.specs.declared.Answer.TheVariants as Says
-use Rattle.meaning.specs.declared.Verdict.{Verdict}
-use Rattle.meaning.specs.declared.Verdict.TheVariants as Judges
-use Rattle.meaning.specs.declared.Written.{Written}
-use Rattle.meaning.specs.declared.Written.TheVariants as Reports
-use Rattle.meaning.specs.declared.Quick.{Quick}
-use Rattle.meaning.specs.declared.Quick.TheVariants as Hands
+use Rattle.meaning.specs.Says.{Answer}
+use Rattle.meaning.specs.Says as Says
+use Rattle.meaning.specs.Judges.{Verdict}
+use Rattle.meaning.specs.Judges as Judges
+use Rattle.meaning.specs.Reports.{Written}
+use Rattle.meaning.specs.Reports as Reports
+use Rattle.meaning.specs.Hands.{Quick}
+use Rattle.meaning.specs.Hands as Hands
 use Rattle.meaning.specs.Lists.{if}
 
 -- ---- the planner's answer

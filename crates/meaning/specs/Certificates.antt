@@ -3,8 +3,8 @@
 use Rattle.std.specs.Prelude.{◌≡◌, ℕ, zero, suc, ◌+◌, ◌-◌, ◌*◌, ◌/◌, ◌%◌, Bool, false, ◌&&◌, ◌||◌, not, List, [], ◌∷◌, leb, ltb, eqb}
 use Rattle.std.proofs.Math.Option.{Option, none, some}
 use Rattle.std.proofs.Math.ListN.{get_elem?}
-use Rattle.meaning.specs.declared.Verdict.{Verdict}
-use Rattle.meaning.specs.declared.Verdict.TheVariants.{Accepted, Refused}
+use Rattle.meaning.specs.Judges.{Verdict}
+use Rattle.meaning.specs.Judges.{Accepted, Refused}
 use Rattle.std.specs.Prelude.{Some}
 use Rattle.meaning.specs.Lists.{at, total, if}
 use Rattle.meaning.specs.Job.{Job, labels, Knapsack, once, limited, free, packing}

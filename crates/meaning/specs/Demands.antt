@@ -2,13 +2,13 @@
 -- bad request gets its number and writes nothing, and that an answer is the true one, are what `Solved` says, by `TurnedDown` and by `Gives`.)
 -- Assumes nothing.
 use Rattle.std.specs.Prelude.{◌≡◌, ◌↔◌, ℕ, Bool, List, [], T, ltb, take}
-use Rattle.meaning.specs.declared.Verdict.{Verdict}
-use Rattle.meaning.specs.declared.Answer.{Answer}
+use Rattle.meaning.specs.Judges.{Verdict}
+use Rattle.meaning.specs.Says.{Answer}
 use Rattle.meaning.specs.declared.Way.{Way}
 use Rattle.meaning.specs.declared.Way.TheVariants.{Full}
-use Rattle.meaning.specs.declared.Answer.TheVariants as Says
-use Rattle.meaning.specs.declared.Written.TheVariants.{Bytes}
-use Rattle.meaning.specs.declared.Verdict.TheVariants.{Accepted}
+use Rattle.meaning.specs.Says as Says
+use Rattle.meaning.specs.Reports.{Bytes}
+use Rattle.meaning.specs.Judges.{Accepted}
 use Rattle.std.specs.Prelude.{None}
 use Rattle.meaning.specs.Lists.{total, every}
 use Rattle.meaning.specs.Job.{Job, labels, Knapsack}

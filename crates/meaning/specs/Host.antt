@@ -1,12 +1,12 @@
 -- What the C entries give: numbers in place of an enum.
 -- Assumes nothing.
 use Rattle.std.specs.Prelude.{◌≡◌, ℕ, ◌+◌, List}
-use Rattle.meaning.specs.declared.Answer.{Answer}
+use Rattle.meaning.specs.Says.{Answer}
 use Rattle.meaning.specs.declared.Way.{Way}
 use Rattle.meaning.specs.declared.Way.TheVariants.{Light, Full}
-use Rattle.meaning.specs.declared.Verdict.{Verdict}
-use Rattle.meaning.specs.declared.Written.{Written}
-use Rattle.meaning.specs.declared.Quick.{Quick}
+use Rattle.meaning.specs.Judges.{Verdict}
+use Rattle.meaning.specs.Reports.{Written}
+use Rattle.meaning.specs.Hands.{Quick}
 use Rattle.meaning.specs.Job.{Job}
 use Rattle.meaning.specs.Lent.{Lent}
 use Rattle.meaning.specs.Answers.{AnswerNumbers, verdict_numbers, answer_numbers, written_numbers, quick_numbers}

@@ -19,6 +19,11 @@ pub mod Behind
 pub mod Stated
 pub mod Blocks
 pub mod Shares
+pub mod Refusing
+pub mod Says
+pub mod Judges
+pub mod Reports
+pub mod Hands
 pub mod Answers
 pub mod Quick
 pub mod Solved

@@ -2,8 +2,8 @@
 -- twice its value is at least the best value.
 -- Assumes nothing.
 use Rattle.std.specs.Prelude.{◌≡◌, ℕ, zero, suc, ◌+◌, ◌*◌, ◌≤◌, ◌<◌, Bool, ◌&&◌, ◌||◌, not, List, [], ◌∷◌, map, leb, ltb, eqb, length}
-use Rattle.meaning.specs.declared.Quick.{Quick}
-use Rattle.meaning.specs.declared.Quick.TheVariants as Hands
+use Rattle.meaning.specs.Hands.{Quick}
+use Rattle.meaning.specs.Hands as Hands
 use Rattle.meaning.specs.Lists.{at, total, up_to, if}
 use Rattle.meaning.specs.Slices.{Holds}
 use Rattle.meaning.specs.Job.{Job, job_of, labels, once, packing}

@@ -2,8 +2,8 @@
 -- Assumes nothing.
 use Rattle.std.specs.Prelude.{◌≡◌, ℕ, zero, suc, Bool, List, [], ltb, length}
 use Rattle.std.proofs.Math.Option.{Option, none, some}
-use Rattle.meaning.specs.declared.Answer.{Answer}
-use Rattle.meaning.specs.declared.Answer.TheVariants as Says
+use Rattle.meaning.specs.Says.{Answer}
+use Rattle.meaning.specs.Says as Says
 use Rattle.meaning.specs.declared.Way.{Way}
 use Rattle.meaning.specs.declared.Way.TheVariants.{Light, Full}
 use Rattle.meaning.specs.Lists.{sum, total, if}

@@ -1,7 +1,7 @@
 -- What a kind's own crate promises: the planner's promise, said of the slices that the kind uses. The others, whatever they hold, stay.
 -- Assumes nothing.
 use Rattle.std.specs.Prelude.{List, ℕ}
-use Rattle.meaning.specs.declared.Answer.{Answer}
+use Rattle.meaning.specs.Says.{Answer}
 use Rattle.meaning.specs.declared.Way.{Way}
 use Rattle.meaning.specs.declared.Way.TheVariants.{Light}
 use Rattle.meaning.specs.Job.{Job}

@@ -1,7 +1,7 @@
 -- What a program is told of job bytes beside the answer: the number of the kind and how many labels there are, which its lines need and no answer has.
 -- Assumes nothing.
 use Rattle.std.specs.Prelude.{◌≡◌, ℕ, List}
-use Rattle.meaning.specs.declared.Answer.{Answer}
+use Rattle.meaning.specs.Says.{Answer}
 use Rattle.meaning.specs.declared.Way.{Way}
 use Rattle.meaning.specs.declared.Way.TheVariants.{Light}
 use Rattle.meaning.specs.Job.{labels}

@@ -1,10 +1,10 @@
 -- The sixteen proved trials: one list, and one claim about the meanings.
 -- Assumes nothing.
 use Rattle.std.specs.Prelude.{ℕ, List, [], ◌∷◌, ◌++◌, replicate, true, false}
-use Rattle.meaning.specs.declared.Answer.{Answer}
-use Rattle.meaning.specs.declared.Answer.TheVariants.{Knapsack, Sums, Blocks, Ways, Shares}
-use Rattle.meaning.specs.declared.Verdict.{Verdict}
-use Rattle.meaning.specs.declared.Verdict.TheVariants.{Accepted, Refused}
+use Rattle.meaning.specs.Says.{Answer}
+use Rattle.meaning.specs.Says.{Knapsack, Sums, Blocks, Ways, Shares}
+use Rattle.meaning.specs.Judges.{Verdict}
+use Rattle.meaning.specs.Judges.{Accepted, Refused}
 use Rattle.meaning.specs.Job.{Job, job_of, Kind}
 use Rattle.meaning.specs.Lent.{Lent, lent_of, room_for}
 use Rattle.meaning.specs.Bytes.{job_bytes, section_bytes}

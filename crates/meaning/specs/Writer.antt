@@ -2,8 +2,8 @@
 -- Assumes nothing.
 use Rattle.std.specs.Prelude.{◌≡◌, ℕ, zero, suc, ◌+◌, ◌*◌, Bool, ◌&&◌, not, List, [], ◌++◌, leb, length, take}
 use Rattle.std.proofs.Math.Option.{Option, none, some}
-use Rattle.meaning.specs.declared.Written.{Written}
-use Rattle.meaning.specs.declared.Written.TheVariants.{Bytes, Refused}
+use Rattle.meaning.specs.Reports.{Written}
+use Rattle.meaning.specs.Reports.{Bytes, Refused}
 use Rattle.meaning.specs.Lists.{if}
 use Rattle.meaning.specs.Slices.{Holds}
 use Rattle.meaning.specs.Job.{Job, labels, Knapsack, packing}

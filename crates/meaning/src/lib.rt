@@ -1,10 +1,41 @@
-// What the operations answer, and which way kind 1 goes. The document's numbers for each case of the first four are in specs/Answers.antt.
+// What the operations answer, why they turn a request down, and which way kind 1 goes. What each answer says, in the document's numbers, is in
+// specs/Says, Judges, Reports and Hands.
 #![tactic(auto)]
 
-// What a planner answers: a refusal number, or the numbers of the job's kind.
-#[derive(Clone, Copy)]
+ghost use Rattle.std.specs.Prelude.{◌≡◌};
+ghost use Rattle.meaning.specs.Refusing.{number_of};
+
+// Why a request is turned down: document 01's refusals, with their numbers.
+#[derive(Clone, Copy, PartialEq, Eq)]
+pub enum Refusal {
+    Bytes = 1,
+    Kind = 2,
+    Lengths = 3,
+    Bound = 4,
+    Rule = 5,
+    Room = 6,
+    NoSum = 7,
+    TooMany = 8,
+    NoClaims = 9,
+    Sections = 11,
+    Pick = 12,
+    Weight = 13,
+    Cell = 14,
+    Value = 15,
+}
+
+impl Refusal {
+    // Its number.
+    pub fn number(self) -> u32
+        ensures { result ≡ number_of self }
+    {
+        self as u32
+    }
+}
+
+// What a planner answers, by the job's kind.
+#[derive(Clone, Copy, PartialEq, Eq)]
 pub enum Answer {
-    Refused(u32),
     Knapsack { value: u32, weight: u32 },
     Sums { yes: bool, totals: u32 },
     Blocks(u32),
@@ -13,30 +44,22 @@ pub enum Answer {
     Weight(u32),
 }
 
-// What the checker answers: the value, or a refusal number and the place that it names (0 where it names none).
-#[derive(Clone, Copy)]
-pub enum Verdict {
-    Accepted(u32),
-    Refused { number: u32, place: u64 },
+// Why the checker doesn't accept a certificate, and the place that it names, or 0 where it names none.
+#[derive(Clone, Copy, PartialEq, Eq)]
+pub struct Fault {
+    pub refusal: Refusal,
+    pub place: u64,
 }
 
-// What the certificate writer answers: how many bytes it wrote, or a refusal number.
-#[derive(Clone, Copy)]
-pub enum Written {
-    Bytes(u64),
-    Refused(u32),
-}
-
-// What the quick answer for kind 1 says: a refusal number, or which of its two lists is the worthier, and what that is worth.
-#[derive(Clone, Copy)]
+// Which of the two lists of a quick answer is the worthier, and what that is worth.
+#[derive(Clone, Copy, PartialEq, Eq)]
 pub enum Quick {
-    Refused(u32),
     First(u64),
     Second(u64),
 }
 
 // The way that kind 1 goes: the light table, a row of cells and a bit for each label and budget, or the full one. The other kinds have one way.
-#[derive(Clone, Copy)]
+#[derive(Clone, Copy, PartialEq, Eq)]
 pub enum Way {
     Light,
     Full,

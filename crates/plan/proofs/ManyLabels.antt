@@ -10,8 +10,8 @@ use mathlib.Core.List.{List, [], ◌∷◌, map}
 use lib.Dec.{leb}
 use lib.ListN.{length, length-replicate, replicate, take}
 use borrow.Author.Tests.{lt-leb}
-use Rattle.meaning.specs.declared.Answer.{Answer}
-use Rattle.meaning.specs.declared.Answer.TheVariants as Says
+use Rattle.meaning.specs.Says.{Answer}
+use Rattle.meaning.specs.Says as Says
 use Rattle.meaning.specs.Lists.{if}
 use Rattle.meaning.specs.Job.{Job, Kind, Knapsack, once, limited, free, packing, subset_sums, labels_behind, stated_share, kind_of, labels}
 use Rattle.meaning.specs.Lent.{Lent, Room, lent_of, once_room, room_by, room_for, room_of}

@@ -6,7 +6,7 @@ use native.Mathlib.Omega.{arith}
 use mathlib.Core.List.{List, []}
 use lib.ListN.{length, length-append, length-take, replicate, take, drop}
 use lib.Seq.{take_all}
-use Rattle.meaning.specs.declared.Answer.{Answer}
+use Rattle.meaning.specs.Says.{Answer}
 use Rattle.meaning.specs.Slices.{Holds}
 use Rattle.meaning.specs.Lent.{Lent, lent_of}
 use Rattle.meaning.specs.Bytes.{read_job}

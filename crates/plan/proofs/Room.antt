@@ -8,8 +8,8 @@ use mathlib.Core.Bool.{Bool, true, false}
 use mathlib.Core.List.{List}
 use lib.Dec.{ltb}
 use lib.ListN.{length}
-use Rattle.meaning.specs.declared.Answer.{Answer}
-use Rattle.meaning.specs.declared.Answer.TheVariants as Says
+use Rattle.meaning.specs.Says.{Answer}
+use Rattle.meaning.specs.Says as Says
 use Rattle.meaning.specs.declared.Way.TheVariants.{Light}
 use Rattle.meaning.specs.Lists.{if}
 use Rattle.meaning.specs.Job.{Job, labels, Kind, once, limited, free, packing, subset_sums, fewest_blocks, block_ways}

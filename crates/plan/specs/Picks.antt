@@ -1,8 +1,8 @@
 -- Which picks are printed.
 -- Assumes nothing.
 use Rattle.std.specs.Prelude.{ℕ}
-use Rattle.meaning.specs.declared.Answer.{Answer}
-use Rattle.meaning.specs.declared.Answer.TheVariants as Says
+use Rattle.meaning.specs.Says.{Answer}
+use Rattle.meaning.specs.Says as Says
 
 -- how many picks an answer to a job of n labels has written: one a label where its kind has picks, none with a refusal
 unfoldable pub picks_written : Answer → ℕ → ℕ

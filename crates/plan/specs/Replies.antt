@@ -1,8 +1,8 @@
 -- What the program answers to its input, in the slices that it lends.
 -- Assumes nothing.
 use Rattle.std.specs.Prelude.{ℕ, ◌+◌, ◌*◌, ◌≤◌, ◌<◌, List, [], length, replicate, take}
-use Rattle.meaning.specs.declared.Answer.{Answer}
-use Rattle.meaning.specs.declared.Answer.TheVariants as Says
+use Rattle.meaning.specs.Says.{Answer}
+use Rattle.meaning.specs.Says as Says
 use Rattle.meaning.specs.Lent.{Lent, lent_of}
 use Rattle.meaning.specs.Bytes.{read_job}
 use Rattle.meaning.specs.Solved.{SolvedBytes}

@@ -4,7 +4,7 @@ use Prim.Native.Nat.{ℕ}
 use mathlib.Core.Path.{◌≡◌, refl}
 use mathlib.Core.Bool.{true, false}
 use mathlib.Core.List.{List, [], ◌∷◌}
-use Rattle.meaning.specs.declared.Answer.TheVariants as Says
+use Rattle.meaning.specs.Says as Says
 use Rattle.meaning.specs.Lists.{if}
 use Rattle.print.specs.Lines.{ascii, decimal_within, decimal_of, after_blank, after_blanks, line, line_of, picks_line, head_lines, lines_of}
 

@@ -9,8 +9,8 @@ use native.Mathlib.Numerals.{add-one}
 use lib.ListN.{length, take, drop, length-append}
 use lib.Seq.{take-suc, take_all, split_at}
 use mir.Val.{bool_byte}
-use Rattle.meaning.specs.declared.Answer.{Answer}
-use Rattle.meaning.specs.declared.Answer.TheVariants as Says
+use Rattle.meaning.specs.Says.{Answer}
+use Rattle.meaning.specs.Says as Says
 use Rattle.meaning.specs.Lists.{at, if}
 use Rattle.print.specs.Lines.{ascii, decimal_of, after_blank, after_blanks, line, line_of, picks_line, head_lines}
 use Rattle.print.specs.Lines.{knapsack_lines, sums_lines, number_and_picks, lines_of}

@@ -5,7 +5,7 @@ use Prim.Native.Nat.{ℕ, ◌≤◌, ◌<◌}
 use mathlib.Core.List.{List, [], ◌++◌}
 use lib.ListN.{length, drop}
 use mir.Facts.{ltb_yes}
-use Rattle.meaning.specs.declared.Answer.TheVariants as Says
+use Rattle.meaning.specs.Says as Says
 use Rattle.meaning.specs.Lists.{sum}
 use Rattle.meaning.specs.Job.{Job, labels, sharing}
 use Rattle.meaning.specs.Lent.{lent_of, room_by, room_of}

@@ -7,6 +7,7 @@ ghost use Rattle.meaning.specs.Job.{sharing};
 ghost use Rattle.meaning.specs.Lent.{lent_of};
 ghost use Rattle.meaning.specs.Bounds.{most_claims};
 ghost use Rattle.meaning.specs.Shares.{start_of, remainder_of, spare_of, shares_of};
+ghost use Rattle.meaning.specs.Says.{given};
 ghost use Rattle.meaning.specs.Solved.{Unrefused};
 ghost use Rattle.meaning.specs.SolvedIn.{SolvedInPicks};
 ghost use Rattle.numbers.specs.Lists.{weights_from};
@@ -325,7 +326,7 @@ fn share(budget: u32, weights: &Numbers, shares: &mut [u32]) -> u32
 // Kind 7: the shares and the spare of a job that no refusal meets.
 pub fn solve(budget: u32, weights: &Numbers, picks: &mut [u32]) -> Answer
     requires { Unrefused sharing (weights_from 7 (budget ∷ []) weights.now) (lent_of [] [] picks.old) }
-    ensures { SolvedInPicks (weights_from 7 (budget ∷ []) weights.now) picks.old result
+    ensures { SolvedInPicks (weights_from 7 (budget ∷ []) weights.now) picks.old (given result)
         picks.new }
 {
     let n = weights.len();

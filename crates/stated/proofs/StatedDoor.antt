@@ -9,8 +9,8 @@ use mathlib.Core.List.{List, [], ◌++◌}
 use lib.Dec.{leb}
 use lib.ListN.{length, drop}
 use mir.Facts.{and_yes, leb_yes}
-use Rattle.meaning.specs.declared.Answer.{Answer}
-use Rattle.meaning.specs.declared.Answer.TheVariants as Says
+use Rattle.meaning.specs.Says.{Answer}
+use Rattle.meaning.specs.Says as Says
 use Rattle.meaning.specs.Lists.{total}
 use Rattle.meaning.specs.Cells.{LeastShown, no_way}
 use Rattle.meaning.specs.Job.{Job, job_of, labels, once, stated_share}

@@ -1,8 +1,8 @@
 -- Cells alone: what is read off a table of least weights, the highest total that is reached and its picks; and what values are within.
 -- Assumes nothing.
 use Rattle.std.specs.Prelude.{◌≡◌, ℕ, suc, ◌-◌, ◌*◌, ◌≤◌, ◌<◌, List, [], ◌∷◌, eqb, length}
-use Rattle.meaning.specs.declared.Answer.{Answer}
-use Rattle.meaning.specs.declared.Answer.TheVariants as Says
+use Rattle.meaning.specs.Says.{Answer}
+use Rattle.meaning.specs.Says as Says
 use Rattle.meaning.specs.Lists.{at, total, if}
 use Rattle.meaning.specs.Cells.{no_way}
 use Rattle.meaning.specs.Bounds.{most_labels, most_value}

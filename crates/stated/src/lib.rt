@@ -10,6 +10,7 @@ ghost use Rattle.meaning.specs.Lent.{lent_of};
 ghost use Rattle.meaning.specs.Bounds.{most_budget, most_labels, most_q};
 ghost use Rattle.meaning.specs.Refusals.{rules_of, job_refusal};
 ghost use Rattle.meaning.specs.Cuts.{that_fit, greatest_of, divisor, cut_by, cut_sum, stated_cells};
+ghost use Rattle.meaning.specs.Says.{given};
 ghost use Rattle.meaning.specs.Solved.{Unrefused};
 ghost use Rattle.meaning.specs.SolvedIn.{SolvedInCells};
 ghost use Rattle.numbers.specs.Lists.{stated_from};
@@ -325,7 +326,7 @@ fn pack(
     requires roomy { Roomy budget weights.now (cut_by divisor values.now) width (length cells.old)
         × (length weights.now ≡ length picks.old) }
     ensures { ReadOff budget weights.now values.now
-        (cut_by divisor values.now) width cells.new picks.new result }
+        (cut_by divisor values.now) width cells.new picks.new (given result) }
 {
     fill(
         budget, divisor, width, weights, values, cells,
@@ -368,7 +369,7 @@ pub fn solve(
     requires { Unrefused stated_share (stated_from budget q weights.now values.now)
         (lent_of cells.old [] picks.old) }
     ensures { SolvedInCells (stated_from budget q weights.now values.now)
-        cells.old picks.old result cells.new picks.new }
+        cells.old picks.old (given result) cells.new picks.new }
 {
     let n = weights.len();
     let measures = measure(budget, q, weights, values);

@@ -9,8 +9,8 @@ use mathlib.Core.List.{List, [], ◌++◌}
 use lib.Dec.{T, eqb}
 use lib.ListN.{length, drop}
 use mir.Facts.{eqb_yes}
-use Rattle.meaning.specs.declared.Answer.{Answer}
-use Rattle.meaning.specs.declared.Answer.TheVariants as Says
+use Rattle.meaning.specs.Says.{Answer}
+use Rattle.meaning.specs.Says as Says
 use Rattle.meaning.specs.Lists.{at, if, up_to, tally}
 use Rattle.meaning.specs.Job.{Job, labels, subset_sums}
 use Rattle.meaning.specs.Lent.{lent_of, room_by, room_of}

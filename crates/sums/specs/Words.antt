@@ -1,7 +1,7 @@
 -- Bits alone: the words of totals as they are filled, label by label, and cut off at the budget.
 -- Assumes nothing.
 use Rattle.std.specs.Prelude.{◌≡◌, ℕ, ◌-◌, ◌*◌, ◌≤◌, ◌<◌, max, Bool, List, [], eqb}
-use Rattle.meaning.specs.declared.Answer.{Answer}
+use Rattle.meaning.specs.Says.{Answer}
 use Rattle.meaning.specs.Lists.{at}
 use Rattle.meaning.specs.Job.{Job}
 use Rattle.meaning.specs.Sums.{bit, BitTable}

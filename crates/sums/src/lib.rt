@@ -6,6 +6,7 @@ ghost use Rattle.meaning.specs.Lists.{up_to, tally};
 ghost use Rattle.meaning.specs.Job.{subset_sums};
 ghost use Rattle.meaning.specs.Lent.{lent_of};
 ghost use Rattle.meaning.specs.Bounds.{most_budget};
+ghost use Rattle.meaning.specs.Says.{given};
 ghost use Rattle.meaning.specs.Solved.{Unrefused};
 ghost use Rattle.meaning.specs.SolvedIn.{SolvedInWords};
 ghost use Rattle.numbers.specs.Lists.{weights_from};
@@ -134,7 +135,7 @@ fn count_totals(words: &[u64]) -> u32
 // The words and the answer, on just the words that are needed.
 fn table(budget: u32, weights: &Numbers, words: &mut [u64]) -> Answer
     requires { (budget ≤ most_budget) × (length words.old ≡ budget / 64 + 1) }
-    ensures { Tabled (weights_from 4 (budget ∷ []) weights.now) result words.new }
+    ensures { Tabled (weights_from 4 (budget ∷ []) weights.now) (given result) words.new }
 {
     let last = budget as usize;
     fill(weights, words);
@@ -148,7 +149,7 @@ fn table(budget: u32, weights: &Numbers, words: &mut [u64]) -> Answer
 pub fn solve(budget: u32, weights: &Numbers, words: &mut [u64]) -> Answer
     requires { Unrefused subset_sums (weights_from 4 (budget ∷ []) weights.now) (lent_of [] words.old []) }
     ensures { SolvedInWords (weights_from 4 (budget ∷ []) weights.now)
-        words.old result words.new }
+        words.old (given result) words.new }
 {
     let needed = (budget / 64 + 1) as usize;
     table(budget, weights, &mut words[..needed])

@@ -9,7 +9,7 @@ use mathlib.Core.List.{List}
 use lib.Dec.{lit<, ltb}
 use lib.ListN.{length}
 use borrow.Author.Tests.{lt-ltb, le-ltb, ltb-false, eq-eqb, ne_eqb}
-use Rattle.meaning.specs.declared.Verdict.TheVariants.{Accepted, Refused}
+use Rattle.meaning.specs.Judges.{Accepted, Refused}
 use Rattle.meaning.specs.Lists.{at, if, total}
 use Rattle.meaning.specs.Job.{Job, Knapsack, labels, once, limited, free}
 use Rattle.meaning.specs.Lent.{cell_count}

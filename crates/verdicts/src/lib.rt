@@ -3,7 +3,7 @@
 #![tactic(auto)]
 
 ghost use Rattle.std.specs.Prelude.{◌≡◌, ℕ, ◌+◌, ◌-◌, ◌<◌, ◌≤◌, min, length};
-ghost use Rattle.meaning.specs.declared.Verdict.TheVariants.{Refused};
+ghost use Rattle.meaning.specs.Judges.{Refused};
 ghost use Rattle.meaning.specs.Lists.{if, total};
 ghost use Rattle.meaning.specs.Job.{Job, labels, limited};
 ghost use Rattle.meaning.specs.Bytes.{numbers_in};

@@ -1,8 +1,8 @@
 -- `host::answer_refusal` meets its contract: a refusal, or any other case.
 use mathlib.Core.Path.{◌≡◌, refl}
 use Prim.Native.Nat.{ℕ}
-use Rattle.meaning.specs.declared.Answer.{Answer}
-use Rattle.meaning.specs.declared.Answer.TheVariants as Says
+use Rattle.meaning.specs.Says.{Answer}
+use Rattle.meaning.specs.Says as Says
 use Rattle.meaning.specs.Answers.{answer_numbers}
 use Rattle.host.proofs.answer_refusal.Goals as goal
 

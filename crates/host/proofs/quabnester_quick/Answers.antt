@@ -3,7 +3,7 @@ use mathlib.Core.Path.{◌≡◌, refl}
 use Prim.Native.Nat.{ℕ}
 use mathlib.Core.List.{List}
 use Rattle.meaning.specs.Job.{Job}
-use Rattle.meaning.specs.declared.Quick.{Quick}
+use Rattle.meaning.specs.Hands.{Quick}
 use Rattle.meaning.specs.Answers.{quick_numbers}
 use Rattle.meaning.specs.Quick.{Filled}
 use Rattle.meaning.specs.Host.{QuickHost}

@@ -2,8 +2,8 @@
 use mathlib.Core.Path.{◌≡◌, refl}
 use mathlib.Core.Bool.{Bool}
 use Prim.Native.Nat.{ℕ}
-use Rattle.meaning.specs.declared.Answer.{Answer}
-use Rattle.meaning.specs.declared.Answer.TheVariants as Says
+use Rattle.meaning.specs.Says.{Answer}
+use Rattle.meaning.specs.Says as Says
 use native.Mathlib.Omega.{arith}
 use Rattle.meaning.specs.Answers.{answer_numbers}
 use Rattle.meaning.specs.Host.{second_number}

@@ -1,7 +1,7 @@
 -- `plan::reply` meets its contract: longer input is refused with 4, and any other is replied to as a job.
 use mathlib.Core.List.{[]}
 use native.Mathlib.Omega.{arith}
-use Rattle.meaning.specs.declared.Answer.TheVariants as Says
+use Rattle.meaning.specs.Says as Says
 use Rattle.print.proofs.Lengths.{lines_room}
 use Rattle.plan.specs.Replies.{a_job, longer, most_input}
 use Rattle.plan.proofs.reply.Goals as goal

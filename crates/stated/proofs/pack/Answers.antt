@@ -5,7 +5,7 @@ use native.Mathlib.Nat.{le_refl}
 use native.Mathlib.Omega.{arith}
 use mathlib.Core.List.{List}
 use lib.ListN.{length}
-use Rattle.meaning.specs.declared.Answer.TheVariants as Says
+use Rattle.meaning.specs.Says as Says
 use Rattle.meaning.specs.Lists.{at}
 use Rattle.meaning.specs.Cells.{no_way}
 use Rattle.meaning.specs.Cuts.{cut_by}

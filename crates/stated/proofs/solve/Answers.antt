@@ -5,6 +5,7 @@ use native.Mathlib.Omega.{arith}
 use mathlib.Core.List.{[], ◌∷◌}
 use lib.ListN.{length, take}
 use lib.Seq.{length-take-le}
+use Rattle.meaning.specs.Says.{given}
 use Rattle.meaning.specs.Lists.{if}
 use Rattle.meaning.specs.Job.{job_of, labels, has_q}
 use Rattle.meaning.specs.Cuts.{cut_by}
@@ -72,6 +73,6 @@ returns c =
     let e = c.measure-measures.ensures in
     let table = c.pack.new.cells in
     let found = c.pack.new.picks in
-    solved (job_of 9 (c.args.budget ∷ c.args.q ∷ []) c.args.weights.now c.args.values.now []) c.measure-measures.result.divisor c.measure-measures.result.width e.0 e.1.0 ok.job.small table found c.pack.result
+    solved (job_of 9 (c.args.budget ∷ c.args.q ∷ []) c.args.weights.now c.args.values.now []) c.measure-measures.result.divisor c.measure-measures.result.width e.0 e.1.0 ok.job.small table found (given c.pack.result)
     c.pack.ensures c.args.cells.now c.args.picks.now c.measure-measures.result.cells c.len-n.result c.requires
     (c.pack.auto.cells ∙ cells_long) e.1.1 counted

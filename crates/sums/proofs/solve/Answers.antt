@@ -5,6 +5,7 @@ use Prim.Native.Nat.{◌+◌, ◌/◌, ◌≤◌}
 use lib.ListN.{take, length}
 use lib.Seq.{length-take-le}
 use Rattle.meaning.specs.Job.{job_of}
+use Rattle.meaning.specs.Says.{given}
 use Rattle.numbers.specs.Lists.{weights_from}
 use Rattle.sums.proofs.Meant.{small, roomy, solved}
 use Rattle.sums.proofs.solve.Goals as goal
@@ -35,5 +36,5 @@ returns c =
     let room : c.args.budget / 64 + 1 ≤ length c.args.words.now = roomy (weights_from 4 (c.args.budget ∷ []) c.args.weights.now) c.args.words.now c.requires in
     let lent : length (take (c.args.budget / 64 + 1) c.args.words.now) ≡ c.args.budget / 64 + 1 = length-take-le (c.args.budget / 64 + 1) c.args.words.now room in
     let table = c.table in
-    solved (weights_from 4 (c.args.budget ∷ []) c.args.weights.now) table.result c.args.words.now table.new.words
+    solved (weights_from 4 (c.args.budget ∷ []) c.args.weights.now) (given table.result) c.args.words.now table.new.words
     c.requires (table.auto.words ∙ lent) table.ensures
