@@ -36,6 +36,7 @@ pub mod CellNumbers
 pub mod OneOfEach
 pub mod Light
 pub mod EachKind
+pub mod Refusing
 pub mod Unique
 pub mod Laws
 pub mod QuickPromise

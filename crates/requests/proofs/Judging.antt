@@ -17,6 +17,8 @@ use Rattle.meaning.specs.Refusals as meaning
 use Rattle.meaning.specs.Bounds.{most_value, most_copies, least_copies, least_q, most_q}
 use Rattle.meaning.specs.Refusals.{ascending_from, bounds_fit, each_within, job_refusal, knapsack_rules, least_value, lists_fit, positive, numbers_fit, q_fits}
 use Rattle.meaning.proofs.Loops.{and_assoc, and_true, every_joined, every_step}
+use Rattle.numbers.specs.declared.Job.{Job as Came}
+use Rattle.numbers.specs.Lists.{job_as}
 use Rattle.rules.specs.declared.Rules.{Rules}
 use Rattle.rules.specs.Ruling.{rules_from, rule_from}
 use Rattle.requests.specs.Judging.{EachWithin}
@@ -86,16 +88,16 @@ both_fit a b x y x-needed y-needed e f g = simp (sym e, sym f, eq-eqb a x g)
 pub first_fails : (a b x x-needed y-needed : ℕ) → x ≡ x-needed → ¬ (a ≡ x) → eqb a x ≡ (eqb a x-needed && eqb b y-needed)
 first_fails a b x x-needed y-needed e g = simp (sym e, ne_eqb a x g)
 
-pub lists_as : (rules : Rules) (needs_sum : Bool) (j : Job) (n values copies : ℕ) → n ≡ labels j → values ≡ length j.values
-    → copies ≡ length j.copies
-    → (eqb values (if rules.valued n 0) && eqb copies (if rules.copied n 0)) ≡ lists_fit (rules_from rules needs_sum) j
-unfolding lists_fit rules_from
-lists_as rules needs_sum j n values copies e f g = rw (e, f, g)
+-- the two tests, as the code makes them of a job by the lengths of its lists
+module _ (rules : Rules) (needs_sum : Bool) (kind : ℕ) (j : Came) (n : ℕ) (counted : n ≡ length j.weights) where
+  pub lists_told : {values copies : ℕ} {r : Bool} → r ≡ (eqb values (if rules.valued n 0) && eqb copies (if rules.copied n 0))
+      → values ≡ length j.values → copies ≡ length j.copies → r ≡ lists_fit (rules_from rules needs_sum) (job_as kind j)
+  unfolding lists_fit rules_from job_of labels
+  lists_told told e f = rw (told, counted, e, f)
 
-pub bounds_as : (rules : Rules) (needs_sum : Bool) (j : Job) (n : ℕ) → n ≡ labels j
-    → (leb n rules.labels && leb j.budget rules.budget) ≡ bounds_fit (rules_from rules needs_sum) j
-unfolding bounds_fit rules_from
-bounds_as rules needs_sum j n e = rw e
+  pub bounds_told : {r : Bool} → r ≡ (leb n rules.labels && leb j.budget rules.budget) → r ≡ bounds_fit (rules_from rules needs_sum) (job_as kind j)
+  unfolding bounds_fit rules_from job_of labels
+  bounds_told told = rw (told, counted)
 
 -- ---- 5, list by list
 

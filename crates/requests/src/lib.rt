@@ -3,170 +3,71 @@
 // refusal 2, is for the planner, the checker and the writer to say.
 #![tactic(auto)]
 
-ghost use Rattle.std.specs.Prelude.{[], ◌∷◌, ◌≡◌, ℕ, Bool, ◌&&◌, ltb, leb, eqb};
-ghost use Rattle.meaning.specs.Job.{job_of};
+ghost use Rattle.std.specs.Prelude.{◌≡◌, ℕ, Bool, ◌&&◌, ltb, leb, eqb};
 ghost use Rattle.meaning.specs.Lists.{sum, if};
 ghost use Rattle.meaning.specs.Bounds.{least_q, most_q};
-ghost use Rattle.meaning.specs.Bytes.{numbers_in};
+ghost use Rattle.meaning.specs.Refusing.{refused};
 ghost use Rattle.meaning.specs.Refusals.{ascending_from, numbers_fit, job_refusal};
+ghost use Rattle.numbers.specs.Lists.{job_as};
 ghost use Rattle.rules.specs.Ruling.{rules_from, rule_from};
-ghost use Rattle.requests.specs.Reading.{ReadAs, Within, broken_of, bytes_at};
+ghost use Rattle.requests.specs.Reading.{ReadAs};
 ghost use Rattle.requests.specs.Judging.{EachWithin};
 
-use meaning::{Needed, Section};
-use numbers::Numbers;
+use meaning::Refusal;
+use numbers::{Job, Numbers};
 use rules::{Rules, WeightRule};
 
 // ---- refusal 1
 
-// Where the numbers of a list stand in the job bytes: from a place up to another.
-#[derive(Clone, Copy)]
-pub struct Part {
-    pub start: usize,
-    pub end: usize,
-}
-
-// What job bytes that can be read tell: the kind, the budget, q, and where the numbers of each list stand. Where the kind has no q, its number
-// stands for nothing.
-#[derive(Clone, Copy)]
-pub struct Parts {
-    pub kind: u32,
-    pub budget: u32,
-    pub q: u32,
-    pub weights: Part,
-    pub values: Part,
-    pub copies: Part,
-}
-
-// What job bytes are read as: their parts, or the place where reading broke.
-#[derive(Clone, Copy)]
-pub enum Request {
-    Read(Parts),
-    Broken(usize),
-}
-
-// Where a section that isn't whole broke.
-fn broken(section: Section) -> Request
-    ensures { result ≡ broken_of section }
-{
-    match section {
-        Section::Part(start, _, _) => Request::Broken(start),
-        Section::Broken(place) => Request::Broken(place),
-    }
-}
-
-// Reads job bytes, section by section. Of two budgets q is the last.
-pub fn read_job(job: &[u8]) -> Request
+// Reads job bytes, section by section; or gives the place where reading broke. Of two budgets q is the last.
+pub fn read_job(job: &[u8]) -> Result<Job<'_>, usize>
     ensures { ReadAs job.now result }
 {
-    let first = numbers::read_section(job, 0, Needed::Exactly(1));
-    let Section::Part(kind, _, at) = first else {
-        return broken(first);
-    };
-    let number = numbers::number_at(job, kind);
-    let count = rules::budget_count(number);
-    let second = numbers::read_section(job, at, Needed::Exactly(count));
-    let Section::Part(budget, _, budgets_end) = second else {
-        return broken(second);
-    };
-    let third = numbers::read_section(job, budgets_end, Needed::Any);
-    let Section::Part(weights, _, weights_end) = third else {
-        return broken(third);
-    };
-    let fourth = numbers::read_section(job, weights_end, Needed::Any);
-    let Section::Part(values, _, values_end) = fourth else {
-        return broken(fourth);
-    };
-    let fifth = numbers::read_section(job, values_end, Needed::Any);
-    let Section::Part(copies, _, copies_end) = fifth else {
-        return broken(fifth);
-    };
+    let (kinds, kinds_end) = numbers::section(job, 0, Some(1))?;
+    let kind = numbers::number_in(kinds, 0);
+    let count = rules::budget_count(kind);
+    let (budgets, budgets_end) = numbers::section(job, kinds_end, Some(count))?;
+    let (weights, weights_end) = numbers::section(job, budgets_end, None)?;
+    let (values, values_end) = numbers::section(job, weights_end, None)?;
+    let (copies, copies_end) = numbers::section(job, values_end, None)?;
     if copies_end < job.len() {
-        return Request::Broken(copies_end);
+        return Err(copies_end);
     }
-    Request::Read(Parts {
-        kind: number,
-        budget: numbers::number_at(job, budget),
-        q: numbers::number_at(job, budgets_end - 4),
-        weights: Part {
-            start: weights,
-            end: weights_end,
-        },
-        values: Part {
-            start: values,
-            end: values_end,
-        },
-        copies: Part {
-            start: copies,
-            end: copies_end,
-        },
+    Ok(Job {
+        kind,
+        budget: numbers::number_in(budgets, 0),
+        q: numbers::number_in(budgets, count as usize - 1),
+        weights: Numbers::packed(weights),
+        values: Numbers::packed(values),
+        copies: Numbers::packed(copies),
     })
-}
-
-// The bytes of a list: a part of the job, and no copy of it.
-pub fn bytes_at(job: &[u8], part: Part) -> &[u8]
-    requires { Within job.now part }
-    ensures { result.now ≡ bytes_at job.now part }
-{
-    let start = part.start;
-    let end = part.end;
-    &job[start..end]
 }
 
 // ---- tests of a list's numbers
 
-// Whether each of these numbers is from low to high. The loop has no way out, so that it runs in vectors.
-fn numbers_within(numbers: &[u32], low: u32, high: u32) -> bool
-    ensures { EachWithin low high numbers.now result }
-{
-    let mut within = true;
-    let mut i = 0;
-    while i < numbers.len() {
-        let x = numbers[i];
-        within = within & (low <= x) & (x <= high);
-        i += 1;
-    }
-    within
-}
-
-// The same of the numbers in bytes.
-fn bytes_within(bytes: &[u8], low: u32, high: u32) -> bool
-    ensures { EachWithin low high (numbers_in bytes.now) result }
-{
-    let n = bytes.len() / 4;
-    let mut within = true;
-    let mut i = 0;
-    while i < n {
-        let x = numbers::number_in(bytes, i);
-        within = within & (low <= x) & (x <= high);
-        i += 1;
-    }
-    within
-}
-
-// Whether each number of a list is from low to high.
+// Whether each number of a list is from low to high. The loop has no way out: a list that keeps its rule is passed whole.
 fn each_within(numbers: &Numbers, low: u32, high: u32) -> bool
     ensures { EachWithin low high numbers.now result }
 {
-    let listed = numbers_within(numbers, low, high);
-    let packed = bytes_within(bytes, low, high);
-    listed & packed
+    let mut within = true;
+    for i in 0..numbers.len() {
+        let x = numbers.at(i);
+        within = within & (low <= x) & (x <= high);
+    }
+    within
 }
 
 // Whether the numbers of a list are 1 or more and strictly ascending.
 fn ascending(numbers: &Numbers) -> bool
     ensures { result ≡ ascending_from 1 numbers.now }
 {
-    let n = numbers.len();
     let mut least: u64 = 1;
-    let mut i = 0;
-    while i < n {
+    for i in 0..numbers.len() {
         let x = numbers.at(i) as u64;
         if x < least {
             return false;
         }
         least = x + 1;
-        i += 1;
     }
     true
 }
@@ -213,26 +114,18 @@ fn bounds_fit(rules: Rules, n: usize, budget: u32) -> bool
 }
 
 // 5: whether every weight, value and copies number keeps its rule.
-fn numbers_fit(
-    rules: Rules,
-    weights: &Numbers,
-    values: &Numbers,
-    copies: &Numbers,
-) -> bool
-    ensures { (kind budget : ℕ) (needs_sum : Bool) → result ≡ numbers_fit (rules_from rules needs_sum)
-        (job_of kind (budget ∷ []) weights.now
-        values.now copies.now) }
+fn numbers_fit(rules: Rules, job: &Job) -> bool
+    ensures { (kind : ℕ) (needs_sum : Bool) → result ≡ numbers_fit (rules_from rules needs_sum) (job_as kind job.now) }
 {
-    let rule = rules.weights;
-    if !keeps(rule, weights) {
+    if !keeps(rules.weights, &job.weights) {
         return false;
     }
     let worth = rules::value_bounds(rules);
-    if !each_within(values, worth.least, worth.most) {
+    if !each_within(&job.values, worth.least, worth.most) {
         return false;
     }
     let counts = rules::copies_bounds();
-    each_within(copies, counts.least, counts.most)
+    each_within(&job.copies, counts.least, counts.most)
 }
 
 // 5, of a kind with a q: whether it is within its bounds.
@@ -243,31 +136,21 @@ pub fn q_fits(q: u32) -> bool
     bounds.least <= q && q <= bounds.most
 }
 
-// The lowest of 3 to 5 that applies to a job, but for its q, and 0 for none.
-pub fn job_refusal(
-    rules: Rules,
-    budget: u32,
-    weights: &Numbers,
-    values: &Numbers,
-    copies: &Numbers,
-) -> u32
-    ensures { (kind : ℕ) (needs_sum : Bool) → result ≡ job_refusal (rules_from rules needs_sum)
-        (job_of kind (budget ∷ []) weights.now
-        values.now copies.now) 0 }
+// The lowest of 3 to 5 that applies to a job, but for its q.
+pub fn job_refusal(rules: Rules, job: &Job) -> Result<(), Refusal>
+    ensures { (kind : ℕ) (needs_sum : Bool) → refused result ≡ job_refusal (rules_from rules needs_sum) (job_as kind job.now) 0 }
 {
-    let n = weights.len();
-    let valued = values.len();
-    let copied = copies.len();
-    let listed = lists_fit(rules, n, valued, copied);
-    let bounded = bounds_fit(rules, n, budget);
+    let n = job.weights.len();
+    let listed = lists_fit(rules, n, job.values.len(), job.copies.len());
+    let bounded = bounds_fit(rules, n, job.budget);
     if !listed {
-        return 3;
+        return Err(Refusal::Lengths);
     }
     if !bounded {
-        return 4;
+        return Err(Refusal::Bound);
     }
-    if !numbers_fit(rules, weights, values, copies) {
-        return 5;
+    if !numbers_fit(rules, job) {
+        return Err(Refusal::Rule);
     }
-    0
+    Ok(())
 }

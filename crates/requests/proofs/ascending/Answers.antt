@@ -13,19 +13,19 @@ loop-i-init c = refl
 pub at-x-requires : goal.at-x-requires
 at-x-requires c =
     let list : List ℕ = c.args.numbers.now in
-    let inside : c.loop-i.i < length list = omega (arith, c.len-n.ensures) in
+    let inside : c.loop-i.i < length list = omega (arith, c.len-i-end.ensures) in
     inside
 
 pub returns-then-x-least : goal.returns-then-x-least
 returns-then-x-least c =
     let list : List ℕ = c.args.numbers.now in
-    let inside : c.loop-i.i < length list = omega (arith, c.len-n.ensures) in
+    let inside : c.loop-i.i < length list = omega (arith, c.len-i-end.ensures) in
     sym (c.loop-i.invariant ∙ descends _ _ _ inside (omega (arith, c.at-x.ensures)))
 
 pub loop-i-preserved : goal.loop-i-preserved
 loop-i-preserved c =
     let list : List ℕ = c.args.numbers.now in
-    let inside : c.loop-i.i < length list = omega (arith, c.len-n.ensures) in
+    let inside : c.loop-i.i < length list = omega (arith, c.len-i-end.ensures) in
     let x = c.at-x in
     rw x.ensures (c.loop-i.invariant ∙ ascends _ _ _ inside (omega (arith, x.ensures)))
 
@@ -33,4 +33,4 @@ pub returns : goal.returns
 returns c =
     let list : List ℕ = c.args.numbers.now in
     let l = c.loop-i in
-    sym (l.invariant ∙ all_ascend list l.least l.i (omega (arith, c.len-n.ensures)))
+    sym (l.invariant ∙ all_ascend list l.least l.i (omega (arith, c.len-i-end.ensures)))

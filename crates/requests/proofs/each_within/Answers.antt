@@ -1,6 +1,16 @@
--- `requests::each_within` meets its contract: a list is its numbers and those in its bytes, and each part is tested.
-use Rattle.requests.proofs.Judging.{joined}
+-- `requests::each_within` meets its contract: what was tested so far is the promise of the part that was passed.
+use native.Mathlib.Omega.{arith}
+use Rattle.requests.proofs.Judging.{none_tested, one_tested, all_tested}
 use Rattle.requests.proofs.each_within.Goals as goal
 
+pub loop-i-init : goal.loop-i-init
+loop-i-init c = none_tested _ _
+
+pub loop-i-preserved : goal.loop-i-preserved
+loop-i-preserved c =
+    let l = c.loop-i in
+    let x = c.at-x.ensures in
+    rw x (one_tested _ _ c.args.numbers.now l.i l.within (omega arith) (omega (arith, x)) l.invariant)
+
 pub returns : goal.returns
-returns c = joined _ _ _ _ _ _ c.numbers_within-listed.ensures c.bytes_within-packed.ensures
+returns c = all_tested _ _ c.args.numbers.now c.loop-i.i _ (omega arith) c.loop-i.invariant
