@@ -9,7 +9,13 @@ use mathlib.Core.List.{List, [], ◌∷◌}
 use lib.Dec.{T, eqb, leb, leb-zero}
 use lib.ListN.{length}
 use mir.Facts.{and_yes, eqb_yes, leb_yes}
-use Rattle.meaning.specs.Says.{Answer}
+use Rattle.std.specs.Prelude.{Result, IsErrAnd}
+use Rattle.std.proofs.lemmas.Result.{err_from_is_err_and}
+use Rattle.meaning.specs.declared.Answer.{Answer as Given}
+use Rattle.meaning.specs.declared.Refusal.{Refusal}
+use Rattle.meaning.specs.Refusing.{number_of}
+use Rattle.meaning.proofs.Refusing.{some_number}
+use Rattle.meaning.specs.Says.{Answer, said}
 use Rattle.meaning.specs.Says as Says
 use Rattle.meaning.specs.declared.Way.{Way}
 use Rattle.meaning.specs.declared.Way.TheVariants.{Light}
@@ -22,7 +28,10 @@ use Rattle.meaning.specs.Refusals as meaning
 use Rattle.meaning.specs.Refusals.{bounds_fit, claims_fit, job_refusal, kind_refusal, knapsack_rules, lists_fit, room_fits, rules_of}
 use Rattle.meaning.specs.Solved.{Outcome, SolvedBy, UnrefusedBy}
 use Rattle.meaning.proofs.Laws.{solved_kind, turned_down}
+use Rattle.meaning.proofs.Budgets.{q_ignored}
 use Rattle.meaning.proofs.Ways.{either_way}
+use Rattle.numbers.specs.declared.Job.{Job as Came}
+use Rattle.numbers.specs.Lists.{job_in, job_as}
 use Rattle.meaning.proofs.Valid.{has_passed}
 use Rattle.meaning.proofs.Totals.{empty_of}
 use Rattle.rules.specs.declared.Room.{Room}
@@ -181,6 +190,13 @@ module _ {way : Way} {k : Kind} {j : Job} {lent : Lent} {r : ℕ} (by : LowestBy
     unfolding if
     let_in claimed = record { of_kind = by.of_kind; no_refusal = later_asked ∙ rw claimed }
 
+-- what the `?` of an arm hands back
+pub turned_with : {way : Way} {k : Kind} {j : Job} {lent : Lent} (why : Refusal) (r : Result Given Refusal) → IsErrAnd r (λ e. e ≡ why)
+    → LowestBy way k j lent (number_of why) → SolvedBy way j lent (said r) lent
+turned_with why r is by =
+    let p = err_from_is_err_and r is in
+    rw (p.1, p.2) (turned_away by (λ none. omega (arith, some_number why)))
+
 -- ---- a list that the kind doesn't use is empty
 
 no_members : (xs : List ℕ) (used : Bool) (n : ℕ) → used ≡ false → T (eqb (length xs) (if used n 0)) → xs ≡ []
@@ -219,8 +235,15 @@ weights_alone {k = k} kind budget ws vs cs no-values no_copies by none =
 
 -- ---- the arm of a kind that isn't kind 1, whichever way kind 1 goes
 
--- `job` has its kind's number, which is m, and the arm takes it as `bare`
-pub of_arm : (way : Way) (job : ℕ → Job) (m kind : ℕ) {bare : Job} (before after : Lent) (a : Answer) → ((k : ℕ) → (job k).kind_number ≡ k)
-    → kind ≡ m → ¬ (m ≡ 1) → bare ≡ job m → SolvedBy Light bare before a after → SolvedBy way (job kind) before a after
-of_arm way job m kind before after a numbered is not-1 same h =
-    rw is (either_way {way = Light} way (job m) before after a (λ one. not-1 (sym (numbered m) ∙ one)) (rw same at h))
+-- by its own number, with q
+pub of_arm : (way : Way) (j : Came) (m : ℕ) (before after : Lent) (a : Answer) → j.kind ≡ m → ¬ (m ≡ 1)
+    → SolvedBy Light (job_of m (j.budget ∷ j.q ∷ []) j.weights j.values j.copies) before a after → SolvedBy way (job_in j) before a after
+unfolding job_of
+of_arm way j m before after a is not-1 h =
+    rw is (either_way {way = Light} way (job_of m (j.budget ∷ j.q ∷ []) j.weights j.values j.copies) before after a (λ one. not-1 one) h)
+
+-- and a kind that has no q doesn't look at it
+pub of_arm_without : (way : Way) (j : Came) (m : ℕ) (before after : Lent) (a : Answer) → j.kind ≡ m → ¬ (m ≡ 1) → ¬ (m ≡ 9)
+    → SolvedBy Light (job_as m j) before a after → SolvedBy way (job_in j) before a after
+of_arm_without way j m before after a is not-1 not-9 h =
+    of_arm way j m before after a is not-1 (rw (q_ignored m j.weights j.values j.copies not-9 j.budget j.q) at h)

@@ -1,19 +1,23 @@
 -- Kind 9, which is asked as kind 1 is, then about q, and then about the room that its numbers need.
 -- Assumes nothing.
 use mathlib.Core.Path.{◌≡◌, refl, sym, ap, ◌∙◌}
+use mathlib.Core.Option.{some}
 use Prim.Native.Nat.{ℕ, ◌≤◌, ◌<◌}
+use native.Mathlib.Omega.{arith}
 use mathlib.Core.Bool.{Bool, true, false, ◌&&◌}
 use mathlib.Core.List.{List, [], ◌∷◌}
 use lib.Dec.{leb, leb-zero}
 use lib.ListN.{length}
 use borrow.Author.Tests.{le-leb, lt-leb}
 use Rattle.meaning.specs.Lists.{if}
-use Rattle.meaning.specs.Job.{Job, job_of, labels, once, packing, stated_share, kind_of, all_kinds, has_q}
+use Rattle.meaning.specs.Job.{Job, Knapsack, job_of, labels, once, packing, stated_share, kind_of, all_kinds, has_q}
 use Rattle.meaning.specs.Cuts.{stated_cells}
 use Rattle.meaning.specs.Lent.{lent_of, room_by, room_of}
 use Rattle.meaning.specs.Bounds.{least_q, most_q}
 use Rattle.meaning.specs.Refusals.{has_copies, job_refusal, knapsack_rules, room_fits, rules_of}
 use Rattle.meaning.proofs.Loops.{and_true}
+use Rattle.numbers.specs.declared.Job.{Job as Came}
+use Rattle.numbers.specs.Lists.{job_as}
 use Rattle.rules.specs.declared.Rules.{Rules}
 use Rattle.rules.specs.Ruling.{rules_from}
 use Rattle.requests.proofs.Judging.{earlier_given, none_earlier, q_last, q_unasked}
@@ -87,6 +91,56 @@ few_picks needed n cells picks enough short = rw (le-leb needed cells enough, lt
 pub room_enough : (needed n cells picks : ℕ) → needed ≤ cells → n ≤ picks → 0 ≡ asks_room needed n cells picks
 unfolding if
 room_enough needed n cells picks enough enough-picks = rw (le-leb needed cells enough, le-leb n picks enough-picks)
+
+-- ---- the lowest of 3 to 6, by what the code asked
+
+-- the job of kind 9 that came
+abbrev pub stated_job : Came → Job
+stated_job j = job j.budget j.q j.weights j.values j.copies
+
+-- what kind 9 is asked: 6 by the room that its numbers need
+abbrev pub stated_asked : Came → ℕ → ℕ → ℕ
+stated_asked j cells picks =
+    job_refusal (rules_of stated_share) (stated_job j) (asks_room (stated_cells (stated_job j)) (labels (stated_job j)) cells picks)
+
+-- the rules of kind 1, as the code has them
+abbrev pub RulesOf1 : Rules → Type 0
+RulesOf1 rules = (k : Knapsack) → kind_of 1 ≡ some (packing k) → rules_from rules false ≡ rules_of (packing k)
+
+module _ (j : Came) (rules : Rules) (r cells picks : ℕ) (its_rules : RulesOf1 rules)
+    (asked : (kind : ℕ) (needs_sum : Bool) → r ≡ job_refusal (rules_from rules needs_sum) (job_as kind j) 0) where
+  ruled : rules_from rules false ≡ rules_of (packing once)
+  unfolding all_kinds kind_of
+  ruled = its_rules once refl
+
+  pub one_of_kind_1 : ¬ (r ≡ 0) → r ≡ stated_asked j cells picks
+  one_of_kind_1 Some-number = as_kind_1 j.budget j.q j.weights j.values j.copies rules r ruled (asked 9 false) Some-number _
+
+  module _ (none : r ≡ 0) where
+    pub wrong_q : fits j.q ≡ false → 5 ≡ stated_asked j cells picks
+    wrong_q outside = q_outside j.budget j.q j.weights j.values j.copies rules r ruled (asked 9 false) none outside _
+
+    module _ (within : fits j.q ≡ true) where
+      pub let_to_measure : job_refusal (rules_of stated_share) (bare j.budget j.q j.weights j.values j.copies) 0 ≡ 0
+      let_to_measure = bare_passes j.budget j.q j.weights j.values j.copies rules r ruled (asked 9 false) none within
+
+      module _ {needed : ℕ} (measured : needed ≡ stated_cells (bare j.budget j.q j.weights j.values j.copies)) where
+        its_cells : needed ≡ stated_cells (stated_job j)
+        its_cells = measured ∙ ap stated_cells (sym (bare_is j.budget j.q j.weights j.values j.copies rules r ruled (asked 9 false) none within))
+
+        room_next : (later : ℕ) → later ≡ job_refusal (rules_of stated_share) (stated_job j) later
+        room_next later = then_room j.budget j.q j.weights j.values j.copies rules r ruled (asked 9 false) none within later
+
+        pub no_cells : cells < needed → 6 ≡ stated_asked j cells picks
+        no_cells short = few_cells _ _ cells picks (omega (arith, its_cells)) ∙ room_next _
+
+        pub no_picks : needed ≤ cells → picks < length j.weights → 6 ≡ stated_asked j cells picks
+        unfolding labels job_of
+        no_picks enough short = few_picks _ _ cells picks (omega (arith, its_cells)) short ∙ room_next _
+
+        pub all_room : needed ≤ cells → length j.weights ≤ picks → 0 ≡ stated_asked j cells picks
+        unfolding labels job_of
+        all_room enough many = room_enough _ _ cells picks (omega (arith, its_cells)) many ∙ room_next _
 
 -- the lowest of 3 to 6, with any words
 pub stated_lowest : (j : Job) (cells words picks : List ℕ) (r : ℕ) → j.kind_number ≡ 9

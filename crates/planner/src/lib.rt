@@ -9,119 +9,76 @@ ghost use Rattle.meaning.specs.Job.{job_of, labels, stated_share};
 ghost use Rattle.meaning.specs.Cuts.{stated_cells};
 ghost use Rattle.meaning.specs.Lent.{lent_of};
 ghost use Rattle.meaning.specs.Refusals.{job_refusal, rules_of};
+ghost use Rattle.meaning.specs.Refusing.{refused};
+ghost use Rattle.meaning.specs.Says.{said};
 ghost use Rattle.meaning.specs.Solved.{SolvedBy, Solved, SolvedBytes, SolvedFull, SolvedFullBytes};
 ghost use Rattle.meaning.specs.Told.{ToldBy, ToldBytes};
 ghost use Rattle.meaning.specs.SolvedIn.{SolvedInCellsBy, SolvedInCells, SolvedInWords, SolvedInPicks};
+ghost use Rattle.numbers.specs.Lists.{job_in, job_as};
 ghost use Rattle.rules.specs.Ruling.{rules_from};
 ghost use Rattle.rules.specs.Places.{has_room};
 
-use meaning::{Answer, Way};
-use numbers::Numbers;
-use requests::Request;
+use meaning::{Answer, Refusal, Way};
+use numbers::{Job, Numbers};
 use rules::{Room, Rules};
 
-// The lowest of 3 to 6 that applies to a job of a kind with these rules that needs this room, where the lent slices have these lengths;
-// and 0 for none.
+// The lowest of 3 to 6 that applies to a job of a kind with these rules that needs this room, where the lent slices have these lengths.
 fn refusal(
     rules: Rules,
     room: Room,
-    budget: u32,
-    weights: &Numbers,
-    values: &Numbers,
-    copies: &Numbers,
+    job: &Job,
     cells: usize,
     words: usize,
     picks: usize,
-) -> u32
-    ensures { (kind : ℕ) (needs_sum : Bool) → result ≡ job_refusal (rules_from rules needs_sum)
-        (job_of kind (budget ∷ []) weights.now
-        values.now copies.now) (if (has_room room cells words picks) 0 6) }
+) -> Result<(), Refusal>
+    ensures { (kind : ℕ) (needs_sum : Bool) → refused result
+        ≡ job_refusal (rules_from rules needs_sum) (job_as kind job.now) (if (has_room room cells words picks) 0 6) }
 {
-    let refused = requests::job_refusal(
-        rules, budget, weights, values, copies,
-    );
-    if refused != 0 {
-        return refused;
-    }
+    requests::job_refusal(rules, job)?;
     if rules::room_fits(room, cells, words, picks) {
-        0
+        Ok(())
     } else {
-        6
+        Err(Refusal::Room)
     }
 }
 
 // Each arm chooses its rules, its room and its door. A length of 0 stands for a slice that the kind doesn't need.
 
 // Kinds 1 to 3, kind 1 the full way.
-fn pack_full(
-    kind: u32,
-    budget: u32,
-    weights: &Numbers,
-    values: &Numbers,
-    copies: &Numbers,
-    cells: &mut [u32],
-    picks: &mut [u32],
-) -> Answer
-    requires { (1 ≤ kind) × (kind ≤ 3) }
-    ensures { SolvedInCellsBy Full (job_of kind (budget ∷ []) weights.now
-        values.now copies.now) cells.old picks.old
-        result cells.new picks.new }
+fn pack_full(job: &Job, cells: &mut [u32], picks: &mut [u32]) -> Result<Answer, Refusal>
+    requires { (1 ≤ job.now.kind) × (job.now.kind ≤ 3) }
+    ensures { SolvedInCellsBy Full (job_as job.now.kind job.now) cells.old picks.old (said result) cells.new picks.new }
 {
-    let n = weights.len();
-    let rules = rules::knapsack_rules(kind);
-    let room = rules::knapsack_room(kind, n, budget);
-    let refused = refusal(
-        rules,
-        room,
-        budget,
-        weights,
-        values,
-        copies,
-        cells.len(),
-        0,
-        picks.len(),
-    );
-    if refused != 0 {
-        return Answer::Refused(refused);
-    }
-    knapsack::solve(
-        kind, budget, weights, values, copies, cells, picks,
-    )
+    let n = job.weights.len();
+    let rules = rules::knapsack_rules(job.kind);
+    let room = rules::knapsack_room(job.kind, n, job.budget);
+    refusal(rules, room, job, cells.len(), 0, picks.len())?;
+    Ok(knapsack::solve(
+        job.kind,
+        job.budget,
+        &job.weights,
+        &job.values,
+        &job.copies,
+        cells,
+        picks,
+    ))
 }
 
 // Kind 1 the light way.
 fn pack_light(
-    budget: u32,
-    weights: &Numbers,
-    values: &Numbers,
-    copies: &Numbers,
+    job: &Job,
     cells: &mut [u32],
     words: &mut [u64],
     picks: &mut [u32],
-) -> Answer
-    ensures { Solved (job_of 1 (budget ∷ []) weights.now
-        values.now copies.now)
-        (lent_of cells.old words.old picks.old) result
+) -> Result<Answer, Refusal>
+    ensures { Solved (job_as 1 job.now) (lent_of cells.old words.old picks.old) (said result)
         (lent_of cells.new words.new picks.new) }
 {
-    let n = weights.len();
+    let n = job.weights.len();
     let rules = rules::knapsack_rules(1);
-    let room = rules::light_room(n, budget);
-    let refused = refusal(
-        rules,
-        room,
-        budget,
-        weights,
-        values,
-        copies,
-        cells.len(),
-        words.len(),
-        picks.len(),
-    );
-    if refused != 0 {
-        return Answer::Refused(refused);
-    }
-    light::solve(budget, weights, values, cells, words, picks)
+    let room = rules::light_room(n, job.budget);
+    refusal(rules, room, job, cells.len(), words.len(), picks.len())?;
+    Ok(light::solve(job.budget, &job.weights, &job.values, cells, words, picks))
 }
 
 // Whether a job of this kind goes the light way: kind 1 alone has one.
@@ -137,267 +94,123 @@ fn goes_light(way: Way, kind: u32) -> bool
 // Kinds 1 to 3.
 fn pack(
     way: Way,
-    kind: u32,
-    budget: u32,
-    weights: &Numbers,
-    values: &Numbers,
-    copies: &Numbers,
+    job: &Job,
     cells: &mut [u32],
     words: &mut [u64],
     picks: &mut [u32],
-) -> Answer
-    requires { (1 ≤ kind) × (kind ≤ 3) }
-    ensures { SolvedBy way (job_of kind (budget ∷ []) weights.now
-        values.now copies.now)
-        (lent_of cells.old words.old picks.old) result
+) -> Result<Answer, Refusal>
+    requires { (1 ≤ job.now.kind) × (job.now.kind ≤ 3) }
+    ensures { SolvedBy way (job_as job.now.kind job.now) (lent_of cells.old words.old picks.old) (said result)
         (lent_of cells.new words.new picks.new) }
 {
-    if goes_light(way, kind) {
-        return pack_light(
-            budget, weights, values, copies, cells, words, picks,
-        );
+    if goes_light(way, job.kind) {
+        return pack_light(job, cells, words, picks);
     }
-    pack_full(
-        kind, budget, weights, values, copies, cells, picks,
-    )
+    pack_full(job, cells, picks)
 }
 
 // Kind 4.
-fn reach(
-    budget: u32,
-    weights: &Numbers,
-    values: &Numbers,
-    copies: &Numbers,
-    words: &mut [u64],
-) -> Answer
-    ensures { SolvedInWords (job_of 4 (budget ∷ []) weights.now
-        values.now copies.now) words.old result words.new }
+fn reach(job: &Job, words: &mut [u64]) -> Result<Answer, Refusal>
+    ensures { SolvedInWords (job_as 4 job.now) words.old (said result) words.new }
 {
     let rules = rules::sums_rules();
-    let room = rules::sums_room(budget);
-    let refused = refusal(
-        rules,
-        room,
-        budget,
-        weights,
-        values,
-        copies,
-        0,
-        words.len(),
-        0,
-    );
-    if refused != 0 {
-        return Answer::Refused(refused);
-    }
-    sums::solve(budget, weights, words)
+    let room = rules::sums_room(job.budget);
+    refusal(rules, room, job, 0, words.len(), 0)?;
+    Ok(sums::solve(job.budget, &job.weights, words))
 }
 
 // Kinds 5 and 6.
 fn lay(
-    kind: u32,
-    budget: u32,
-    weights: &Numbers,
-    values: &Numbers,
-    copies: &Numbers,
+    job: &Job,
     cells: &mut [u32],
     words: &mut [u64],
     picks: &mut [u32],
-) -> Answer
-    requires { (5 ≤ kind) × (kind ≤ 6) }
-    ensures { Solved (job_of kind (budget ∷ []) weights.now
-        values.now copies.now)
-        (lent_of cells.old words.old picks.old) result
+) -> Result<Answer, Refusal>
+    requires { (5 ≤ job.now.kind) × (job.now.kind ≤ 6) }
+    ensures { Solved (job_as job.now.kind job.now) (lent_of cells.old words.old picks.old) (said result)
         (lent_of cells.new words.new picks.new) }
 {
-    let n = weights.len();
+    let n = job.weights.len();
     let rules = rules::blocks_rules();
-    let room = rules::blocks_room(kind, n, budget);
-    let refused = refusal(
-        rules,
-        room,
-        budget,
-        weights,
-        values,
-        copies,
-        cells.len(),
-        words.len(),
-        picks.len(),
-    );
-    if refused != 0 {
-        return Answer::Refused(refused);
-    }
-    blocks::solve(kind, budget, weights, cells, words, picks)
+    let room = rules::blocks_room(job.kind, n, job.budget);
+    refusal(rules, room, job, cells.len(), words.len(), picks.len())?;
+    blocks::solve(job.kind, job.budget, &job.weights, cells, words, picks)
 }
 
 // Kind 7, which 9 may refuse too.
-fn share(
-    budget: u32,
-    weights: &Numbers,
-    values: &Numbers,
-    copies: &Numbers,
-    picks: &mut [u32],
-) -> Answer
-    ensures { SolvedInPicks (job_of 7 (budget ∷ []) weights.now
-        values.now copies.now) picks.old result picks.new }
+fn share(job: &Job, picks: &mut [u32]) -> Result<Answer, Refusal>
+    ensures { SolvedInPicks (job_as 7 job.now) picks.old (said result) picks.new }
 {
-    let n = weights.len();
+    let n = job.weights.len();
     let rules = rules::shares_rules();
     let room = rules::shares_room(n);
-    let refused = refusal(
-        rules,
-        room,
-        budget,
-        weights,
-        values,
-        copies,
-        0,
-        0,
-        picks.len(),
-    );
-    if refused != 0 {
-        return Answer::Refused(refused);
+    refusal(rules, room, job, 0, 0, picks.len())?;
+    if !requests::has_sum(&job.weights) {
+        return Err(Refusal::NoClaims);
     }
-    if !requests::has_sum(weights) {
-        return Answer::Refused(9);
-    }
-    shares::solve(budget, weights, picks)
+    Ok(shares::solve(job.budget, &job.weights, picks))
 }
 
 // Kind 8.
-fn show(
-    budget: u32,
-    weights: &Numbers,
-    values: &Numbers,
-    copies: &Numbers,
-    cells: &mut [u32],
-    picks: &mut [u32],
-) -> Answer
-    ensures { SolvedInCells (job_of 8 (budget ∷ []) weights.now
-        values.now copies.now) cells.old picks.old
-        result cells.new picks.new }
+fn show(job: &Job, cells: &mut [u32], picks: &mut [u32]) -> Result<Answer, Refusal>
+    ensures { SolvedInCells (job_as 8 job.now) cells.old picks.old (said result) cells.new picks.new }
 {
-    let n = weights.len();
+    let n = job.weights.len();
     let rules = rules::sums_rules();
-    let room = rules::row_room(n, budget);
-    let refused = refusal(
-        rules,
-        room,
-        budget,
-        weights,
-        values,
-        copies,
-        cells.len(),
-        0,
-        picks.len(),
-    );
-    if refused != 0 {
-        return Answer::Refused(refused);
-    }
-    behind::solve(budget, weights, cells, picks)
+    let room = rules::row_room(n, job.budget);
+    refusal(rules, room, job, cells.len(), 0, picks.len())?;
+    behind::solve(job.budget, &job.weights, cells, picks)
 }
 
-// The lowest of 3 to 6 that applies to a job of kind 9, and 0 for none. It is asked as kind 1 is, then about q; its room goes by its numbers, so it
-// is counted once they have passed.
-fn stated_refusal(
-    budget: u32,
-    q: u32,
-    weights: &Numbers,
-    values: &Numbers,
-    copies: &Numbers,
-    cells: usize,
-    picks: usize,
-) -> u32
-    ensures { let j = job_of 9 (budget ∷ q ∷ []) weights.now
-        values.now copies.now in
-        result ≡ job_refusal (rules_of stated_share) j (if (leb (stated_cells j) cells && leb (labels j) picks) 0 6) }
+// The lowest of 3 to 6 that applies to a job of kind 9. It is asked as kind 1 is, then about q; its room goes by its numbers, so it is counted once
+// they have passed.
+fn stated_refusal(job: &Job, cells: usize, picks: usize) -> Result<(), Refusal>
+    ensures { let j = job_of 9 (job.now.budget ∷ job.now.q ∷ []) job.now.weights job.now.values job.now.copies in
+        refused result ≡ job_refusal (rules_of stated_share) j (if (leb (stated_cells j) cells && leb (labels j) picks) 0 6) }
 {
     let rules = rules::knapsack_rules(1);
-    let refused = requests::job_refusal(
-        rules, budget, weights, values, copies,
-    );
-    if refused != 0 {
-        return refused;
+    requests::job_refusal(rules, job)?;
+    if !requests::q_fits(job.q) {
+        return Err(Refusal::Rule);
     }
-    if !requests::q_fits(q) {
-        return 5;
-    }
-    let needed = stated::cells_needed(budget, q, weights, values);
+    let needed = stated::cells_needed(job.budget, job.q, &job.weights, &job.values);
     if cells < needed {
-        return 6;
+        return Err(Refusal::Room);
     }
-    if picks < weights.len() {
-        return 6;
+    if picks < job.weights.len() {
+        return Err(Refusal::Room);
     }
-    0
+    Ok(())
 }
 
 // Kind 9.
-fn state(
-    budget: u32,
-    q: u32,
-    weights: &Numbers,
-    values: &Numbers,
-    copies: &Numbers,
-    cells: &mut [u32],
-    picks: &mut [u32],
-) -> Answer
-    ensures { SolvedInCells (job_of 9 (budget ∷ q ∷ []) weights.now
-        values.now copies.now) cells.old picks.old
-        result cells.new picks.new }
+fn state(job: &Job, cells: &mut [u32], picks: &mut [u32]) -> Result<Answer, Refusal>
+    ensures { SolvedInCells (job_of 9 (job.now.budget ∷ job.now.q ∷ []) job.now.weights job.now.values job.now.copies)
+        cells.old picks.old (said result) cells.new picks.new }
 {
-    let refused = stated_refusal(
-        budget,
-        q,
-        weights,
-        values,
-        copies,
-        cells.len(),
-        picks.len(),
-    );
-    if refused != 0 {
-        return Answer::Refused(refused);
-    }
-    stated::solve(budget, q, weights, values, cells, picks)
+    stated_refusal(job, cells.len(), picks.len())?;
+    Ok(stated::solve(job.budget, job.q, &job.weights, &job.values, cells, picks))
 }
 
 // The one place where the kind decides.
 fn decide(
     way: Way,
-    kind: u32,
-    budget: u32,
-    q: u32,
-    weights: &Numbers,
-    values: &Numbers,
-    copies: &Numbers,
+    job: &Job,
     cells: &mut [u32],
     words: &mut [u64],
     picks: &mut [u32],
-) -> Answer
-    ensures { SolvedBy way (job_of kind (budget ∷ q ∷ []) weights.now
-        values.now copies.now)
-        (lent_of cells.old words.old picks.old) result
+) -> Result<Answer, Refusal>
+    ensures { SolvedBy way (job_in job.now) (lent_of cells.old words.old picks.old) (said result)
         (lent_of cells.new words.new picks.new) }
 {
-    match kind {
-        1..=3 => pack(
-            way, kind, budget, weights, values, copies, cells, words, picks,
-        ),
-        4 => reach(
-            budget, weights, values, copies, words,
-        ),
-        5 | 6 => lay(
-            kind, budget, weights, values, copies, cells, words, picks,
-        ),
-        7 => share(
-            budget, weights, values, copies, picks,
-        ),
-        8 => show(
-            budget, weights, values, copies, cells, picks,
-        ),
-        9 => state(
-            budget, q, weights, values, copies, cells, picks,
-        ),
-        _ => Answer::Refused(2),
+    match job.kind {
+        1..=3 => pack(way, job, cells, words, picks),
+        4 => reach(job, words),
+        5 | 6 => lay(job, cells, words, picks),
+        7 => share(job, picks),
+        8 => show(job, cells, picks),
+        9 => state(job, cells, picks),
+        _ => Err(Refusal::Kind),
     }
 }
 
@@ -413,15 +226,20 @@ fn solve_by(
     cells: &mut [u32],
     words: &mut [u64],
     picks: &mut [u32],
-) -> Answer
+) -> Result<Answer, Refusal>
     ensures { SolvedBy way (job_of kind (budget ∷ q ∷ []) weights.now values.now copies.now)
-        (lent_of cells.old words.old picks.old) result
+        (lent_of cells.old words.old picks.old) (said result)
         (lent_of cells.new words.new picks.new) }
 {
-    let none: [u8; 0] = [];
-    decide(
-        way, kind, budget, q, weights, &none, values, &none, copies, &none, cells, words, picks,
-    )
+    let job = Job {
+        kind,
+        budget,
+        q,
+        weights: Numbers::listed(weights),
+        values: Numbers::listed(values),
+        copies: Numbers::listed(copies),
+    };
+    decide(way, &job, cells, words, picks)
 }
 
 // A job of lists. Any lists and any slices may be handed in. q stands beside the budget; kinds but 9 ignore it.
@@ -435,9 +253,9 @@ pub fn solve(
     cells: &mut [u32],
     words: &mut [u64],
     picks: &mut [u32],
-) -> Answer
+) -> Result<Answer, Refusal>
     ensures { Solved (job_of kind (budget ∷ q ∷ []) weights.now values.now copies.now)
-        (lent_of cells.old words.old picks.old) result
+        (lent_of cells.old words.old picks.old) (said result)
         (lent_of cells.new words.new picks.new) }
 {
     solve_by(
@@ -465,9 +283,9 @@ pub fn solve_full(
     cells: &mut [u32],
     words: &mut [u64],
     picks: &mut [u32],
-) -> Answer
+) -> Result<Answer, Refusal>
     ensures { SolvedFull (job_of kind (budget ∷ q ∷ []) weights.now values.now copies.now)
-        (lent_of cells.old words.old picks.old) result
+        (lent_of cells.old words.old picks.old) (said result)
         (lent_of cells.new words.new picks.new) }
 {
     solve_by(
@@ -489,64 +307,47 @@ pub fn solve_full(
 pub struct Told {
     pub kind: u32,
     pub labels: usize,
-    pub answer: Answer,
+    pub answer: Result<Answer, Refusal>,
 }
 
 // Job bytes, by a way. Each section is handed on as the part of the job that it stands in.
 fn tell(way: Way, job: &[u8], cells: &mut [u32], words: &mut [u64], picks: &mut [u32]) -> Told
     ensures { ToldBy way job.now (lent_of cells.old words.old picks.old)
-        result.kind result.labels result.answer (lent_of cells.new words.new picks.new) }
+        result.kind result.labels (said result.answer) (lent_of cells.new words.new picks.new) }
 {
-    let request = requests::read_job(job);
-    let Request::Read(parts) = request else {
+    let Ok(request) = requests::read_job(job) else {
         return Told {
             kind: 0,
             labels: 0,
-            answer: Answer::Refused(1),
+            answer: Err(Refusal::Bytes),
         };
     };
-    let none: [u32; 0] = [];
-    let weights = requests::bytes_at(job, parts.weights);
-    let values = requests::bytes_at(job, parts.values);
-    let copies = requests::bytes_at(job, parts.copies);
-    let labels = numbers::list_length(&none, weights);
-    let answer = decide(
-        way,
-        parts.kind,
-        parts.budget,
-        parts.q,
-        &none,
-        weights,
-        &none,
-        values,
-        &none,
-        copies,
-        cells,
-        words,
-        picks,
-    );
     Told {
-        kind: parts.kind,
-        labels,
-        answer,
+        kind: request.kind,
+        labels: request.weights.len(),
+        answer: decide(way, &request, cells, words, picks),
     }
 }
 
 // Job bytes. Any bytes and any slices may be handed in.
 pub fn solve_told(job: &[u8], cells: &mut [u32], words: &mut [u64], picks: &mut [u32]) -> Told
     ensures { ToldBytes job.now (lent_of cells.old words.old picks.old)
-        result.kind result.labels result.answer (lent_of cells.new words.new picks.new) }
+        result.kind result.labels (said result.answer) (lent_of cells.new words.new picks.new) }
 {
     tell(Way::Light, job, cells, words, picks)
 }
 
 // The answer alone.
-pub fn solve_bytes(job: &[u8], cells: &mut [u32], words: &mut [u64], picks: &mut [u32]) -> Answer
-    ensures { SolvedBytes job.now (lent_of cells.old words.old picks.old) result
+pub fn solve_bytes(
+    job: &[u8],
+    cells: &mut [u32],
+    words: &mut [u64],
+    picks: &mut [u32],
+) -> Result<Answer, Refusal>
+    ensures { SolvedBytes job.now (lent_of cells.old words.old picks.old) (said result)
         (lent_of cells.new words.new picks.new) }
 {
-    let told = tell(Way::Light, job, cells, words, picks);
-    told.answer
+    tell(Way::Light, job, cells, words, picks).answer
 }
 
 // The answer alone, kind 1 with the full table.
@@ -555,10 +356,9 @@ pub fn solve_full_bytes(
     cells: &mut [u32],
     words: &mut [u64],
     picks: &mut [u32],
-) -> Answer
-    ensures { SolvedFullBytes job.now (lent_of cells.old words.old picks.old) result
+) -> Result<Answer, Refusal>
+    ensures { SolvedFullBytes job.now (lent_of cells.old words.old picks.old) (said result)
         (lent_of cells.new words.new picks.new) }
 {
-    let told = tell(Way::Full, job, cells, words, picks);
-    told.answer
+    tell(Way::Full, job, cells, words, picks).answer
 }

@@ -1,5 +1,4 @@
 -- `requests::numbers_fit` meets its contract: weights, values and copies, list by list.
-use mathlib.Core.List.{[], ◌∷◌}
 use mathlib.Core.Path.{◌≡◌, sym, ◌∙◌}
 use mathlib.Core.Bool.{true}
 use Rattle.meaning.specs.Job.{job_of}

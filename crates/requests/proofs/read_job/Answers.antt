@@ -1,9 +1,7 @@
 -- `requests::read_job` meets its contract: each way out is one of the laws in proofs/Reading.
-use mathlib.Core.Path.{◌≡◌, sym, ap, ◌∙◌}
-use lib.Dec.{lit<}
+use mathlib.Core.Path.{sym}
 use native.Mathlib.Omega.{arith}
 use Rattle.std.proofs.lemmas.Result.{err_from_is_err_and}
-use Rattle.meaning.specs.Job.{budget_count}
 use Rattle.meaning.proofs.Budgets.{some_budget}
 use Rattle.numbers.proofs.Parts.{part_long}
 use Rattle.requests.specs.Reading.{ReadAs}
