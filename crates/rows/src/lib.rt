@@ -39,6 +39,7 @@ pub fn first_alone(words: &mut [u64])
 const NO_WAY: u32 = 4_294_967_295;
 
 // The cells of no labels: 0 in the first, for the empty list, and the mark for no way in the others.
+#[tactic(auto, unfolding(meaning::specs::Cells::no_way))]
 pub fn mark_rest(row: &mut [u32])
     requires { 0 < length row.old }
     ensures { FirstAlone 0 no_way (length row.old) row.new }
@@ -49,6 +50,7 @@ pub fn mark_rest(row: &mut [u32])
 }
 
 // Whether a cell shows the mark.
+#[tactic(auto, unfolding(meaning::specs::Cells::no_way))]
 pub fn is_marked(cell: u32) -> bool
     ensures { result ≡ eqb cell no_way }
 {
@@ -195,6 +197,7 @@ fn raised_from(width: usize, w: u32, most: u32) -> usize
 
 // How many of a label of weight w may be picked, as far as the greatest budget of a row holds them. The division is spared where it
 // decides nothing.
+#[tactic(auto, unfolding(meaning::specs::Bounds::most_budget))]
 fn most_held(limit: u32, width: usize, w: u32) -> u32
     requires { (0 < width) × ((width ≤ most_budget + 1) × (1 ≤ w)) }
     ensures { result ≡ min limit ((width - 1) / w) }
@@ -244,6 +247,7 @@ pub fn least_count(cells: &[u32], from: usize, c: usize, w: u32, v: u32, goal: u
 }
 
 // Whether one of a label of weight w and value v leads on from budget c.
+#[tactic(auto, unfolding(crate::specs::Rows::Capped, crate::specs::Rows::leads_on, meaning::specs::Bounds::most_budget, meaning::specs::Bounds::most_value))]
 pub fn leads(row: &[u32], w: u32, v: u32, c: usize) -> bool
     requires le_w { (1 ≤ w) × ((v ≤ most_value) × ((c < length row.now) × (length row.now ≤ most_budget + 1))) }
     requires capped { Capped (at row.now) (length row.now) }
