@@ -154,7 +154,7 @@ module _ (rule : ℕ → ℕ → ℕ) (s : List ℕ) (w : ℕ) where
       }
 
   -- one stretch after another
-  swept_on : (t u : List ℕ) (lo mid hi : ℕ) → 1 ≤ w → lo ≤ mid → mid ≤ hi → Swept rule s t w lo mid → Swept rule t u w mid hi
+  pub swept_on : (t u : List ℕ) (lo mid hi : ℕ) → 1 ≤ w → lo ≤ mid → mid ≤ hi → Swept rule s t w lo mid → Swept rule t u w mid hi
       → Swept rule s u w lo hi
   swept_on t u lo mid hi pos h₁ h₂ d e = record {
     made = λ k l m. by k mid

@@ -39,7 +39,6 @@ pub fn first_alone(words: &mut [u64])
 const NO_WAY: u32 = 4_294_967_295;
 
 // The cells of no labels: 0 in the first, for the empty list, and the mark for no way in the others.
-#[tactic(auto, unfolding(meaning::specs::Cells::no_way))]
 pub fn mark_rest(row: &mut [u32])
     requires { 0 < length row.old }
     ensures { FirstAlone 0 no_way (length row.old) row.new }
@@ -50,7 +49,6 @@ pub fn mark_rest(row: &mut [u32])
 }
 
 // Whether a cell shows the mark.
-#[tactic(auto, unfolding(meaning::specs::Cells::no_way))]
 pub fn is_marked(cell: u32) -> bool
     ensures { result ≡ eqb cell no_way }
 {
@@ -250,7 +248,6 @@ pub fn least_count(cells: &[u32], from: usize, c: usize, w: u32, v: u32, goal: u
 }
 
 // Whether one of a label of weight w and value v leads on from budget c.
-#[tactic(auto, unfolding(crate::specs::Rows::Capped, crate::specs::Rows::leads_on, meaning::specs::Bounds::most_budget, meaning::specs::Bounds::most_value))]
 pub fn leads(row: &[u32], w: u32, v: u32, c: usize) -> bool
     requires le_w { (1 ≤ w) × ((v ≤ most_value) × ((c < length row.now) × (length row.now ≤ most_budget + 1))) }
     requires capped { Capped (at row.now) (length row.now) }
