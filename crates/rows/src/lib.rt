@@ -107,7 +107,7 @@ fn add_parts(row: &mut [u32], w: u32, v: u32, most: u32)
     ensures { Repeated row.old row.new w v (length row.old) most }
 {
     let mut m = u32::min(1, most);
-    // a step is as long as what is held allows, so this is no range
+    // each step is as long as what the row holds allows, so this is no range
     while m < most {
         let part = u32::min(m + 1, most - m);
         add_one(row, w * part % BUDGETS, v * part);
@@ -165,7 +165,7 @@ fn bundle(row: &mut [u32], w: u32, v: u32) -> u32
     ensures { Bundled row.old row.new w v (length row.old) result }
 {
     let mut m: u32 = 1;
-    // each bundle is twice the one before, so this is no range
+    // m doubles, so this is no range
     while w * m < HEAVY {
         add_one(row, w * m % HEAVY, v * m);
         m *= 2;
