@@ -107,6 +107,7 @@ fn add_parts(row: &mut [u32], w: u32, v: u32, most: u32)
     ensures { Repeated row.old row.new w v (length row.old) most }
 {
     let mut m = u32::min(1, most);
+    // each step is as long as what the row holds allows, so this is no range
     while m < most {
         let part = u32::min(m + 1, most - m);
         add_one(row, w * part % BUDGETS, v * part);
@@ -164,6 +165,7 @@ fn bundle(row: &mut [u32], w: u32, v: u32) -> u32
     ensures { Bundled row.old row.new w v (length row.old) result }
 {
     let mut m: u32 = 1;
+    // m doubles, so this is no range
     while w * m < HEAVY {
         add_one(row, w * m % HEAVY, v * m);
         m *= 2;
@@ -195,6 +197,7 @@ fn raised_from(width: usize, w: u32, most: u32) -> usize
 
 // How many of a label of weight w may be picked, as far as the greatest budget of a row holds them. The division is spared where it
 // decides nothing.
+#[tactic(auto, unfolding(meaning::specs::Bounds::most_budget))]
 fn most_held(limit: u32, width: usize, w: u32) -> u32
     requires { (0 < width) × ((width ≤ most_budget + 1) × (1 ≤ w)) }
     ensures { result ≡ min limit ((width - 1) / w) }
@@ -235,6 +238,7 @@ pub fn least_count(cells: &[u32], from: usize, c: usize, w: u32, v: u32, goal: u
     let mut x: u32 = 0;
     let mut left = c;
     let mut rest = goal;
+    // the row itself says when to stop, so this is no range
     while cells[from + left] != rest {
         left -= w as usize;
         rest -= v;

@@ -1,11 +1,11 @@
 -- `rows::add_any_number` meets its contract: fewer than m of the label, and any number of bundles of m, are any number of it (`greatest_bundles`).
-use Prim.Native.Nat.{◌+◌, ◌*◌, ◌≤◌}
+use Prim.Native.Nat.{◌*◌, ◌≤◌}
 use native.Mathlib.Nat.{one-mul, mul-le-mul_right}
 use native.Mathlib.Omega.{arith}
 use lib.ListN.{length}
 use Rattle.meaning.specs.Lists.{at}
 use Rattle.meaning.specs.Bounds.{most_value}
-use Rattle.rows.proofs.Counts.{greatest_any, greatest_bundles, part_fits}
+use Rattle.rows.proofs.Counts.{greatest_any, greatest_bundles}
 use Rattle.rows.proofs.add_any_number.Goals as goal
 
 pub overflow_mul-v : goal.overflow_mul-v
@@ -13,16 +13,6 @@ unfolding most_value
 overflow_mul-v c =
     let b = c.bundle-m in
     omega (arith, mul-le-mul_right b.result c.requires.le_w.1.0, b.ensures.few)
-
-pub climb-requires : goal.climb-requires
-climb-requires c =
-    let heavy : 1 ≤ c.args.w * c.bundle-m.result = let m = c.bundle-m.result in
-    omega (arith, mul-le-mul_right m c.requires.le_w.0, one-mul m, c.bundle-m.ensures.some_of) in
-    let b = c.bundle-m in
-    let w = c.args.w in
-    let m = b.result in
-    let part = part_fits w c.args.v m m (w * m + 1) c.requires.le_w.0 c.requires.le_w.1.0 (omega arith) (omega arith) in
-    rw b.auto.row record { le_w = (heavy, (part.cheap, c.requires.le_w.1.1)); capped = b.ensures.capped }
 
 pub returns : goal.returns
 returns c =

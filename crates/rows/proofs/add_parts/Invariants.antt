@@ -1,5 +1,4 @@
 -- `rows::add_parts` meets its contract: a row with up to m of the label holds up to m and a part of it, once the part is raised (`greatest_part`).
-use mathlib.Core.Path.{◌≡◌}
 use Prim.Native.Nat.{ℕ, ◌-◌, ◌≤◌, min}
 use lib.ListN.{length}
 use Rattle.meaning.specs.Lists.{at}
@@ -7,9 +6,7 @@ use Rattle.rows.specs.Rows.{GreatestRow, Capped}
 use Rattle.rows.proofs.add_parts.Given as goal
 
 abbrev pub invariant-loop-m : goal.invariant-loop-m
-invariant-loop-m l = (min 1 l.most ≤ l.m)
-    × (l.m ≤ l.most)
-    × (length l.row ≡ length l.initial.row)
+invariant-loop-m l = (l.m ≤ l.most)
     × Capped (at l.row) (length l.initial.row)
     × ((f : ℕ → ℕ) → GreatestRow (λ x. x ≤ min 1 l.most) f l.w l.v (length l.initial.row) (at l.initial.row)
     → GreatestRow (λ x. x ≤ l.m) f l.w l.v (length l.initial.row) (at l.row))

@@ -1,4 +1,4 @@
--- `rows::climb` meets its contract: the row is swept stretch by stretch (`sweeping_on`), and stays capped.
+-- `rows::climb` meets its contract: the row is swept stretch by stretch (`swept_on`), and stays capped.
 use lib.ListN.{length}
 use Rattle.meaning.specs.Lists.{at}
 use Rattle.rows.specs.Rows.{raised_by, Swept, Capped}
