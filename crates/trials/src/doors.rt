@@ -19,38 +19,21 @@ pub const PICKS: usize = 4_096;
 
 const BYTES: usize = 65_536;
 
-// The lesser of two numbers.
-pub fn lesser(a: usize, b: usize) -> usize
-    ensures { (result ≤ a) × (result ≤ b) }
-{
-    if a < b { a } else { b }
-}
-
-// A number, widened.
-pub fn wide(x: u32) -> usize {
-    x as usize
-}
-
 // The number at a place.
 pub fn at(numbers: &[u32], place: usize) -> u32 {
-    if place < numbers.len() {
-        return numbers[place];
-    }
-    0
+    numbers.get(place).copied().unwrap_or(0)
 }
 
 // The place after the list whose count stands at a place.
 pub fn after(numbers: &[u32], place: usize) -> usize {
-    std::num::wrapping_add_usize(
-        place,
-        std::num::wrapping_add_usize(wide(at(numbers, place)), 1),
-    )
+    let count = at(numbers, place) as usize;
+    place.wrapping_add(count).wrapping_add(1)
 }
 
 // The list whose count stands at a place.
 pub fn list(numbers: &[u32], place: usize) -> &[u32] {
-    let end = lesser(after(numbers, place), numbers.len());
-    let start = lesser(std::num::wrapping_add_usize(place, 1), end);
+    let end = after(numbers, place).min(numbers.len());
+    let start = place.wrapping_add(1).min(end);
     &numbers[start..end]
 }
 
@@ -75,10 +58,8 @@ pub fn lent(numbers: &[u32], which: usize, most: usize) -> usize
     if at(numbers, place) == 0 {
         return most;
     }
-    lesser(
-        wide(at(numbers, std::num::wrapping_add_usize(place, which))),
-        most,
-    )
+    let count = at(numbers, place.wrapping_add(which)) as usize;
+    count.min(most)
 }
 
 // Shows an answer with the picks of its labels.
@@ -89,8 +70,9 @@ fn show(
     picks: [u32; PICKS],
     whole: bool,
 ) -> io::Result<()> {
-    let n = lesser(wide(at(numbers, weights_place(numbers))), PICKS);
-    lines::show(rt, at(numbers, 1), answer, &picks[0..n], whole)
+    let labels = at(numbers, weights_place(numbers)) as usize;
+    let n = labels.min(PICKS);
+    lines::show(rt, at(numbers, 1), answer, &picks[..n], whole)
 }
 
 // The planner's answer to job bytes.
@@ -170,9 +152,9 @@ fn solve_and_show(
         numbers,
         job,
         as_bytes,
-        &mut cells[0..c],
-        &mut words[0..w],
-        &mut picks[0..p],
+        &mut cells[..c],
+        &mut words[..w],
+        &mut picks[..p],
     );
     show(rt, numbers, answer, picks, whole)
 }
@@ -181,22 +163,19 @@ fn solve_and_show(
 fn put_bytes(numbers: &[u32], bytes: &mut [u8]) -> usize
     ensures { result ≤ length bytes.old }
 {
-    let mut place = 0;
-    while place < bytes.len() && place / 4 < numbers.len() {
-        let shift = (place % 4 * 8) as u32;
-        bytes[place] = ((numbers[place / 4] >> shift) % 256) as u8;
-        place += 1;
+    for (four, number) in bytes.chunks_exact_mut(4).zip(numbers) {
+        four.copy_from_slice(&number.to_le_bytes());
     }
-    place
+    numbers.len().min(bytes.len() / 4) * 4
 }
 
 // Its answer to the job as bytes, after how many they are.
 fn by_bytes(rt: &impl Print, way: Way, numbers: &[u32], whole: bool) -> io::Result<()> {
-    let end = lesser(end_of_job(numbers), numbers.len());
+    let end = end_of_job(numbers).min(numbers.len());
     let mut bytes = [0u8; BYTES];
-    let size = put_bytes(&numbers[0..end], &mut bytes);
+    let size = put_bytes(&numbers[..end], &mut bytes);
     lines::size(rt, size)?;
-    solve_and_show(rt, way, numbers, &bytes[0..size], true, whole)
+    solve_and_show(rt, way, numbers, &bytes[..size], true, whole)
 }
 
 // Its answer by one of the doors.

@@ -1,7 +1,6 @@
 // What is printed: an answer as its lines, or within a line.
 ghost use Rattle.std.specs.Prelude.{◌≤◌, length};
 
-use crate::reading::find;
 use meaning::Answer;
 use std::io;
 
@@ -17,11 +16,11 @@ pub fn size(rt: &impl Print, count: usize) -> io::Result<()> {
     text(rt, b" bytes")
 }
 
-// A line of an answer within another line, by its first byte: its kind and its picks are left out.
-fn within(rt: &impl Print, first: u8, line: &[u8]) -> io::Result<()> {
-    match first {
-        b'k' | b'p' => Ok(()),
-        _ => {
+// A line of an answer within another line: its kind and its picks are left out, and the rest of the text after the last line, which is empty.
+fn within(rt: &impl Print, line: &[u8]) -> io::Result<()> {
+    match line.first() {
+        None | Some(b'k' | b'p') => Ok(()),
+        Some(_) => {
             text(rt, b" ")?;
             text(rt, line)
         }
@@ -30,11 +29,8 @@ fn within(rt: &impl Print, first: u8, line: &[u8]) -> io::Result<()> {
 
 // The lines of an answer within a line.
 fn all_within(rt: &impl Print, lines: &[u8]) -> io::Result<()> {
-    let mut place = 0;
-    while place < lines.len() {
-        let end = find(lines, place, b'\n');
-        within(rt, lines[place], &lines[place..end])?;
-        place = end + 1;
+    for line in lines.split(|byte| *byte == b'\n') {
+        within(rt, line)?;
     }
     Ok(())
 }

@@ -73,22 +73,18 @@ fn both(rt: &impl Print, way: Way, line: &[u8]) -> io::Result<()> {
 
 // One line of the list.
 fn run_line(rt: &impl Print, line: &[u8]) -> io::Result<()> {
-    let mark = if 0 < line.len() { line[0] } else { 0 };
-    match mark {
-        b'-' | b'>' => both(rt, Way::Light, line),
-        b'=' => both(rt, Way::Full, line),
-        b'~' => trial(rt, Way::Light, line, false),
+    match line.first() {
+        Some(b'-' | b'>') => both(rt, Way::Light, line),
+        Some(b'=') => both(rt, Way::Full, line),
+        Some(b'~') => trial(rt, Way::Light, line, false),
         _ => Ok(()),
     }
 }
 
 // All lines of a text.
 fn run_lines(rt: &impl Print, text: &[u8]) -> io::Result<()> {
-    let mut place = 0;
-    while place < text.len() {
-        let end = find(text, place, b'\n');
-        run_line(rt, &text[place..end])?;
-        place = end + 1;
+    for line in text.split(|byte| *byte == b'\n') {
+        run_line(rt, line)?;
     }
     Ok(())
 }

@@ -27,11 +27,8 @@ fn worthier(rt: &impl Print, which: u64, value: u64) -> io::Result<()> {
 
 // The picks, within their line.
 fn all_picks(rt: &impl Print, picks: &[u32]) -> io::Result<()> {
-    let mut label = 0;
-    while label < picks.len() {
-        let count = doors::wide(picks[label]);
-        number(rt, count as u64)?;
-        label += 1;
+    for count in picks {
+        number(rt, u64::from(*count))?;
     }
     Ok(())
 }
@@ -78,11 +75,11 @@ fn show_told(rt: &impl Print, numbers: &[u32]) -> io::Result<()> {
         budget(numbers),
         weights(numbers),
         values(numbers),
-        &mut first[0..f],
-        &mut second[0..s],
+        &mut first[..f],
+        &mut second[..s],
     );
     match told {
-        Quick::Refused(refused) => line(rt, b"refused", refused as u64),
+        Quick::Refused(refused) => line(rt, b"refused", u64::from(refused)),
         Quick::First(value) => worthier(rt, 1, value),
         Quick::Second(value) => worthier(rt, 2, value),
     }
@@ -98,8 +95,8 @@ fn show_picks(rt: &impl Print, numbers: &[u32]) -> io::Result<()> {
         budget(numbers),
         weights(numbers),
         values(numbers),
-        &mut first[0..f],
-        &mut second[0..s],
+        &mut first[..f],
+        &mut second[..s],
     );
     picks_line(rt, picks)
 }
@@ -114,7 +111,7 @@ pub fn answer(rt: &impl Print, numbers: &[u32]) -> io::Result<()> {
         places(numbers, 2),
     );
     if refused != 0 {
-        return line(rt, b"refused", refused as u64);
+        return line(rt, b"refused", u64::from(refused));
     }
     show_told(rt, numbers)?;
     show_picks(rt, numbers)
