@@ -11,8 +11,7 @@ use Rattle.meaning.specs.Lists.{if}
 use Rattle.meaning.specs.Job.{Job, Knapsack}
 use Rattle.meaning.specs.Certificates.{certificate_cells, first, low_cell, some_of, too_low}
 use Rattle.meaning.proofs.Searches.{first_none, first_passes, first_start, none_first, none_passes, passing}
-use Rattle.verdicts.specs.declared.Found.{Found}
-use Rattle.verdicts.specs.declared.Found.TheVariants.{At, Nowhere}
+use Rattle.std.specs.Prelude.{Option, Some, None}
 use Rattle.verdicts.specs.Searching.{place_of}
 
 -- where a run is searched from, by what was told of it
@@ -37,15 +36,15 @@ module _ (k : Knapsack) (j : Job) (cells : List ℕ) where
   low_between from end = some_of (λ (m : ℕ). too_low k j cells (from + m)) (end - from)
 
   -- nothing was found yet, and rule 14 is kept at every cell below m
-  pub record KeptBelow (found : Found) (m : ℕ) : Type 0 where
-    pub nowhere : found ≡ Nowhere
+  pub record KeptBelow (found : Option ℕ) (m : ℕ) : Type 0 where
+    pub nowhere : found ≡ None
     pub kept : first (too_low k j cells) m ≡ none
 
-  pub kept_start : KeptBelow Nowhere 0
+  pub kept_start : KeptBelow None 0
   kept_start = record { nowhere = refl; kept = first_start (too_low k j cells) }
 
   -- some more that keep it
-  kept_on : {found : Found} (from m end : ℕ) → from ≤ m → KeptBelow found m → low_between from end ≡ false → KeptBelow found end
+  kept_on : {found : Option ℕ} (from m end : ℕ) → from ≤ m → KeptBelow found m → low_between from end ≡ false → KeptBelow found end
   kept_on from m end h b none_low = record {
     nowhere = b.nowhere;
     kept = none_first (too_low k j cells) end
@@ -58,12 +57,12 @@ module _ (k : Knapsack) (j : Job) (cells : List ℕ) where
   }
 
   -- of the cells from `from` on and below `last`: they keep the rule; or some below `end` doesn't, and all below `kept` do
-  pub data Narrowed (found : Found) (from last kept end : ℕ) : Type 0 where
+  pub data Narrowed (found : Option ℕ) (from last kept end : ℕ) : Type 0 where
     all_kept : kept ≡ last → end ≤ last → KeptBelow found last → Narrowed found from last kept end
     one_low : from ≤ kept → kept < end → end ≤ last → low_between from end ≡ true → KeptBelow found kept → Narrowed found from last kept end
 
   -- a run is searched from its start, or not at all
-  pub narrow_start : {found : Found} (from last start : ℕ) → from < last → start ≡ if (low_between from last) from last → KeptBelow found from
+  pub narrow_start : {found : Option ℕ} (from last start : ℕ) → from < last → start ≡ if (low_between from last) from last → KeptBelow found from
       → Narrowed found from last start last
   unfolding if
   narrow_start {found} from last start filled start_is b = by (low_between from last) refl start_is
@@ -72,7 +71,7 @@ module _ (k : Knapsack) (j : Job) (cells : List ℕ) where
       by true e s = one_low (omega arith) (omega arith) (omega arith) e (subst (λ (m : ℕ). KeptBelow found m) (sym s) b)
       by false e s = all_kept s (omega arith) (kept_on from from last (omega arith) b e)
 
-  module _ {found : Found} {from last kept end : ℕ} where
+  module _ {found : Option ℕ} {from last kept end : ℕ} where
     -- no more than `last` is asked about
     pub narrow_within : Narrowed found from last kept end → end ≤ last
     narrow_within (all_kept e h b) = h
@@ -95,7 +94,7 @@ module _ (k : Knapsack) (j : Job) (cells : List ℕ) where
       half_kept middle above below none_low (one_low f l h one b) = one_low (omega arith) below h one (kept_on from kept middle f b none_low)
 
       -- one is left
-      pub found_low : end - kept ≡ 1 → last ≤ certificate_cells k j → Narrowed found from last kept end → place_of (At kept) ≡ low_cell k j cells
+      pub found_low : end - kept ≡ 1 → last ≤ certificate_cells k j → Narrowed found from last kept end → place_of (Some kept) ≡ low_cell k j cells
       unfolding place_of low_cell
       found_low one_left inside (all_kept e h b) = absurd (omega arith)
       found_low one_left inside (one_low f l h one b) =
@@ -116,7 +115,7 @@ module _ (k : Knapsack) (j : Job) (cells : List ℕ) where
     run_passed past (one_low f l h one b) = absurd (omega arith)
 
   -- no cell is left
-  pub none_found : {found : Found} (from : ℕ) → certificate_cells k j ≤ from → KeptBelow found from → place_of found ≡ low_cell k j cells
+  pub none_found : {found : Option ℕ} (from : ℕ) → certificate_cells k j ≤ from → KeptBelow found from → place_of found ≡ low_cell k j cells
   unfolding place_of low_cell
   none_found from past b =
       ap place_of b.nowhere

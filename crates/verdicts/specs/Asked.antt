@@ -2,13 +2,15 @@
 -- Assumes nothing.
 use Rattle.std.specs.Prelude.{◌≡◌, ℕ, ◌+◌, ◌*◌, ◌≤◌, ◌<◌, List, [], ◌∷◌, eqb, length}
 use Rattle.meaning.specs.Lists.{at, if}
-use Rattle.meaning.specs.Job.{job_of, Job, Knapsack, once, limited, free}
+use Rattle.meaning.specs.Job.{Job, Knapsack, once, limited, free}
+use Rattle.numbers.specs.declared.Job.{Job as Came}
+use Rattle.numbers.specs.Lists.{job_as}
 use Rattle.meaning.specs.Bounds.{most_labels}
 use Rattle.meaning.specs.Certificates.{HasCertificates, certificate_cells}
 
--- the job of this kind and budget whose lists stand in these bytes
-abbrev pub bytes_job : ℕ → ℕ → List ℕ → List ℕ → List ℕ → Job
-bytes_job kind budget weights values copies = job_of kind (budget ∷ []) [] weights [] values [] copies
+-- the job that came, as one of kinds 1 to 3, which have no q
+abbrev pub certified : Came → Job
+certified j = job_as j.kind j
 
 -- the knapsack that a kind number is taken for, once it is known to be 1, 2 or 3
 unfoldable pub knapsack_in : ℕ → Knapsack

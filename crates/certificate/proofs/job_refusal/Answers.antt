@@ -1,39 +1,28 @@
 -- `certificate::job_refusal` meets its contract: 2 for another kind, and kinds 1 to 3 by their rules.
-use mathlib.Core.List.{[], ◌∷◌}
 use mathlib.Core.Path.{◌≡◌, sym, ap, ◌∙◌}
 use mathlib.Core.Bool.{false}
-use Rattle.meaning.specs.Job.{Job, job_of}
+use native.Mathlib.Omega.{arith}
+use Rattle.meaning.specs.Job.{job_of}
 use Rattle.meaning.specs.Refusals as meaning
 use Rattle.meaning.specs.Refusals.{job_refusal}
 use Rattle.meaning.proofs.Certified.{certified_kind}
-use Rattle.rules.specs.Ruling.{rules_from}
-use Rattle.certificate.specs.Refusing.{certified_refusal}
+use Rattle.verdicts.specs.Asked.{certified}
 use Rattle.certificate.proofs.Refusing.{certified_number, kind_0, kind_4, by_rules}
 use Rattle.certificate.proofs.job_refusal.Goals as goal
 
-pub returns-then-kind-lt1 : goal.returns-then-kind-lt1
+pub returns-in-1-to-3 : goal.returns-in-1-to-3
 unfolding job_of
-returns-then-kind-lt1 c =
-    let job : Job = let a = c.args in
-    job_of a.kind (a.budget ∷ []) a.weights.now a.values.now a.copies.now in
-    sym (kind_0 job c.if-kind-lt1.true)
+returns-in-1-to-3 c =
+    let job = certified c.args.job.now in
+    let (k, of_knapsack) = certified_number c.args.job.now.kind (omega arith) (omega arith) in
+    c.job_refusal.ensures c.args.job.now.kind false
+    ∙ ap (λ (r : meaning.Rules). job_refusal r job 0) (c.knapsack_rules.ensures k (certified_kind c.args.job.now.kind k of_knapsack))
+    ∙ sym (by_rules job k of_knapsack)
 
-pub returns-then-kind-gt3 : goal.returns-then-kind-gt3
+pub returns-in_default : goal.returns-in_default
 unfolding job_of
-returns-then-kind-gt3 c =
-    let job : Job = let a = c.args in
-    job_of a.kind (a.budget ∷ []) a.weights.now a.values.now a.copies.now in
-    sym (kind_4 job c.if-kind-gt3.true)
+returns-in_default c = sym (kind_0 (certified c.args.job.now) (omega arith))
 
-pub knapsack_rules-rules-requires : goal.knapsack_rules-rules-requires
-knapsack_rules-rules-requires c = (c.if-kind-lt1.false, c.if-kind-gt3.false)
-
-pub returns : goal.returns
+pub returns-in_default-2 : goal.returns-in_default-2
 unfolding job_of
-returns c =
-    let job : Job = let a = c.args in
-    job_of a.kind (a.budget ∷ []) a.weights.now a.values.now a.copies.now in
-    let by_its_rules : job_refusal (rules_from c.knapsack_rules-rules.result false) job 0 ≡ certified_refusal job = let (k, of_knapsack) = certified_number c.args.kind c.if-kind-lt1.false c.if-kind-gt3.false in
-    ap (λ (r : meaning.Rules). job_refusal r job 0) (c.knapsack_rules-rules.ensures k (certified_kind c.args.kind k of_knapsack))
-    ∙ sym (by_rules job k of_knapsack) in
-    c.job_refusal.ensures c.args.kind false ∙ by_its_rules
+returns-in_default-2 c = sym (kind_4 (certified c.args.job.now) (omega arith))

@@ -1,188 +1,60 @@
--- `certificate::judge` meets its contract: each section is read with the count that it needs, and the picks and cells found are judged.
-use mathlib.Core.Path.{◌≡◌, ◌∙◌}
-use mathlib.Core.List.{List}
-use Prim.Native.Nat.{ℕ, ◌≤◌, ◌/◌}
+-- `certificate::judge` meets its contract: where a section breaks or bytes are left over it is 11, and else the cells are judged.
+use mathlib.Core.Path.{sym, ap, ◌∙◌}
 use native.Mathlib.Omega.{arith}
 use lib.ListN.{length}
-use Rattle.meaning.specs.declared.Needed.TheVariants.{Exactly}
-use Rattle.meaning.specs.Job.{Job, Knapsack, job_of, labels}
-use Rattle.meaning.specs.Bytes.{between, numbers_in, read_section}
-use Rattle.meaning.specs.Certificates.{certificate_cells, verdict_on_cells, verdict_on_certificate}
-use Rattle.meaning.proofs.Numbers.{numbers_long}
-use Rattle.requests.proofs.Reading.{SectionNumbers, Whole}
-use Rattle.verdicts.specs.Asked.{bytes_job, knapsack_in}
-use Rattle.certificate.proofs.Counting.{few_labels, room_asked, cells_needed, few_cells}
-use Rattle.certificate.proofs.Reading.{Held, held, asked_as, picks_broken, cells_broken, left_over, all_read}
+use Rattle.meaning.specs.Job.{job_of, labels}
+use Rattle.numbers.proofs.Parts.{part_long}
+use Rattle.certificate.proofs.Counting.{room_asked, few_labels, cells_needed, few_cells}
+use Rattle.certificate.proofs.Reading.{asked_as, picks_broken, cells_broken, left_over, all_read}
 use Rattle.certificate.proofs.judge.Goals as goal
 
 pub knapsack_room-needed-requires : goal.knapsack_room-needed-requires
 unfolding job_of
 knapsack_room-needed-requires c = let asked = room_asked c.requires in (omega (arith, asked.0), omega (arith, asked.1))
 
-pub overflow_cast-labels : goal.overflow_cast-labels
+pub overflow_cast-n : goal.overflow_cast-n
 unfolding job_of labels
-overflow_cast-labels c =
-    let job : Job = bytes_job c.args.kind c.args.budget c.args.weights.now c.args.values.now c.args.copies.now in
-    let labels_are : labels job ≡ length c.args.weights.now / 4 = numbers_long c.args.weights.now in
-    omega (arith, few_labels c.requires _ labels_are)
+overflow_cast-n c = omega (arith, few_labels c.requires _ (sym c.len-n.ensures))
 
 pub returns-in_default : goal.returns-in_default
 unfolding job_of labels
 returns-in_default c =
-    let job : Job = bytes_job c.args.kind c.args.budget c.args.weights.now c.args.values.now c.args.copies.now in
-    let labels_are : labels job ≡ length c.args.weights.now / 4 = numbers_long c.args.weights.now in
-    let picks_asked : read_section (Exactly (labels job)) c.args.certificate.now 0 ≡ c.read_section-first.result =
-    asked_as _ _ _ _ labels_are c.read_section-first.ensures in
-    c.refused_with.ensures ∙ picks_broken _ _ _ c.in_default.field-0 (picks_asked ∙ c.in_default.is)
+    rw (c.placeless.ensures.0, c.placeless.ensures.1) (picks_broken _ _ _ (asked_as _ _ _ _ (sym c.len-n.ensures) c.in_default.ensures))
 
 pub overflow_cast-many : goal.overflow_cast-many
 unfolding job_of labels
-overflow_cast-many c =
-    let job : Job = bytes_job c.args.kind c.args.budget c.args.weights.now c.args.values.now c.args.copies.now in
-    let labels_are : labels job ≡ length c.args.weights.now / 4 = numbers_long c.args.weights.now in
-    omega (arith, few_cells c.requires _ labels_are _ c.knapsack_room-needed.ensures)
+overflow_cast-many c = omega (arith, few_cells c.requires _ (sym c.len-n.ensures) c.knapsack_room-needed.result c.knapsack_room-needed.ensures)
 
-pub returns-in_default-second : goal.returns-in_default-second
+pub returns-in_default-section : goal.returns-in_default-section
 unfolding job_of labels
-returns-in_default-second c =
-    let job : Job = bytes_job c.args.kind c.args.budget c.args.weights.now c.args.values.now c.args.copies.now in
-    let knapsack : Knapsack = knapsack_in c.args.kind in
-    let labels_are : labels job ≡ length c.args.weights.now / 4 = numbers_long c.args.weights.now in
-    let cells_are : certificate_cells knapsack job ≡ c.knapsack_room-needed.result.cells =
-    cells_needed c.requires _ labels_are c.knapsack_room-needed.result c.knapsack_room-needed.ensures in
-    let cells_asked : read_section (Exactly (certificate_cells knapsack job)) c.args.certificate.now c.in-Part.picks_end
-    ≡ c.read_section-second.result =
-    asked_as _ _ _ _ cells_are c.read_section-second.ensures in
-    let picks_asked : read_section (Exactly (labels job)) c.args.certificate.now 0 ≡ c.read_section-first.result =
-    asked_as _ _ _ _ labels_are c.read_section-first.ensures in
-    let picks_read : Whole (Exactly (labels job)) c.args.certificate.now 0 (c.in-Part.picks, (c.in-Part.field-1, (c.in-Part.picks_end, tt))) = picks_asked ∙ c.in-Part.is in
-    c.refused_with-in_default-second.ensures ∙ cells_broken _ _ _ _ _ _ picks_read c.in_default-second.field-0 (cells_asked ∙ c.in_default-second.is)
+returns-in_default-section c =
+    rw (c.placeless-in_default-section.ensures.0, c.placeless-in_default-section.ensures.1)
+    (cells_broken _ _ _ (asked_as _ _ _ _ (sym c.len-n.ensures) c.in-Ok.ensures)
+    (asked_as _ _ _ _ (cells_needed c.requires _ (sym c.len-n.ensures) c.knapsack_room-needed.result c.knapsack_room-needed.ensures) c.in_default-section.ensures))
 
 pub returns-then-cells_end-certificate : goal.returns-then-cells_end-certificate
 unfolding job_of labels
 returns-then-cells_end-certificate c =
-    let job : Job = bytes_job c.args.kind c.args.budget c.args.weights.now c.args.values.now c.args.copies.now in
-    let knapsack : Knapsack = knapsack_in c.args.kind in
-    let labels_are : labels job ≡ length c.args.weights.now / 4 = numbers_long c.args.weights.now in
-    let cells_are : certificate_cells knapsack job ≡ c.knapsack_room-needed.result.cells =
-    cells_needed c.requires _ labels_are c.knapsack_room-needed.result c.knapsack_room-needed.ensures in
-    let cells_asked : read_section (Exactly (certificate_cells knapsack job)) c.args.certificate.now c.in-Part.picks_end
-    ≡ c.read_section-second.result =
-    asked_as _ _ _ _ cells_are c.read_section-second.ensures in
-    let cells_read : Whole (Exactly (certificate_cells knapsack job)) c.args.certificate.now c.in-Part.picks_end (c.in-Part-second.cells, (c.in-Part-second.field-1, (c.in-Part-second.cells_end, tt))) = cells_asked ∙ c.in-Part-second.is in
-    let picks_asked : read_section (Exactly (labels job)) c.args.certificate.now 0 ≡ c.read_section-first.result =
-    asked_as _ _ _ _ labels_are c.read_section-first.ensures in
-    let picks_read : Whole (Exactly (labels job)) c.args.certificate.now 0 (c.in-Part.picks, (c.in-Part.field-1, (c.in-Part.picks_end, tt))) = picks_asked ∙ c.in-Part.is in
-    c.refused_with-then-cells_end-certificate.ensures ∙ left_over _ _ _ _ _ _ picks_read _ _ _ cells_read c.if-cells_end-certificate.true
+    rw (c.placeless-then-cells_end-certificate.ensures.0, c.placeless-then-cells_end-certificate.ensures.1)
+    (left_over _ _ _ (asked_as _ _ _ _ (sym c.len-n.ensures) c.in-Ok.ensures)
+    (asked_as _ _ _ _ (cells_needed c.requires _ (sym c.len-n.ensures) c.knapsack_room-needed.result c.knapsack_room-needed.ensures) c.in-Ok-section.ensures)
+    c.if-cells_end-certificate.true)
 
-pub slice_bounds-judge_cells-count : goal.slice_bounds-judge_cells-count
+pub judge_cells-requires-clause-cells_read : goal.judge_cells-requires-clause-cells_read
 unfolding job_of labels
-slice_bounds-judge_cells-count c =
-    let job : Job = bytes_job c.args.kind c.args.budget c.args.weights.now c.args.values.now c.args.copies.now in
-    let labels_are : labels job ≡ length c.args.weights.now / 4 = numbers_long c.args.weights.now in
-    let picks_asked : read_section (Exactly (labels job)) c.args.certificate.now 0 ≡ c.read_section-first.result =
-    asked_as _ _ _ _ labels_are c.read_section-first.ensures in
-    let picks_read : Whole (Exactly (labels job)) c.args.certificate.now 0 (c.in-Part.picks, (c.in-Part.field-1, (c.in-Part.picks_end, tt))) = picks_asked ∙ c.in-Part.is in
-    (held _ _ _ _ _ _ picks_read).part_within.ordered
+judge_cells-requires-clause-cells_read c = record {
+  has_certificates = c.requires;
+  long = part_long _ _ (sym c.in-Ok-section.ensures) ∙ sym (cells_needed c.requires _ (sym c.len-n.ensures) c.knapsack_room-needed.result c.knapsack_room-needed.ensures);
+}
 
-pub slice_bounds-judge_cells-start : goal.slice_bounds-judge_cells-start
-unfolding job_of labels
-slice_bounds-judge_cells-start c =
-    let job : Job = bytes_job c.args.kind c.args.budget c.args.weights.now c.args.values.now c.args.copies.now in
-    let labels_are : labels job ≡ length c.args.weights.now / 4 = numbers_long c.args.weights.now in
-    let picks_asked : read_section (Exactly (labels job)) c.args.certificate.now 0 ≡ c.read_section-first.result =
-    asked_as _ _ _ _ labels_are c.read_section-first.ensures in
-    let picks_read : Whole (Exactly (labels job)) c.args.certificate.now 0 (c.in-Part.picks, (c.in-Part.field-1, (c.in-Part.picks_end, tt))) = picks_asked ∙ c.in-Part.is in
-    (held _ _ _ _ _ _ picks_read).part_within.ordered
-
-pub slice_bounds-judge_cells-end : goal.slice_bounds-judge_cells-end
-unfolding job_of labels
-slice_bounds-judge_cells-end c =
-    let job : Job = bytes_job c.args.kind c.args.budget c.args.weights.now c.args.values.now c.args.copies.now in
-    let labels_are : labels job ≡ length c.args.weights.now / 4 = numbers_long c.args.weights.now in
-    let picks_asked : read_section (Exactly (labels job)) c.args.certificate.now 0 ≡ c.read_section-first.result =
-    asked_as _ _ _ _ labels_are c.read_section-first.ensures in
-    let picks_read : Whole (Exactly (labels job)) c.args.certificate.now 0 (c.in-Part.picks, (c.in-Part.field-1, (c.in-Part.picks_end, tt))) = picks_asked ∙ c.in-Part.is in
-    (held _ _ _ _ _ _ picks_read).part_within.inside
-
-pub slice_bounds-judge_cells-count-2 : goal.slice_bounds-judge_cells-count-2
-unfolding job_of labels
-slice_bounds-judge_cells-count-2 c =
-    let job : Job = bytes_job c.args.kind c.args.budget c.args.weights.now c.args.values.now c.args.copies.now in
-    let knapsack : Knapsack = knapsack_in c.args.kind in
-    let labels_are : labels job ≡ length c.args.weights.now / 4 = numbers_long c.args.weights.now in
-    let cells_are : certificate_cells knapsack job ≡ c.knapsack_room-needed.result.cells =
-    cells_needed c.requires _ labels_are c.knapsack_room-needed.result c.knapsack_room-needed.ensures in
-    let cells_asked : read_section (Exactly (certificate_cells knapsack job)) c.args.certificate.now c.in-Part.picks_end
-    ≡ c.read_section-second.result =
-    asked_as _ _ _ _ cells_are c.read_section-second.ensures in
-    let cells_read : Whole (Exactly (certificate_cells knapsack job)) c.args.certificate.now c.in-Part.picks_end (c.in-Part-second.cells, (c.in-Part-second.field-1, (c.in-Part-second.cells_end, tt))) = cells_asked ∙ c.in-Part-second.is in
-    (held _ _ _ _ _ _ cells_read).part_within.ordered
-
-pub slice_bounds-judge_cells-start-2 : goal.slice_bounds-judge_cells-start-2
-unfolding job_of labels
-slice_bounds-judge_cells-start-2 c =
-    let job : Job = bytes_job c.args.kind c.args.budget c.args.weights.now c.args.values.now c.args.copies.now in
-    let knapsack : Knapsack = knapsack_in c.args.kind in
-    let labels_are : labels job ≡ length c.args.weights.now / 4 = numbers_long c.args.weights.now in
-    let cells_are : certificate_cells knapsack job ≡ c.knapsack_room-needed.result.cells =
-    cells_needed c.requires _ labels_are c.knapsack_room-needed.result c.knapsack_room-needed.ensures in
-    let cells_asked : read_section (Exactly (certificate_cells knapsack job)) c.args.certificate.now c.in-Part.picks_end
-    ≡ c.read_section-second.result =
-    asked_as _ _ _ _ cells_are c.read_section-second.ensures in
-    let cells_read : Whole (Exactly (certificate_cells knapsack job)) c.args.certificate.now c.in-Part.picks_end (c.in-Part-second.cells, (c.in-Part-second.field-1, (c.in-Part-second.cells_end, tt))) = cells_asked ∙ c.in-Part-second.is in
-    (held _ _ _ _ _ _ cells_read).part_within.ordered
-
-pub slice_bounds-judge_cells-end-2 : goal.slice_bounds-judge_cells-end-2
-unfolding job_of labels
-slice_bounds-judge_cells-end-2 c =
-    let job : Job = bytes_job c.args.kind c.args.budget c.args.weights.now c.args.values.now c.args.copies.now in
-    let knapsack : Knapsack = knapsack_in c.args.kind in
-    let labels_are : labels job ≡ length c.args.weights.now / 4 = numbers_long c.args.weights.now in
-    let cells_are : certificate_cells knapsack job ≡ c.knapsack_room-needed.result.cells =
-    cells_needed c.requires _ labels_are c.knapsack_room-needed.result c.knapsack_room-needed.ensures in
-    let cells_asked : read_section (Exactly (certificate_cells knapsack job)) c.args.certificate.now c.in-Part.picks_end
-    ≡ c.read_section-second.result =
-    asked_as _ _ _ _ cells_are c.read_section-second.ensures in
-    let cells_read : Whole (Exactly (certificate_cells knapsack job)) c.args.certificate.now c.in-Part.picks_end (c.in-Part-second.cells, (c.in-Part-second.field-1, (c.in-Part-second.cells_end, tt))) = cells_asked ∙ c.in-Part-second.is in
-    (held _ _ _ _ _ _ cells_read).part_within.inside
-
-pub judge_cells-requires : goal.judge_cells-requires
-unfolding between job_of labels
-judge_cells-requires c =
-    let job : Job = bytes_job c.args.kind c.args.budget c.args.weights.now c.args.values.now c.args.copies.now in
-    let knapsack : Knapsack = knapsack_in c.args.kind in
-    let labels_are : labels job ≡ length c.args.weights.now / 4 = numbers_long c.args.weights.now in
-    let cells_are : certificate_cells knapsack job ≡ c.knapsack_room-needed.result.cells =
-    cells_needed c.requires _ labels_are c.knapsack_room-needed.result c.knapsack_room-needed.ensures in
-    let cells_asked : read_section (Exactly (certificate_cells knapsack job)) c.args.certificate.now c.in-Part.picks_end
-    ≡ c.read_section-second.result =
-    asked_as _ _ _ _ cells_are c.read_section-second.ensures in
-    let cells_read : Whole (Exactly (certificate_cells knapsack job)) c.args.certificate.now c.in-Part.picks_end (c.in-Part-second.cells, (c.in-Part-second.field-1, (c.in-Part-second.cells_end, tt))) = cells_asked ∙ c.in-Part-second.is in
-    let cells_held : Held c.args.certificate.now c.in-Part-second.cells c.in-Part-second.cells_end (certificate_cells knapsack job) = held _ _ _ _ _ _ cells_read in
-    let picks_asked : read_section (Exactly (labels job)) c.args.certificate.now 0 ≡ c.read_section-first.result =
-    asked_as _ _ _ _ labels_are c.read_section-first.ensures in
-    let picks_read : Whole (Exactly (labels job)) c.args.certificate.now 0 (c.in-Part.picks, (c.in-Part.field-1, (c.in-Part.picks_end, tt))) = picks_asked ∙ c.in-Part.is in
-    let picks_held : Held c.args.certificate.now c.in-Part.picks c.in-Part.picks_end (labels job) = held _ _ _ _ _ _ picks_read in
-    record { cells_read = record { has_certificates = c.requires; long = cells_held.long }; picks_len = picks_held.long }
+pub judge_cells-requires-clause-picks_len : goal.judge_cells-requires-clause-picks_len
+judge_cells-requires-clause-picks_len c = omega (arith, ap length c.packed.ensures, part_long _ _ (sym c.in-Ok.ensures), c.len-n.ensures)
 
 pub returns : goal.returns
-unfolding between job_of labels
+unfolding job_of labels
 returns c =
-    let job : Job = bytes_job c.args.kind c.args.budget c.args.weights.now c.args.values.now c.args.copies.now in
-    let knapsack : Knapsack = knapsack_in c.args.kind in
-    let labels_are : labels job ≡ length c.args.weights.now / 4 = numbers_long c.args.weights.now in
-    let cells_are : certificate_cells knapsack job ≡ c.knapsack_room-needed.result.cells =
-    cells_needed c.requires _ labels_are c.knapsack_room-needed.result c.knapsack_room-needed.ensures in
-    let cells_asked : read_section (Exactly (certificate_cells knapsack job)) c.args.certificate.now c.in-Part.picks_end
-    ≡ c.read_section-second.result =
-    asked_as _ _ _ _ cells_are c.read_section-second.ensures in
-    let cells_read : Whole (Exactly (certificate_cells knapsack job)) c.args.certificate.now c.in-Part.picks_end (c.in-Part-second.cells, (c.in-Part-second.field-1, (c.in-Part-second.cells_end, tt))) = cells_asked ∙ c.in-Part-second.is in
-    let numbers : SectionNumbers → List ℕ = λ part. numbers_in (between c.args.certificate.now part.0 part.1.1.0) in
-    let picks_asked : read_section (Exactly (labels job)) c.args.certificate.now 0 ≡ c.read_section-first.result =
-    asked_as _ _ _ _ labels_are c.read_section-first.ensures in
-    let picks_read : Whole (Exactly (labels job)) c.args.certificate.now 0 (c.in-Part.picks, (c.in-Part.field-1, (c.in-Part.picks_end, tt))) = picks_asked ∙ c.in-Part.is in
-    let all_judged : length c.args.certificate.now ≤ c.in-Part-second.cells_end
-    → verdict_on_cells knapsack job (numbers (c.in-Part.picks, (c.in-Part.field-1, (c.in-Part.picks_end, tt)))) (numbers (c.in-Part-second.cells, (c.in-Part-second.field-1, (c.in-Part-second.cells_end, tt))))
-    ≡ verdict_on_certificate knapsack job c.args.certificate.now = λ at-end. all_read _ _ _ _ _ _ picks_read _ _ _ cells_read at-end in
-    c.judge_cells.ensures ∙ all_judged c.if-cells_end-certificate.false
+    c.judge_cells.ensures
+    ∙ rw c.packed.ensures
+    (all_read _ _ _ (asked_as _ _ _ _ (sym c.len-n.ensures) c.in-Ok.ensures)
+    (asked_as _ _ _ _ (cells_needed c.requires _ (sym c.len-n.ensures) c.knapsack_room-needed.result c.knapsack_room-needed.ensures) c.in-Ok-section.ensures)
+    (omega arith))

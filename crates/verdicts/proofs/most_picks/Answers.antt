@@ -1,9 +1,8 @@
 -- `verdicts::most_picks` meets its contract, by the knapsack that the kind is taken for.
 use mathlib.Core.Path.{◌≡◌, sym, ap, ◌∙◌}
 use Prim.Native.Nat.{ℕ}
-use mathlib.Core.List.{List}
-use Rattle.meaning.specs.Lists.{at}
-use Rattle.meaning.specs.Job.{Job, Knapsack}
+use native.Mathlib.Omega.{arith}
+use Rattle.meaning.specs.Job.{Job, Knapsack, job_of}
 use Rattle.meaning.specs.Certificates.{most_picks}
 use Rattle.verdicts.proofs.Taken.{taken_once, taken_limited, taken_free}
 use Rattle.verdicts.proofs.most_picks.Goals as goal
@@ -12,19 +11,17 @@ use Rattle.verdicts.proofs.most_picks.Goals as goal
 abbrev most_by : (j : Job) (i : ℕ) {k s : Knapsack} → k ≡ s → most_picks s j i ≡ most_picks k j i
 most_by j i e = sym (ap (λ (k : Knapsack). most_picks k j i) e)
 
-pub returns-then-kind-eq1 : goal.returns-then-kind-eq1
+pub returns-in-1 : goal.returns-in-1
 unfolding most_picks
-returns-then-kind-eq1 c j e = most_by j c.args.i (taken_once _ c.if-kind-eq1.true)
+returns-in-1 c = most_by _ c.args.i (taken_once _ c.in-1.is)
 
-pub returns-then-kind-eq3 : goal.returns-then-kind-eq3
+pub returns-in-3 : goal.returns-in-3
 unfolding most_picks
-returns-then-kind-eq3 c j e = c.most_of_one.ensures ∙ most_by j _ (taken_free _ c.if-kind-eq3.true)
+returns-in-3 c = c.most_of_one.ensures ∙ most_by _ _ (taken_free _ c.in-3.is)
 
-pub number_in-requires : goal.number_in-requires
-number_in-requires c = c.requires (taken_limited _ c.if-kind-eq1.false c.if-kind-eq3.false)
+pub at-requires : goal.at-requires
+at-requires c = c.requires (taken_limited _ (λ e. absurd (omega arith)) (λ e. absurd (omega arith)))
 
-pub returns : goal.returns
-unfolding most_picks
-returns c j e =
-    let i = c.args.i in
-    c.number_in.ensures ∙ ap (λ (l : List ℕ). at l i) (sym e) ∙ most_by j i (taken_limited _ c.if-kind-eq1.false c.if-kind-eq3.false)
+pub returns-in_default : goal.returns-in_default
+unfolding most_picks job_of
+returns-in_default c = c.at.ensures ∙ most_by _ c.args.i (taken_limited _ (λ e. absurd (omega arith)) (λ e. absurd (omega arith)))

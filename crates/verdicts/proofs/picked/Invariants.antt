@@ -5,7 +5,4 @@ use Rattle.verdicts.proofs.PickedSums.{SumSoFar}
 use Rattle.verdicts.proofs.picked.Given as goal
 
 abbrev pub invariant-loop-i : goal.invariant-loop-i
-invariant-loop-i l = (l.i ≤ l.n) × SumSoFar (numbers_in l.each) (numbers_in l.picks) l.i l.sum
-
-abbrev pub decreases-loop-i : goal.decreases-loop-i
-decreases-loop-i l = l.n - l.i
+invariant-loop-i l = SumSoFar l.each l.picks l.i l.sum

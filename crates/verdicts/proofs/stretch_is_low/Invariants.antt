@@ -5,7 +5,4 @@ use Rattle.verdicts.proofs.LowRows.{LabelsKept}
 use Rattle.verdicts.proofs.stretch_is_low.Given as goal
 
 abbrev pub invariant-loop-i : goal.invariant-loop-i
-invariant-loop-i l = (l.i ≤ l.n) × LabelsKept (numbers_in l.cells) l.from l.end (numbers_in l.weights) (numbers_in l.values) l.i
-
-abbrev pub decreases-loop-i : goal.decreases-loop-i
-decreases-loop-i l = l.n - l.i
+invariant-loop-i l = LabelsKept (numbers_in l.cells) l.from l.end (l.job.weights) (l.job.values) l.i
