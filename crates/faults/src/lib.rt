@@ -5,7 +5,7 @@
 // the border the least claim is carried up, against the cell that is all copies down.
 #![tactic(auto)]
 
-ghost use Rattle.std.specs.Prelude.{◌≡◌, ℕ, ◌+◌, ◌-◌, ◌*◌, ◌<◌, ◌≤◌, min, max, ◌||◌, length, nat_lt};
+ghost use Rattle.std.specs.Prelude.{◌≡◌, ℕ, ◌+◌, ◌-◌, ◌*◌, ◌<◌, ◌≤◌, ◌||◌, length, nat_lt};
 ghost use Rattle.meaning.specs.Lists.{at, if};
 ghost use Rattle.meaning.specs.Bytes.{numbers_in};
 ghost use Rattle.meaning.specs.Certificates.{some_of};
@@ -16,34 +16,6 @@ ghost use Rattle.faults.specs.Columns.{LowWithin, HighWithin, HighAcross, HighCo
 // So many copies are few: a pass for two counts takes as long whatever they are, and blocks take as long whatever the copies are. Where the
 // two meet goes by the weight, at some 14 copies of a light label and 25 of a heavy one, and this is between them (docs/SPEED.md).
 const FEW: usize = 20;
-
-// The greater of two numbers.
-fn greater(a: u64, b: u64) -> u64
-    ensures { result ≡ max a b }
-{
-    if a < b { b } else { a }
-}
-
-// The lesser of two numbers.
-fn lesser(a: u64, b: u64) -> u64
-    ensures { result ≡ min a b }
-{
-    if a < b { a } else { b }
-}
-
-// The nearer of two places.
-fn nearer(a: usize, b: usize) -> usize
-    ensures { result ≡ min a b }
-{
-    if a < b { a } else { b }
-}
-
-// The farther of two places.
-fn farther(a: usize, b: usize) -> usize
-    ensures { result ≡ max a b }
-{
-    if a < b { b } else { a }
-}
 
 // Cell m of a list of claims, with room for a sum.
 fn cell(cells: &[u8], m: usize) -> u64
@@ -156,7 +128,7 @@ fn breaks_within(
     let mut carried: u64 = 0;
     let mut c = b;
     while c < end {
-        let best = greater(cell(cells, prior + c), carried);
+        let best = cell(cells, prior + c).max(carried);
         if cell(cells, row + c) < best {
             return true;
         }
@@ -197,7 +169,7 @@ fn breaks_across(
         y += w;
         least += step;
         if y < width {
-            least = lesser(cell(cells, row + y), least);
+            least = cell(cells, row + y).min(least);
         }
     }
     false
@@ -221,7 +193,7 @@ fn breaks_column(
         (HighColumn (numbers_in cells.now) prior row width w v copies b) }
 {
     let next = b + (copies * w + w);
-    if breaks_within(cells, prior, row, nearer(next, width), w, v, b) {
+    if breaks_within(cells, prior, row, next.min(width), w, v, b) {
         return true;
     }
     if width <= next {
@@ -247,7 +219,7 @@ fn breaks_block(
     ensures { Finds result (Low (numbers_in cells.now) prior row width w v copies)
         (HighBlock (numbers_in cells.now) prior row width w v copies base) }
 {
-    let stop = nearer(base + w, width);
+    let stop = (base + w).min(width);
     let mut b = base;
     while b < stop {
         if breaks_column(cells, prior, row, width, w, v, copies, b) {
@@ -339,8 +311,8 @@ pub fn row_breaks(
     ensures { result ≡ some_of (low_in (numbers_in cells.now) row width w v most) end }
 {
     let prior = row - width;
-    let weight = nearer(w as usize, end);
-    let copies = nearer(most as usize, (end - 1) / weight);
+    let weight = (w as usize).min(end);
+    let copies = (most as usize).min((end - 1) / weight);
     if copies <= FEW {
         return breaks_few(cells, prior, row, end, weight, v, copies);
     }
@@ -353,7 +325,7 @@ pub fn stretch_breaks(cells: &[u8], from: usize, end: usize, w: u32, v: u32) -> 
     ensures { result ≡ some_of (λ (i : ℕ). below_one (numbers_in cells.now) w v (from + i)) (end - from) }
 {
     let weight = w as usize;
-    let start = farther(from, weight);
+    let start = from.max(weight);
     if end <= start {
         return false;
     }

@@ -49,7 +49,7 @@ overflow_add-row-then-y-width c =
 pub loop-x-preserved-then-y-width : goal.loop-x-preserved-then-y-width
 loop-x-preserved-then-y-width c =
     crossed_inside _ _ _ _ _ _ _ _ _ _ _ c.loop-x.invariant c.loop-x-test.true _ c.cell.ensures.0
-    c.if-least-cell.false (omega arith) _ _ c.if-y-width.true c.cell-then-y-width.ensures.0 c.lesser-least.ensures
+    c.if-least-cell.false (omega arith) _ _ c.if-y-width.true c.cell-then-y-width.ensures.0 c.min-least.ensures
 
 pub loop-x-preserved : goal.loop-x-preserved
 loop-x-preserved c =

@@ -9,7 +9,7 @@ loop-b-init c = columns_start _ _ _ _ _ _ _ _
 
 pub breaks_column-requires : goal.breaks_column-requires
 breaks_column-requires c =
-    record { two_rows = c.requires.two_rows; copies_fit = c.requires.copies_fit; b_lt_width = omega (arith, c.nearer-stop.ensures) }
+    record { two_rows = c.requires.two_rows; copies_fit = c.requires.copies_fit; b_lt_width = omega (arith, c.min-stop.ensures) }
 
 pub returns-then-breaks_column : goal.returns-then-breaks_column
 returns-then-breaks_column c = finds_low (c.breaks_column.ensures.broken c.if-breaks_column.true)
@@ -20,4 +20,4 @@ loop-b-preserved c =
 
 pub returns : goal.returns
 returns c =
-    finds_high (columns_all _ _ _ _ _ _ _ _ _ (omega (arith, c.nearer-stop.ensures)) c.loop-b.invariant)
+    finds_high (columns_all _ _ _ _ _ _ _ _ _ (omega (arith, c.min-stop.ensures)) c.loop-b.invariant)

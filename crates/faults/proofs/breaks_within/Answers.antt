@@ -17,7 +17,7 @@ overflow_add-row c = omega (arith, c.requires.two_rows.row_ends, numbers_long c.
 pub returns-then-cell-best : goal.returns-then-cell-best
 returns-then-cell-best c =
     finds_low (low_here _ _ _ _ _ _ _ _ _ c.loop-c.invariant.1 _ _ _ c.cell.ensures.0 c.cell-in-loop-c.ensures.0
-    c.greater-best.ensures (omega arith) c.if-cell-best.true)
+    c.max-best.ensures (omega arith) c.if-cell-best.true)
 
 pub overflow_add-c : goal.overflow_add-c
 overflow_add-c c =
@@ -27,7 +27,7 @@ pub loop-c-preserved : goal.loop-c-preserved
 loop-c-preserved c = (
   omega arith,
   passed_next _ _ _ _ _ _ _ _ _ c.loop-c.invariant.1 _ _ _ c.cell.ensures.0 c.cell-in-loop-c.ensures.0
-      c.greater-best.ensures c.if-cell-best.false,
+      c.max-best.ensures c.if-cell-best.false,
 )
 
 pub returns : goal.returns
