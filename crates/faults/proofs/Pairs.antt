@@ -67,9 +67,6 @@ module _ (cells : List ℕ) (prior row far w gain v : ℕ) where
         distant = pass_next cells prior row (far + w) (gain + v) c t.low_far _ claim other refl claim-is other-is t.distant;
       }
 
-  pub pair_end : (low : Bool) (c left : ℕ) → c ≡ left → BothFound low cells prior row c far w gain v → BothFound low cells prior row left far w gain v
-  pair_end low c left all t = subst (λ (k : ℕ). BothFound low cells prior row k far w gain v) all t
-
 -- ---- all budgets
 
 module _ (cells : List ℕ) (prior row left far w gain v : ℕ) where

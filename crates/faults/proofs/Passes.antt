@@ -84,7 +84,3 @@ module _ (cells : List ℕ) (prior row far gain : ℕ) where
         let same : below ≡ ltb claim_at (other_at + gain) =
         below_is ∙ ap₂ (λ (x y : ℕ). ltb x (y + gain)) (claim-is ∙ ap (at cells) place) other-is in
         rw same (one_more low t)
-
-  -- all budgets are passed
-  pub pass_end : (low : Bool) (c left : ℕ) → c ≡ left → FoundSoFar low c → FoundSoFar low left
-  pass_end low c left all t = subst (FoundSoFar low) all t

@@ -44,6 +44,7 @@ fn one_if(low: bool) -> u32
 
 // One count: whether some claim is below the one `far` down in the row before, and `gain`. There is no way out of the loop, so that it
 // runs in vectors.
+#[tactic(auto, using(meaning::proofs::Numbers::numbers_long))]
 fn breaks_at(cells: &[u8], prior: usize, row: usize, left: usize, far: usize, gain: u32) -> bool
     requires left_bound { left ≤ 65_536 }
     requires left_in_bounds { prior + left ≤ length (numbers_in cells.now) }
@@ -53,12 +54,10 @@ fn breaks_at(cells: &[u8], prior: usize, row: usize, left: usize, far: usize, ga
 {
     let up = row + far;
     let mut low: u32 = 0;
-    let mut c = 0;
-    while c < left {
+    for c in 0..left {
         let claim = numbers::number_in(cells, up + c);
         let other = numbers::number_in(cells, prior + c);
         low += one_if(is_below(claim, other, gain));
-        c += 1;
     }
     0 < low
 }
@@ -74,6 +73,7 @@ fn is_below_either(claim: u32, near: u32, gain: u32, other: u32, more: u32) -> b
 }
 
 // A count and the next in one pass: each claim is read once for the two. At the first w budgets only the one fits.
+#[tactic(auto, using(meaning::proofs::Numbers::numbers_long))]
 fn breaks_two(
     cells: &[u8],
     prior: usize,
@@ -98,18 +98,17 @@ fn breaks_two(
     let beside = prior + w;
     let more = gain + v;
     let mut low: u32 = 0;
-    let mut c = 0;
-    while c < left {
+    for c in 0..left {
         let claim = numbers::number_in(cells, up + c);
         let near = numbers::number_in(cells, beside + c);
         let other = numbers::number_in(cells, prior + c);
         low += one_if(is_below_either(claim, near, gain, other, more));
-        c += 1;
     }
     0 < low
 }
 
 // Whether some cell of a column up to `end` is below one down the column in the row before, and the value of the count between.
+#[tactic(auto, using(meaning::proofs::Numbers::numbers_long))]
 fn breaks_within(
     cells: &[u8],
     prior: usize,
@@ -126,19 +125,18 @@ fn breaks_within(
 {
     let step = v as u64;
     let mut carried: u64 = 0;
-    let mut c = b;
-    while c < end {
+    for c in (b..end).step_by(w) {
         let best = cell(cells, prior + c).max(carried);
         if cell(cells, row + c) < best {
             return true;
         }
         carried = best + step;
-        c += w;
     }
     false
 }
 
 // Whether some cell of a column from a+copies*w on is below one before it in the row before, at most all copies down.
+#[tactic(auto, using(meaning::proofs::Numbers::numbers_long))]
 fn breaks_across(
     cells: &[u8],
     prior: usize,
@@ -220,12 +218,10 @@ fn breaks_block(
         (HighBlock (numbers_in cells.now) prior row width w v copies base) }
 {
     let stop = (base + w).min(width);
-    let mut b = base;
-    while b < stop {
+    for b in base..stop {
         if breaks_column(cells, prior, row, width, w, v, copies, b) {
             return true;
         }
-        b += 1;
     }
     false
 }
@@ -246,12 +242,10 @@ fn breaks_many(
         (High (numbers_in cells.now) prior row width w v copies) }
 {
     let span = copies * w + w;
-    let mut base = 0;
-    while base < width {
+    for base in (0..width).step_by(span) {
         if breaks_block(cells, prior, row, width, w, v, copies, base) {
             return true;
         }
-        base += span;
     }
     false
 }

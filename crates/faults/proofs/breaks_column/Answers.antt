@@ -7,11 +7,6 @@ pub returns-then-breaks_within : goal.returns-then-breaks_within
 returns-then-breaks_within c =
     finds_low (column_low _ _ _ _ _ _ _ _ _ c.min.ensures (c.breaks_within.ensures.broken c.if-breaks_within.true))
 
-pub returns-then-width-next : goal.returns-then-width-next
-returns-then-width-next c =
-    finds_high (column_last _ _ _ _ _ _ _ _ _ c.min.ensures c.requires.copies_fit.weighs
-    (c.breaks_within.ensures.kept c.if-breaks_within.false) c.if-width-next.true)
-
 pub returns : goal.returns
 returns c =
     column_found _ _ _ _ _ _ _ _ _ c.min.ensures c.requires.copies_fit.weighs
