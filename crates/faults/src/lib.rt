@@ -252,6 +252,7 @@ fn breaks_many(
 
 // The same count by count, two in a pass, and the last alone where their number is odd. None and one, which are all that kind 1 has, come
 // first and by themselves: nothing is taken off a claim for none.
+#[tactic(auto, using(crate::proofs::Cells::few_copies))]
 fn breaks_few(
     cells: &[u8],
     prior: usize,
@@ -273,21 +274,19 @@ fn breaks_few(
     if breaks_two(cells, prior, row, width - w, 0, w, 0, v) {
         return true;
     }
-    let mut far = w + w;
-    let mut gain = v + v;
-    let mut count = 2;
-    while count < copies {
+    for pair in 1..(copies + 1) / 2 {
+        let count = 2 * pair;
+        let far = count * w;
+        let gain = count as u32 * v;
         if breaks_two(cells, prior, row, width - far - w, far, w, gain, v) {
             return true;
         }
-        far += w + w;
-        gain += v + v;
-        count += 2;
     }
-    if copies < count {
+    if copies % 2 == 1 {
         return false;
     }
-    breaks_at(cells, prior, row, width - far, far, gain)
+    let far = copies * w;
+    breaks_at(cells, prior, row, width - far, far, copies as u32 * v)
 }
 
 // Whether a row of claims breaks rule 14 at some budget below `end`, for some count of the label up to `most`.
