@@ -1,18 +1,11 @@
 -- From the cells of one block of a column into the next, cell by cell: what was passed is kept, and the least claim is carried.
 -- Assumes nothing.
-use Rattle.std.proofs.Common.{◌≡◌, ℕ, ◌+◌, ◌-◌, ◌*◌, ◌<◌, ◌≤◌, min, List, ap, ◌∙◌, suc-mul, mul-le-mul, lt_of_mul-lt-mul_right, zero-mul, le-mul_of_pos_right, le_of_mul-le-mul_right, arith}
+use Rattle.std.proofs.Common.{◌≡◌, ℕ, ◌+◌, ◌-◌, ◌*◌, ◌<◌, ◌≤◌, min, List, ap, ◌∙◌, suc-mul, lt_of_mul-lt-mul_right, le_of_mul-le-mul_right, arith}
 use native.Mathlib.Decide.{dec_lt}
 use Rattle.meaning.specs.Lists.{at}
 use Rattle.faults.specs.Columns.{Low, HighAcross}
-use Rattle.faults.proofs.Cells.{column_cell, same_cell, same_times, parts_times, few_copies}
-use Rattle.faults.proofs.Carrying.{LeastClaim, least_start, least_inside, least_outside}
-
--- what all copies are worth stays small
-pub all_worth : (a copies w v width : ℕ) → 1 ≤ w → a + copies * w < width → width ≤ 65_536 → v ≤ 4_294_967_295
-    → copies * v ≤ 281_470_681_677_825
-all_worth a copies w v width weighs inside narrow v-fits =
-    let few : copies ≤ 65_535 = few_copies copies w width weighs (omega arith) narrow in
-    omega (arith, mul-le-mul few v-fits)
+use Rattle.faults.proofs.Cells.{column_cell, same_cell, same_times, parts_times}
+use Rattle.faults.proofs.Carrying.{LeastClaim, least_inside, least_outside}
 
 module _ (cells : List ℕ) (prior row width w v copies a : ℕ) where
   -- where all copies lead
@@ -39,28 +32,11 @@ module _ (cells : List ℕ) (prior row width w v copies a : ℕ) where
     pub small : least ≤ 4_294_967_296 * (d + 1)
     pub kept : (e short : ℕ) → e + short < d → InRow e → others (e + short) + copies * v ≤ claims e + short * v
 
-  pub crossed_start : (least : ℕ) → least ≡ at cells (row + b) → least ≤ 4_294_967_295 → b < width → Crossed a b least
-  crossed_start least least-is fits inside =
-      let first : b ≡ b + 0 * w = omega (arith, zero-mul w) in
-      record {
-        d = 0;
-        x_is = omega (arith, zero-mul w);
-        y_is = first;
-        carries = least_start claims InRow v least (least-is ∙ same_cell cells row first) (omega (arith, zero-mul w));
-        small = omega arith;
-        kept = λ e short h i. absurd (omega arith);
-      }
-
   module _ (x y least : ℕ) (c : Crossed x y least) where
     module _ (before : x < b) where
       -- cells are left, so what is carried fits the code's numbers
       fewer : c.d < copies
       fewer = lt_of_mul-lt-mul_right w (omega (arith, c.x_is))
-
-      pub crossed_fits : 1 ≤ w → b < width → width ≤ 65_536 → (least ≤ 281_474_976_710_656) × (y ≤ 131_072)
-      crossed_fits weighs inside narrow =
-          let few : c.d ≤ c.d * w = le-mul_of_pos_right {m = w} c.d weighs in
-          (omega (arith, c.small, c.x_is), omega (arith, c.x_is, c.y_is))
 
       module _ (other : ℕ) (other-is : other ≡ at cells (prior + x)) where
         -- the least claim is too low for the cell x, wherever it was found

@@ -1,6 +1,6 @@
 -- A count and the next in a pass.
 -- Assumes nothing.
-use Rattle.std.proofs.Common.{◌≡◌, ℕ, ◌+◌, ◌-◌, ◌*◌, ◌<◌, ◌≤◌, List, ap, subst, mul-le-mul_right, suc-mul, arith}
+use Rattle.std.proofs.Common.{◌≡◌, ℕ, ◌+◌, ◌-◌, ◌*◌, ◌<◌, List, ap, subst, mul-le-mul_right, suc-mul, arith}
 use native.Mathlib.Decide.{dec_lt}
 use Rattle.meaning.specs.Lists.{at}
 use Rattle.faults.specs.Columns.{Low, HighAt, LowEither, at_first, at_second, HighBoth}

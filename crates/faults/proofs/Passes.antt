@@ -1,27 +1,11 @@
 -- One count over a whole row, budget by budget, and the code's test without a sum.
 -- Assumes nothing.
-use Rattle.std.proofs.Common.{◌≡◌, ℕ, ◌+◌, ◌%◌, ◌<◌, ◌≤◌, Bool, true, false, ◌||◌, ltb, List, sym, refl, ap, ◌∙◌, subst, ap₂, zero-le, add-zero, arith, below_more, le-ltb, lt-ltb}
+use Rattle.std.proofs.Common.{◌≡◌, ℕ, ◌+◌, ◌≤◌, Bool, true, false, ◌||◌, ltb, List, sym, refl, ap, ◌∙◌, subst, ap₂, add-zero, arith, below_more, le-ltb, lt-ltb}
 use native.Mathlib.Decide.{dec_lt}
 use mathlib.Core.Bool.{or-true, or-false}
 use Rattle.meaning.specs.Lists.{at, if}
 use Rattle.faults.specs.Columns.{Finds, LowAt, HighAt}
 use Rattle.faults.proofs.Finding.{finds_low, finds_high}
-
--- ---- the code's test without a sum
-
--- a claim less a value wraps only where the claim is below the value
-pub below_sum : (claim other v rest : ℕ) → claim < 4_294_967_296 → rest < 4_294_967_296 → (rest + v) % 4_294_967_296 ≡ claim
-    → (ltb claim v || ltb rest other) ≡ ltb claim (other + v)
-below_sum claim other v rest claim-fits rest-fits wraps =
-    elim (dec_lt claim v) [
-      | yes small ↦ rw (lt-ltb claim v small, lt-ltb claim (other + v) (omega arith))
-      | no large ↦
-          let difference : rest + v ≡ claim = omega (arith, wraps) in
-          rw (le-ltb claim v (omega arith)) (elim (dec_lt rest other) [
-            | yes below ↦ rw (lt-ltb rest other below, lt-ltb claim (other + v) (omega arith))
-            | no above ↦ rw (le-ltb rest other (omega arith), le-ltb claim (other + v) (omega arith))
-          ])
-    ]
 
 -- ---- how many are too low, as the code counts them
 
@@ -36,9 +20,6 @@ pub record CountedLow (Tell : Bool → ℕ → Type 0) (low c : ℕ) : Type 0 wh
   pub most : low ≤ c
   pub told : Tell (ltb 0 low) c
 
-pub count_start : {Tell : Bool → ℕ → Type 0} → Tell false 0 → CountedLow Tell 0 0
-count_start t = record { most = zero-le; told = t }
-
 pub count_next : {Tell : Bool → ℕ → Type 0} (low c one : ℕ) (below : Bool) → (one ≡ if below 1 0) × (one ≤ 1)
     → CountedLow Tell low c → Tell (ltb 0 low || below) (c + 1) → CountedLow Tell (low + one) (c + 1)
 count_next {Tell} low c one below one_is l t = record {
@@ -52,9 +33,6 @@ module _ (cells : List ℕ) (prior row far gain : ℕ) where
   -- what is told of the first c budgets
   abbrev pub FoundSoFar : Bool → ℕ → Type 0
   FoundSoFar low c = Finds low (LowAt cells prior row c far gain) (HighAt cells prior row c far gain)
-
-  pub pass_start : FoundSoFar false 0
-  pass_start = finds_high (record { all = λ from h. absurd (omega arith) })
 
   module _ (c : ℕ) where
     -- what stands at the budget whose turn it is

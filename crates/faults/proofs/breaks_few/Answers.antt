@@ -1,6 +1,6 @@
 -- `faults::breaks_few` meets its contract, count by count.
 use Rattle.std.proofs.Common.{◌*◌, ◌<◌, arith}
-use Rattle.faults.proofs.Finding.{finds_low}
+use Rattle.faults.proofs.Finding.{finds_low, finds_high}
 use Rattle.faults.proofs.Counts.{two_low, two_next}
 use Rattle.faults.proofs.breaks_few.Goals as goal
 
@@ -14,3 +14,7 @@ loop-pair-preserved c k under =
     let two : 2 * c.loop-pair.pair < c.args.copies = omega arith in
     two_next _ _ _ _ _ _ _ _ c.requires.copies_fit.fit two (c.breaks_two-in-loop-pair.ensures.kept c.if-breaks_two-2.false)
     c.loop-pair.invariant k (omega arith)
+
+pub returns-then-copies-eq1 : goal.returns-then-copies-eq1
+returns-then-copies-eq1 c =
+    finds_high (record { all = λ from count few inside. (c.loop-pair.invariant count (omega arith)).all from (omega (arith, inside)) })

@@ -12,6 +12,6 @@ returns c = finds_high (blocks_all _ _ _ _ _ _ _ _ c.requires.copies_fit.weighs 
 
 -- the next block would start past all numbers of the code
 pub returns-else-breaks_block : goal.returns-else-breaks_block
-returns-else-breaks_block c = 
+returns-else-breaks_block c =
     finds_high (blocks_all _ _ _ _ _ _ _ _ c.requires.copies_fit.weighs (omega arith)
     (blocks_next _ _ _ _ _ _ _ _ c.loop-base.invariant (c.breaks_block.ensures.kept c.if-breaks_block.false)))
