@@ -155,16 +155,14 @@ fn breaks_across(
 {
     let step = v as u64;
     let gain = copies as u64 * step;
-    let b = a + copies * w;
+    let apart = copies * w;
+    let b = a + apart;
     let mut least = cell(cells, row + b);
-    let mut x = a;
-    let mut y = b;
-    while x < b {
+    for x in (a..b).step_by(w) {
         if least < cell(cells, prior + x) + gain {
             return true;
         }
-        x += w;
-        y += w;
+        let y = x + apart + w;
         least += step;
         if y < width {
             least = cell(cells, row + y).min(least);

@@ -10,7 +10,7 @@ loop-base-preserved c = blocks_next _ _ _ _ _ _ _ _ c.loop-base.invariant (c.bre
 pub returns : goal.returns
 returns c = finds_high (blocks_all _ _ _ _ _ _ _ _ c.requires.copies_fit.weighs (omega arith) c.loop-base.invariant)
 
--- the next block would start past all numbers of the code
+-- after the last block
 pub returns-else-breaks_block : goal.returns-else-breaks_block
 returns-else-breaks_block c =
     finds_high (blocks_all _ _ _ _ _ _ _ _ c.requires.copies_fit.weighs (omega arith)
