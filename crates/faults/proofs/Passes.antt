@@ -3,28 +3,32 @@
 use Rattle.std.proofs.Common.{◌≡◌, ℕ, ◌+◌, ◌≤◌, Bool, true, false, ◌||◌, ltb, List, sym, refl, ap, ◌∙◌, subst, ap₂, add-zero, arith, below_more, le-ltb, lt-ltb}
 use native.Mathlib.Decide.{dec_lt}
 use mathlib.Core.Bool.{or-true, or-false}
-use Rattle.meaning.specs.Lists.{at, if}
+use mir.Val.{bool_byte}
+use Rattle.meaning.specs.Lists.{at}
 use Rattle.faults.specs.Columns.{Finds, LowAt, HighAt}
 use Rattle.faults.proofs.Finding.{finds_low, finds_high}
 
 -- ---- how many are too low, as the code counts them
 
 -- whether some are, once one more was asked about
-counted_low : (low : ℕ) (below : Bool) → (ltb 0 low || below) ≡ ltb 0 (low + if below 1 0)
-unfolding if
+counted_low : (low : ℕ) (below : Bool) → (ltb 0 low || below) ≡ ltb 0 (low + bool_byte below)
 counted_low low true = or-true (ltb 0 low) ∙ sym (lt-ltb 0 (low + 1) (omega arith))
 counted_low low false = or-false (ltb 0 low) ∙ ap (ltb 0) (sym (add-zero low))
+
+at_most_one : (below : Bool) → bool_byte below ≤ 1
+at_most_one true = omega arith
+at_most_one false = omega arith
 
 -- of the first c at most c are, and what is told of some holds
 pub record CountedLow (Tell : Bool → ℕ → Type 0) (low c : ℕ) : Type 0 where
   pub most : low ≤ c
   pub told : Tell (ltb 0 low) c
 
-pub count_next : {Tell : Bool → ℕ → Type 0} (low c one : ℕ) (below : Bool) → (one ≡ if below 1 0) × (one ≤ 1)
+pub count_next : {Tell : Bool → ℕ → Type 0} (low c one : ℕ) (below : Bool) → one ≡ bool_byte below
     → CountedLow Tell low c → Tell (ltb 0 low || below) (c + 1) → CountedLow Tell (low + one) (c + 1)
 count_next {Tell} low c one below one_is l t = record {
-  most = omega (arith, l.most, one_is.1);
-  told = rw one_is.0 (subst (λ (b : Bool). Tell b (c + 1)) (counted_low low below) t);
+  most = omega (arith, l.most, at_most_one below);
+  told = rw one_is (subst (λ (b : Bool). Tell b (c + 1)) (counted_low low below) t);
 }
 
 -- ---- budget by budget

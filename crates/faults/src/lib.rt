@@ -34,14 +34,6 @@ fn is_below(claim: u32, other: u32, v: u32) -> bool
     (claim < v) | (rest < other)
 }
 
-// 1 for a claim that is too low. They are counted, in lanes of 32 bits as the claims are: bools are narrower, and each vector of
-// comparisons would have to be narrowed to them.
-fn one_if(low: bool) -> u32
-    ensures { (result ≡ if low 1 0) × (result ≤ 1) }
-{
-    if low { 1 } else { 0 }
-}
-
 // One count: whether some claim is below the one `far` down in the row before, and `gain`. There is no way out of the loop, so that it
 // runs in vectors.
 #[tactic(auto, using(meaning::proofs::Numbers::numbers_long))]
@@ -57,7 +49,7 @@ fn breaks_at(cells: &[u8], prior: usize, row: usize, left: usize, far: usize, ga
     for c in 0..left {
         let claim = numbers::number_in(cells, up + c);
         let other = numbers::number_in(cells, prior + c);
-        low += one_if(is_below(claim, other, gain));
+        low += u32::from(is_below(claim, other, gain));
     }
     0 < low
 }
@@ -102,7 +94,7 @@ fn breaks_two(
         let claim = numbers::number_in(cells, up + c);
         let near = numbers::number_in(cells, beside + c);
         let other = numbers::number_in(cells, prior + c);
-        low += one_if(is_below_either(claim, near, gain, other, more));
+        low += u32::from(is_below_either(claim, near, gain, other, more));
     }
     0 < low
 }

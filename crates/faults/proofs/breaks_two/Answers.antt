@@ -7,7 +7,7 @@ use Rattle.faults.proofs.breaks_two.Goals as goal
 pub loop-c-preserved : goal.loop-c-preserved
 loop-c-preserved c =
     let so_far = c.loop-c.invariant in
-    count_next _ _ _ _ c.one_if-low.ensures so_far
+    count_next _ _ _ _ c.from-low.ensures so_far
     (pair_next _ _ _ _ _ _ _ _ _ _ _ _ _ c.is_below_either.ensures c.number_in-claim.ensures c.number_in-near.ensures
     c.number_in-other.ensures so_far.told)
 
