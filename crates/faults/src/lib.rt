@@ -6,7 +6,7 @@
 #![tactic(auto)]
 
 ghost use Rattle.std.specs.Prelude.{◌≡◌, ℕ, ◌+◌, ◌-◌, ◌*◌, ◌<◌, ◌≤◌, ◌||◌, length, nat_lt};
-ghost use Rattle.meaning.specs.Lists.{at, if};
+ghost use Rattle.meaning.specs.Lists.{at};
 ghost use Rattle.meaning.specs.Bytes.{numbers_in};
 ghost use Rattle.meaning.specs.Certificates.{some_of};
 ghost use Rattle.faults.specs.LowRows.{RowThere, Budgets, low_in, below_one};
@@ -35,7 +35,8 @@ fn is_below(claim: u32, other: u32, v: u32) -> bool
 }
 
 // One count: whether some claim is below the one `far` down in the row before, and `gain`. There is no way out of the loop, so that it
-// runs in vectors.
+// runs in vectors. Claims that are too low are counted, in lanes of 32 bits as the claims are: bools are narrower, and each vector of
+// comparisons would have to be narrowed to them.
 #[tactic(auto, using(meaning::proofs::Numbers::numbers_long))]
 fn breaks_at(cells: &[u8], prior: usize, row: usize, left: usize, far: usize, gain: u32) -> bool
     requires left_bound { left ≤ 65_536 }
