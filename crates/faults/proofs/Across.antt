@@ -1,18 +1,11 @@
 -- From the cells of one block of a column into the next, cell by cell: what was passed is kept, and the least claim is carried.
 -- Assumes nothing.
-use Rattle.std.proofs.Common.{◌≡◌, ℕ, ◌+◌, ◌-◌, ◌*◌, ◌<◌, ◌≤◌, min, List, ap, ◌∙◌, suc-mul, mul-le-mul, lt_of_mul-lt-mul_right, zero-mul, le-mul_of_pos_right, le_of_mul-le-mul_right, arith}
+use Rattle.std.proofs.Common.{◌≡◌, ℕ, ◌+◌, ◌-◌, ◌*◌, ◌<◌, ◌≤◌, min, List, ap, ◌∙◌, suc-mul, lt_of_mul-lt-mul_right, le_of_mul-le-mul_right, arith}
 use native.Mathlib.Decide.{dec_lt}
 use Rattle.meaning.specs.Lists.{at}
 use Rattle.faults.specs.Columns.{Low, HighAcross}
-use Rattle.faults.proofs.Cells.{column_cell, same_cell, same_times, parts_times, few_copies}
-use Rattle.faults.proofs.Carrying.{LeastClaim, least_start, least_inside, least_outside}
-
--- what all copies are worth stays small
-pub all_worth : (a copies w v width : ℕ) → 1 ≤ w → a + copies * w < width → width ≤ 65_536 → v ≤ 4_294_967_295
-    → copies * v ≤ 281_470_681_677_825
-all_worth a copies w v width weighs inside narrow v-fits =
-    let few : copies ≤ 65_535 = few_copies copies w width weighs (omega arith) narrow in
-    omega (arith, mul-le-mul few v-fits)
+use Rattle.faults.proofs.Cells.{column_cell, same_cell, same_times, parts_times}
+use Rattle.faults.proofs.Carrying.{LeastClaim, least_inside, least_outside}
 
 module _ (cells : List ℕ) (prior row width w v copies a : ℕ) where
   -- where all copies lead
@@ -30,37 +23,19 @@ module _ (cells : List ℕ) (prior row width w v copies a : ℕ) where
   abbrev InRow : ℕ → Type 0
   InRow e = b + e * w < width
 
-  -- d cells were passed, those before budget x; budget y is all copies up from x
-  pub record Crossed (x y least : ℕ) : Type 0 where
+  -- d cells were passed, those before budget x
+  pub record Crossed (x least : ℕ) : Type 0 where
     pub d : ℕ
     pub x_is : x ≡ a + d * w
-    pub y_is : y ≡ b + d * w
     pub carries : LeastClaim claims InRow v d least
     pub small : least ≤ 4_294_967_296 * (d + 1)
     pub kept : (e short : ℕ) → e + short < d → InRow e → others (e + short) + copies * v ≤ claims e + short * v
 
-  pub crossed_start : (least : ℕ) → least ≡ at cells (row + b) → least ≤ 4_294_967_295 → b < width → Crossed a b least
-  crossed_start least least-is fits inside =
-      let first : b ≡ b + 0 * w = omega (arith, zero-mul w) in
-      record {
-        d = 0;
-        x_is = omega (arith, zero-mul w);
-        y_is = first;
-        carries = least_start claims InRow v least (least-is ∙ same_cell cells row first) (omega (arith, zero-mul w));
-        small = omega arith;
-        kept = λ e short h i. absurd (omega arith);
-      }
-
-  module _ (x y least : ℕ) (c : Crossed x y least) where
+  module _ (x least : ℕ) (c : Crossed x least) where
     module _ (before : x < b) where
       -- cells are left, so what is carried fits the code's numbers
       fewer : c.d < copies
       fewer = lt_of_mul-lt-mul_right w (omega (arith, c.x_is))
-
-      pub crossed_fits : 1 ≤ w → b < width → width ≤ 65_536 → (least ≤ 281_474_976_710_656) × (y ≤ 131_072)
-      crossed_fits weighs inside narrow =
-          let few : c.d ≤ c.d * w = le-mul_of_pos_right {m = w} c.d weighs in
-          (omega (arith, c.small, c.x_is), omega (arith, c.x_is, c.y_is))
 
       module _ (other : ℕ) (other-is : other ≡ at cells (prior + x)) where
         -- the least claim is too low for the cell x, wherever it was found
@@ -92,28 +67,27 @@ module _ (cells : List ℕ) (prior row width w v copies a : ℕ) where
                     omega (arith, c.carries.bound e short last i, same_cell cells prior from)
               ]
 
-          next_y : y + w ≡ b + (c.d + 1) * w
-          next_y = omega (arith, c.y_is, suc-mul c.d w)
-
-          crossed_next : (next : ℕ) → LeastClaim claims InRow v (c.d + 1) next → next ≤ least + 4_294_967_296 → Crossed (x + w) (y + w) next
+          crossed_next : (next : ℕ) → LeastClaim claims InRow v (c.d + 1) next → next ≤ least + 4_294_967_296 → Crossed (x + w) next
           crossed_next next carries more = record {
             d = c.d + 1;
             x_is = omega (arith, c.x_is, suc-mul c.d w);
-            y_is = next_y;
             carries = carries;
             small = omega (arith, c.small);
             kept = kept_next;
           }
 
-          module _ (v-fits : v ≤ 4_294_967_295) where
-            -- the next claim is past the row's end
-            pub crossed_outside : width ≤ y + w → Crossed (x + w) (y + w) (least + v)
+          -- the next claim is all copies up from the next cell
+          module _ (v-fits : v ≤ 4_294_967_295) (y : ℕ) (y_is : y ≡ x + copies * w + w) where
+            next_y : y ≡ b + (c.d + 1) * w
+            next_y = omega (arith, y_is, c.x_is, suc-mul c.d w)
+
+            -- it is past the row's end
+            pub crossed_outside : width ≤ y → Crossed (x + w) (least + v)
             crossed_outside out =
                 crossed_next (least + v) (least_outside claims InRow v c.d least c.carries (λ i. omega (arith, next_y))) (omega arith)
 
             -- it is in the row
-            pub crossed_inside : (next claim : ℕ) → y + w < width → claim ≡ at cells (row + (y + w)) → next ≡ min claim (least + v)
-                → Crossed (x + w) (y + w) next
+            pub crossed_inside : (next claim : ℕ) → y < width → claim ≡ at cells (row + y) → next ≡ min claim (least + v) → Crossed (x + w) next
             crossed_inside next claim inside claim-is next-is =
                 let is : next ≡ min (claims (c.d + 1)) (least + v) =
                 next-is ∙ ap (λ (m : ℕ). min m (least + v)) (claim-is ∙ same_cell cells row next_y) in

@@ -1,6 +1,6 @@
 -- A row in blocks of copies+1 weights: a column of a block, the columns of a block, the blocks of a row.
 -- Assumes nothing.
-use Rattle.std.proofs.Common.{◌≡◌, ℕ, ◌+◌, ◌-◌, ◌*◌, ◌/◌, ◌%◌, ◌<◌, ◌≤◌, min, Bool, List, subst, mul-le-mul_right, mod-lt, suc-mul, add-mul, lt_of_mul-lt-mul_right, div-add-mod', zero-mul, arith, below_more}
+use Rattle.std.proofs.Common.{◌≡◌, ℕ, ◌+◌, ◌-◌, ◌*◌, ◌/◌, ◌%◌, ◌<◌, ◌≤◌, min, Bool, List, subst, mul-le-mul_right, mod-lt, suc-mul, add-mul, lt_of_mul-lt-mul_right, div-add-mod', arith, below_more}
 use native.Mathlib.Decide.{dec_lt}
 use Rattle.faults.specs.Columns.{Finds, Low, High, LowWithin, HighWithin, HighAcross, HighColumn, HighBlock}
 use Rattle.faults.proofs.Finding.{finds_as}
@@ -51,10 +51,6 @@ module _ (cells : List ℕ) (prior row width w v copies : ℕ) where
         ];
       }
 
-      -- the block is the last
-      pub column_last : width ≤ b + span → KeptColumn b
-      column_last last = column_by (λ e count e-few few far inside. absurd (omega (arith, mul-le-mul_right w far, suc-mul copies w)))
-
       -- another one follows
       column_high : HighAcross cells prior row width w v copies (b + w) → KeptColumn b
       column_high across = column_by leaving
@@ -89,9 +85,6 @@ module _ (cells : List ℕ) (prior row width w v copies : ℕ) where
     pub high : (r : ℕ) → base + r < b → KeptColumn (base + r)
 
   module _ (base : ℕ) where
-    pub columns_start : ColumnsKept base base
-    columns_start = record { from = omega arith; high = λ r h. absurd (omega arith) }
-
     pub columns_next : (b : ℕ) → ColumnsKept base b → KeptColumn b → ColumnsKept base (b + 1)
     columns_next b c here = record {
       from = omega (arith, c.from);
@@ -101,9 +94,6 @@ module _ (cells : List ℕ) (prior row width w v copies : ℕ) where
       ];
     }
 
-    pub columns_all : (b : ℕ) → min (base + w) width ≤ b → ColumnsKept base b → KeptBlock base
-    columns_all b past c = record { all = λ r light inside. c.high r (omega arith) }
-
   -- ---- the blocks of a row
 
   -- those before budget `base`
@@ -111,9 +101,6 @@ module _ (cells : List ℕ) (prior row width w v copies : ℕ) where
     pub n : ℕ
     pub reached : base ≡ n * span
     pub high : (m : ℕ) → m < n → KeptBlock (m * span)
-
-  pub blocks_start : BlocksKept 0
-  blocks_start = record { n = 0; reached = omega (arith, zero-mul span); high = λ m h. absurd (omega arith) }
 
   pub blocks_next : (base : ℕ) → BlocksKept base → KeptBlock base → BlocksKept (base + span)
   blocks_next base k here = record {

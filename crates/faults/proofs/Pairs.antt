@@ -1,29 +1,12 @@
 -- Two counts in one pass: the code's test of both, budget by budget, and the budgets where only the first fits.
 -- Assumes nothing.
-use Rattle.std.proofs.Common.{◌≡◌, ℕ, ◌+◌, ◌-◌, ◌%◌, ◌<◌, ◌≤◌, Bool, true, false, ◌||◌, ltb, List, sym, refl, ap, ◌∙◌, subst, ap₂, arith, le-ltb, lt-ltb}
+use Rattle.std.proofs.Common.{◌≡◌, ℕ, ◌+◌, ◌-◌, Bool, true, false, ◌||◌, ltb, List, sym, refl, ap, ◌∙◌, ap₂, arith}
 use native.Mathlib.Decide.{dec_lt}
 use mathlib.Core.Bool.{or-true}
 use Rattle.meaning.specs.Lists.{at}
 use Rattle.faults.specs.Columns.{Finds, LowAt, HighAt, LowEither, at_first, at_second, HighBoth}
 use Rattle.faults.proofs.Finding.{finds_low, finds_high}
-use Rattle.faults.proofs.Passes.{below_sum, FoundSoFar, pass_start, pass_next}
-
--- ---- the code's test without a sum
-
--- a claim that is no less than the greater value wraps by neither
-pub below_either : (claim near gain other more rest less : ℕ) → gain ≤ more → claim < 4_294_967_296 → rest < 4_294_967_296 → less < 4_294_967_296
-    → (rest + gain) % 4_294_967_296 ≡ claim → (less + more) % 4_294_967_296 ≡ claim
-    → ((ltb claim more || ltb rest near) || ltb less other) ≡ (ltb claim (near + gain) || ltb claim (other + more))
-below_either claim near gain other more rest less order claim-fits rest-fits less-fits rest-is less-is =
-    elim (dec_lt claim more) [
-      | yes small ↦ rw (lt-ltb claim more small, lt-ltb claim (other + more) (omega arith)) (sym (or-true (ltb claim (near + gain))))
-      | no large ↦
-          let by-rest = below_sum claim near gain rest claim-fits rest-fits rest-is in
-          let by_less = below_sum claim other more less claim-fits less-fits less-is in
-          let first : ltb rest near ≡ ltb claim (near + gain) = rw (le-ltb claim gain (omega arith)) at by-rest in
-          let second : ltb less other ≡ ltb claim (other + more) = rw (le-ltb claim more (omega arith)) at by_less in
-          rw (le-ltb claim more (omega arith)) (ap₂ ◌||◌ first second)
-    ]
+use Rattle.faults.proofs.Passes.{FoundSoFar, pass_next}
 
 -- ---- budget by budget
 
@@ -42,15 +25,6 @@ four_ors false true x y = sym (or-true x)
 four_ors false false x y = refl
 
 module _ (cells : List ℕ) (prior row far w gain v : ℕ) where
-  pub pair_start : BothFound false cells prior row 0 far w gain v
-  pair_start = record {
-    low_near = false;
-    low_far = false;
-    together = refl;
-    near = pass_start cells (prior + w) (row + w) far gain;
-    distant = pass_start cells prior row (far + w) (gain + v);
-  }
-
   pub pair_next : (c : ℕ) (low below : Bool) (claim near other : ℕ)
       → below ≡ (ltb claim (near + gain) || ltb claim (other + (gain + v)))
       → claim ≡ at cells (row + (far + w) + c) → near ≡ at cells (prior + w + c) → other ≡ at cells (prior + c)
@@ -67,16 +41,9 @@ module _ (cells : List ℕ) (prior row far w gain v : ℕ) where
         distant = pass_next cells prior row (far + w) (gain + v) c t.low_far _ claim other refl claim-is other-is t.distant;
       }
 
-  pub pair_end : (low : Bool) (c left : ℕ) → c ≡ left → BothFound low cells prior row c far w gain v → BothFound low cells prior row left far w gain v
-  pair_end low c left all t = subst (λ (k : ℕ). BothFound low cells prior row k far w gain v) all t
-
 -- ---- all budgets
 
 module _ (cells : List ℕ) (prior row left far w gain v : ℕ) where
-  -- a break at one of the first w budgets
-  pub light_low : LowAt cells prior row w far gain → LowEither cells prior row left far w gain v
-  light_low l = at_first (record { from = l.from; inside = omega (arith, l.inside); below = l.below })
-
   -- a break at a later one
   heavy_low : LowAt cells (prior + w) (row + w) left far gain → LowAt cells prior row (left + w) far gain
   heavy_low l =

@@ -1,11 +1,11 @@
 -- One column, cell by cell: what was passed is kept, and what is carried.
 -- Assumes nothing.
-use Rattle.std.proofs.Common.{◌≡◌, ℕ, ◌+◌, ◌*◌, ◌<◌, ◌≤◌, max, List, ap, ◌∙◌, suc-mul, lt_of_mul-lt-mul_right, zero-mul, arith}
+use Rattle.std.proofs.Common.{◌≡◌, ℕ, ◌+◌, ◌*◌, ◌<◌, ◌≤◌, max, List, ap, ◌∙◌, suc-mul, lt_of_mul-lt-mul_right, arith}
 use native.Mathlib.Decide.{dec_lt}
 use Rattle.meaning.specs.Lists.{at}
 use Rattle.faults.specs.Columns.{LowWithin, HighWithin}
 use Rattle.faults.proofs.Cells.{column_cell, same_cell, same_times}
-use Rattle.faults.proofs.Carrying.{Topmost, Carried, carried_start, top_here, carried_next}
+use Rattle.faults.proofs.Carrying.{Topmost, Carried, top_here, carried_next}
 
 module _ (cells : List ℕ) (prior row end w v b : ℕ) where
   -- the column in the row, and in the row before
@@ -21,14 +21,6 @@ module _ (cells : List ℕ) (prior row end w v b : ℕ) where
     pub reached : c ≡ b + d * w
     pub carries : Carried others v d carried
     pub kept : (e count : ℕ) → e + count < d → others e + count * v ≤ claims (e + count)
-
-  pub passed_start : ColumnPassed b 0
-  passed_start = record {
-    d = 0;
-    reached = omega (arith, zero-mul w);
-    carries = carried_start others v;
-    kept = λ e count h. absurd (omega arith);
-  }
 
   module _ (c carried : ℕ) (p : ColumnPassed c carried) (other claim top : ℕ)
       (other-is : other ≡ at cells (prior + c)) (claim-is : claim ≡ at cells (row + c)) (top-is : top ≡ max other carried) where

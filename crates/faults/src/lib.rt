@@ -5,8 +5,8 @@
 // the border the least claim is carried up, against the cell that is all copies down.
 #![tactic(auto)]
 
-ghost use Rattle.std.specs.Prelude.{◌≡◌, ℕ, ◌+◌, ◌-◌, ◌*◌, ◌<◌, ◌≤◌, min, max, ◌||◌, length, nat_lt};
-ghost use Rattle.meaning.specs.Lists.{at, if};
+ghost use Rattle.std.specs.Prelude.{◌≡◌, ℕ, ◌+◌, ◌-◌, ◌*◌, ◌<◌, ◌≤◌, ◌||◌, length, nat_lt};
+ghost use Rattle.meaning.specs.Lists.{at};
 ghost use Rattle.meaning.specs.Bytes.{numbers_in};
 ghost use Rattle.meaning.specs.Certificates.{some_of};
 ghost use Rattle.faults.specs.LowRows.{RowThere, Budgets, low_in, below_one};
@@ -16,34 +16,6 @@ ghost use Rattle.faults.specs.Columns.{LowWithin, HighWithin, HighAcross, HighCo
 // So many copies are few: a pass for two counts takes as long whatever they are, and blocks take as long whatever the copies are. Where the
 // two meet goes by the weight, at some 14 copies of a light label and 25 of a heavy one, and this is between them (docs/SPEED.md).
 const FEW: usize = 20;
-
-// The greater of two numbers.
-fn greater(a: u64, b: u64) -> u64
-    ensures { result ≡ max a b }
-{
-    if a < b { b } else { a }
-}
-
-// The lesser of two numbers.
-fn lesser(a: u64, b: u64) -> u64
-    ensures { result ≡ min a b }
-{
-    if a < b { a } else { b }
-}
-
-// The nearer of two places.
-fn nearer(a: usize, b: usize) -> usize
-    ensures { result ≡ min a b }
-{
-    if a < b { a } else { b }
-}
-
-// The farther of two places.
-fn farther(a: usize, b: usize) -> usize
-    ensures { result ≡ max a b }
-{
-    if a < b { b } else { a }
-}
 
 // Cell m of a list of claims, with room for a sum.
 fn cell(cells: &[u8], m: usize) -> u64
@@ -62,16 +34,10 @@ fn is_below(claim: u32, other: u32, v: u32) -> bool
     (claim < v) | (rest < other)
 }
 
-// 1 for a claim that is too low. They are counted, in lanes of 32 bits as the claims are: bools are narrower, and each vector of
-// comparisons would have to be narrowed to them.
-fn one_if(low: bool) -> u32
-    ensures { (result ≡ if low 1 0) × (result ≤ 1) }
-{
-    if low { 1 } else { 0 }
-}
-
 // One count: whether some claim is below the one `far` down in the row before, and `gain`. There is no way out of the loop, so that it
-// runs in vectors.
+// runs in vectors. Claims that are too low are counted, in lanes of 32 bits as the claims are: bools are narrower, and each vector of
+// comparisons would have to be narrowed to them.
+#[tactic(auto, using(meaning::proofs::Numbers::numbers_long))]
 fn breaks_at(cells: &[u8], prior: usize, row: usize, left: usize, far: usize, gain: u32) -> bool
     requires left_bound { left ≤ 65_536 }
     requires left_in_bounds { prior + left ≤ length (numbers_in cells.now) }
@@ -81,12 +47,10 @@ fn breaks_at(cells: &[u8], prior: usize, row: usize, left: usize, far: usize, ga
 {
     let up = row + far;
     let mut low: u32 = 0;
-    let mut c = 0;
-    while c < left {
+    for c in 0..left {
         let claim = numbers::number_in(cells, up + c);
         let other = numbers::number_in(cells, prior + c);
-        low += one_if(is_below(claim, other, gain));
-        c += 1;
+        low += u32::from(is_below(claim, other, gain));
     }
     0 < low
 }
@@ -102,6 +66,7 @@ fn is_below_either(claim: u32, near: u32, gain: u32, other: u32, more: u32) -> b
 }
 
 // A count and the next in one pass: each claim is read once for the two. At the first w budgets only the one fits.
+#[tactic(auto, using(meaning::proofs::Numbers::numbers_long))]
 fn breaks_two(
     cells: &[u8],
     prior: usize,
@@ -126,18 +91,17 @@ fn breaks_two(
     let beside = prior + w;
     let more = gain + v;
     let mut low: u32 = 0;
-    let mut c = 0;
-    while c < left {
+    for c in 0..left {
         let claim = numbers::number_in(cells, up + c);
         let near = numbers::number_in(cells, beside + c);
         let other = numbers::number_in(cells, prior + c);
-        low += one_if(is_below_either(claim, near, gain, other, more));
-        c += 1;
+        low += u32::from(is_below_either(claim, near, gain, other, more));
     }
     0 < low
 }
 
 // Whether some cell of a column up to `end` is below one down the column in the row before, and the value of the count between.
+#[tactic(auto, using(meaning::proofs::Numbers::numbers_long))]
 fn breaks_within(
     cells: &[u8],
     prior: usize,
@@ -154,19 +118,18 @@ fn breaks_within(
 {
     let step = v as u64;
     let mut carried: u64 = 0;
-    let mut c = b;
-    while c < end {
-        let best = greater(cell(cells, prior + c), carried);
+    for c in (b..end).step_by(w) {
+        let best = cell(cells, prior + c).max(carried);
         if cell(cells, row + c) < best {
             return true;
         }
         carried = best + step;
-        c += w;
     }
     false
 }
 
 // Whether some cell of a column from a+copies*w on is below one before it in the row before, at most all copies down.
+#[tactic(auto, using(meaning::proofs::Numbers::numbers_long))]
 fn breaks_across(
     cells: &[u8],
     prior: usize,
@@ -185,19 +148,17 @@ fn breaks_across(
 {
     let step = v as u64;
     let gain = copies as u64 * step;
-    let b = a + copies * w;
+    let apart = copies * w;
+    let b = a + apart;
     let mut least = cell(cells, row + b);
-    let mut x = a;
-    let mut y = b;
-    while x < b {
+    for x in (a..b).step_by(w) {
         if least < cell(cells, prior + x) + gain {
             return true;
         }
-        x += w;
-        y += w;
+        let y = x + apart + w;
         least += step;
         if y < width {
-            least = lesser(cell(cells, row + y), least);
+            least = cell(cells, row + y).min(least);
         }
     }
     false
@@ -221,7 +182,7 @@ fn breaks_column(
         (HighColumn (numbers_in cells.now) prior row width w v copies b) }
 {
     let next = b + (copies * w + w);
-    if breaks_within(cells, prior, row, nearer(next, width), w, v, b) {
+    if breaks_within(cells, prior, row, next.min(width), w, v, b) {
         return true;
     }
     if width <= next {
@@ -247,13 +208,11 @@ fn breaks_block(
     ensures { Finds result (Low (numbers_in cells.now) prior row width w v copies)
         (HighBlock (numbers_in cells.now) prior row width w v copies base) }
 {
-    let stop = nearer(base + w, width);
-    let mut b = base;
-    while b < stop {
+    let stop = (base + w).min(width);
+    for b in base..stop {
         if breaks_column(cells, prior, row, width, w, v, copies, b) {
             return true;
         }
-        b += 1;
     }
     false
 }
@@ -274,18 +233,17 @@ fn breaks_many(
         (High (numbers_in cells.now) prior row width w v copies) }
 {
     let span = copies * w + w;
-    let mut base = 0;
-    while base < width {
+    for base in (0..width).step_by(span) {
         if breaks_block(cells, prior, row, width, w, v, copies, base) {
             return true;
         }
-        base += span;
     }
     false
 }
 
 // The same count by count, two in a pass, and the last alone where their number is odd. None and one, which are all that kind 1 has, come
 // first and by themselves: nothing is taken off a claim for none.
+#[tactic(auto, using(crate::proofs::Cells::few_copies))]
 fn breaks_few(
     cells: &[u8],
     prior: usize,
@@ -307,21 +265,19 @@ fn breaks_few(
     if breaks_two(cells, prior, row, width - w, 0, w, 0, v) {
         return true;
     }
-    let mut far = w + w;
-    let mut gain = v + v;
-    let mut count = 2;
-    while count < copies {
+    for pair in 1..(copies + 1) / 2 {
+        let count = 2 * pair;
+        let far = count * w;
+        let gain = count as u32 * v;
         if breaks_two(cells, prior, row, width - far - w, far, w, gain, v) {
             return true;
         }
-        far += w + w;
-        gain += v + v;
-        count += 2;
     }
-    if copies < count {
+    if copies % 2 == 1 {
         return false;
     }
-    breaks_at(cells, prior, row, width - far, far, gain)
+    let far = copies * w;
+    breaks_at(cells, prior, row, width - far, far, copies as u32 * v)
 }
 
 // Whether a row of claims breaks rule 14 at some budget below `end`, for some count of the label up to `most`.
@@ -339,8 +295,8 @@ pub fn row_breaks(
     ensures { result ≡ some_of (low_in (numbers_in cells.now) row width w v most) end }
 {
     let prior = row - width;
-    let weight = nearer(w as usize, end);
-    let copies = nearer(most as usize, (end - 1) / weight);
+    let weight = (w as usize).min(end);
+    let copies = (most as usize).min((end - 1) / weight);
     if copies <= FEW {
         return breaks_few(cells, prior, row, end, weight, v, copies);
     }
@@ -353,7 +309,7 @@ pub fn stretch_breaks(cells: &[u8], from: usize, end: usize, w: u32, v: u32) -> 
     ensures { result ≡ some_of (λ (i : ℕ). below_one (numbers_in cells.now) w v (from + i)) (end - from) }
 {
     let weight = w as usize;
-    let start = farther(from, weight);
+    let start = from.max(weight);
     if end <= start {
         return false;
     }

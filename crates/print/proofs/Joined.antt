@@ -1,46 +1,23 @@
--- Texts that are put one after the other: byte by byte, number by number, line by line.
+-- Texts that are put one after the other: number by number, line by line.
 -- Assumes nothing.
 use Prim.Native.Nat.{ℕ, ◌+◌, ◌≤◌, ◌<◌}
 use mathlib.Core.Path.{◌≡◌, sym, ap, subst, ◌∙◌}
 use mathlib.Core.Bool.{Bool}
-use mathlib.Core.List.{List, [], ◌∷◌, ◌++◌}
+use mathlib.Core.List.{List, [], ◌++◌}
 use native.Mathlib.Omega.{arith}
-use native.Mathlib.Numerals.{add-one}
-use lib.ListN.{length, take, drop, set, length-append}
-use lib.Seq.{length-take-le, take-suc, take_all, set_split, drop-drop, take_at}
+use lib.ListN.{length, take, drop, length-append}
+use lib.Seq.{take_all, take_at}
 use mir.Val.{bool_byte}
 use Rattle.meaning.specs.Says.{Answer}
 use Rattle.meaning.specs.Lists.{at}
 use Rattle.meaning.specs.Slices.{Holds}
-use Rattle.numbers.specs.Placed.{HoldsAt, WrittenAt}
+use Rattle.numbers.specs.Placed.{WrittenAt}
 use Rattle.numbers.proofs.Placed.{nothing, joined, from_start}
 use Rattle.print.specs.Lines.{ascii, decimal_of, after_blank, after_blanks, line, line_of, picks_line, head_lines}
 use Rattle.print.specs.Lines.{knapsack_lines, sums_lines, number_and_picks, lines_of}
 use Rattle.print.specs.Puts.{PutFirst}
 use Rattle.print.proofs.Lengths.{number_long, line_parts, line_long, picks_long, blanks_next, blanks_room}
 use Rattle.print.proofs.Lengths.{knapsack_long, sums_parts, sums_long, number_and_picks_long}
-
--- ---- byte by byte
-
-one_store : (l : List ℕ) (p a : ℕ) → p < length l → HoldsAt p (a ∷ []) l (set l p a)
-unfolding HoldsAt
-one_store l p a h = rw (drop-drop 1 p l, add-one) (set_split l p a h)
-
--- with the first i bytes put, and byte i after them
-pub next_byte : (p : ℕ) (bytes before mid : List ℕ) (i : ℕ) → i < length bytes → p + length bytes ≤ length before → length mid ≡ length before
-    → HoldsAt p (take i bytes) before mid → HoldsAt p (take (i + 1) bytes) before (set mid (p + i) (at bytes i))
-next_byte p bytes before mid i h fits same first =
-    let long = length-take-le i bytes (omega arith) in
-    rw (add-one, take-suc bytes i 0 h)
-    (joined p (take i bytes) before mid (omega arith) first (at bytes i ∷ []) _ (rw long (one_store mid (p + i) (at bytes i) (omega arith))))
-
--- with all bytes put
-pub all_bytes : (p : ℕ) (bytes before after : List ℕ) (i : ℕ) → i ≤ length bytes → length bytes ≤ i → HoldsAt p (take i bytes) before after
-    → WrittenAt p bytes before after (p + i)
-all_bytes p bytes before after i within past put = record {
-  written = rw (take_all i bytes past) at put;
-  ends = omega arith;
-}
 
 -- ---- text after text
 

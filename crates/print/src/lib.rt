@@ -11,16 +11,14 @@ ghost use Rattle.print.specs.Puts.{PutFirst};
 use meaning::Answer;
 
 // Puts bytes at p, and gives the place after them.
+#[tactic(auto, unfolding(numbers::specs::Placed::HoldsAt))]
 fn put_bytes(out: &mut [u8], p: usize, bytes: &[u8]) -> usize
     requires { p + length bytes.now ≤ length out.old }
     ensures { WrittenAt p bytes.now out.old out.new result }
 {
-    let mut i = 0;
-    while i < bytes.len() {
-        out[p + i] = bytes[i];
-        i += 1;
-    }
-    p + i
+    let end = p + bytes.len();
+    out[p..end].copy_from_slice(bytes);
+    end
 }
 
 // Puts a blank and a number at p, and gives the place after them.
@@ -50,10 +48,8 @@ fn put_picks(out: &mut [u8], p: usize, picks: &[u32]) -> usize
     ensures { WrittenAt p (picks_line picks.now) out.old out.new result }
 {
     let mut end = put_bytes(out, p, b"picks");
-    let mut i = 0;
-    while i < picks.len() {
-        end = put_number(out, end, picks[i] as u64);
-        i += 1;
+    for pick in picks {
+        end = put_number(out, end, *pick as u64);
     }
     put_bytes(out, end, b"\n")
 }

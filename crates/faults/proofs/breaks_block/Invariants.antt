@@ -1,11 +1,7 @@
 -- `faults::breaks_block` meets its contract, column by column.
-use Rattle.std.proofs.Common.{◌-◌}
 use Rattle.meaning.specs.Bytes.{numbers_in}
 use Rattle.faults.proofs.Blocks.{ColumnsKept}
 use Rattle.faults.proofs.breaks_block.Given as goal
 
 abbrev pub invariant-loop-b : goal.invariant-loop-b
 invariant-loop-b l = ColumnsKept (numbers_in l.cells) l.prior l.row l.width l.w l.v l.copies l.base l.b
-
-abbrev pub decreases-loop-b : goal.decreases-loop-b
-decreases-loop-b l = l.stop - l.b

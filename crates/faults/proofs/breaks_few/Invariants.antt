@@ -1,11 +1,8 @@
 -- `faults::breaks_few` meets its contract, count by count.
-use Rattle.std.proofs.Common.{◌+◌, ◌-◌, ◌≤◌}
+use Rattle.std.proofs.Common.{ℕ, ◌-◌, ◌*◌, ◌<◌}
 use Rattle.meaning.specs.Bytes.{numbers_in}
-use Rattle.faults.proofs.Counts.{CountsPassed}
+use Rattle.faults.specs.Columns.{HighAt}
 use Rattle.faults.proofs.breaks_few.Given as goal
 
-abbrev pub invariant-loop-count : goal.invariant-loop-count
-invariant-loop-count l = (l.count ≤ l.copies + 1) × CountsPassed (numbers_in l.cells) l.prior l.row l.width l.w l.v l.count l.far l.gain
-
-abbrev pub decreases-loop-count : goal.decreases-loop-count
-decreases-loop-count l = l.copies + 1 - l.count
+abbrev pub invariant-loop-pair : goal.invariant-loop-pair
+invariant-loop-pair l = (k : ℕ) → k < 2 * l.pair → HighAt (numbers_in l.cells) l.prior l.row (l.width - k * l.w) (k * l.w) (k * l.v)

@@ -1,48 +1,15 @@
 -- `faults::row_breaks` meets its contract: what is found for the weight and the copies that fit holds for the label's own.
-use Rattle.std.proofs.Common.{◌≡◌, ◌-◌, Bool, arith}
-use Rattle.meaning.specs.Bytes.{numbers_in}
-use Rattle.meaning.specs.Certificates.{some_of}
-use Rattle.faults.specs.LowRows.{low_in}
-use Rattle.faults.specs.Columns.{Finds, TwoRows, CopiesFit, Low, High}
-use Rattle.faults.proofs.Rule.{part_fits, part_found}
+use Rattle.faults.proofs.Rule.{part_found}
 use Rattle.faults.proofs.row_breaks.Goals as goal
-
-pub breaks_few-requires : goal.breaks_few-requires
-breaks_few-requires c =
-    let both_there : TwoRows (numbers_in c.args.cells.now) (c.args.row - c.args.width) c.args.row c.args.end = let there = c.requires.row_there in
-    let part = c.requires.budgets in
-    record { prior_ends = omega (arith, there.not_first, there.ends, part.inside); row_ends = omega (arith, there.ends, part.inside) } in
-    let cut_fits : CopiesFit c.args.end c.nearer-weight.result c.nearer-copies.result = let part = c.requires.budgets in
-    part_fits _ c.args.w _ c.nearer-weight.ensures c.args.most _ part.weighs part.some c.nearer-copies.ensures
-    (omega (arith, part.inside, part.narrow)) in
-    record { two_rows = both_there; copies_fit = cut_fits; v_bound = c.requires.budgets.small }
 
 pub returns-then-copies-le-FEW : goal.returns-then-copies-le-FEW
 returns-then-copies-le-FEW c =
-    let told : let a = c.args in (r : Bool)
-    → let w = c.nearer-weight.result in let copies = c.nearer-copies.result in let claims = numbers_in a.cells.now in
-    Finds r (Low claims (a.row - a.width) a.row a.end w a.v copies) (High claims (a.row - a.width) a.row a.end w a.v copies)
-    → r ≡ some_of (low_in claims a.row a.width a.w a.v a.most) a.end = let part = c.requires.budgets in
-    part_found _ c.args.w _ c.nearer-weight.ensures _ _ part.weighs part.some c.nearer-copies.ensures
-    _ _ c.args.width _ c.requires.row_there.not_first in
-    told _ c.breaks_few.ensures
-
-pub breaks_many-requires : goal.breaks_many-requires
-breaks_many-requires c =
-    let both_there : TwoRows (numbers_in c.args.cells.now) (c.args.row - c.args.width) c.args.row c.args.end = let there = c.requires.row_there in
     let part = c.requires.budgets in
-    record { prior_ends = omega (arith, there.not_first, there.ends, part.inside); row_ends = omega (arith, there.ends, part.inside) } in
-    let cut_fits : CopiesFit c.args.end c.nearer-weight.result c.nearer-copies.result = let part = c.requires.budgets in
-    part_fits _ c.args.w _ c.nearer-weight.ensures c.args.most _ part.weighs part.some c.nearer-copies.ensures
-    (omega (arith, part.inside, part.narrow)) in
-    record { two_rows = both_there; copies_fit = cut_fits }
+    part_found _ c.args.w _ c.min-weight.ensures _ _ part.weighs part.some c.min-copies.ensures _ _ c.args.width _
+    c.requires.row_there.not_first _ c.breaks_few.ensures
 
 pub returns : goal.returns
 returns c =
-    let told : let a = c.args in (r : Bool)
-    → let w = c.nearer-weight.result in let copies = c.nearer-copies.result in let claims = numbers_in a.cells.now in
-    Finds r (Low claims (a.row - a.width) a.row a.end w a.v copies) (High claims (a.row - a.width) a.row a.end w a.v copies)
-    → r ≡ some_of (low_in claims a.row a.width a.w a.v a.most) a.end = let part = c.requires.budgets in
-    part_found _ c.args.w _ c.nearer-weight.ensures _ _ part.weighs part.some c.nearer-copies.ensures
-    _ _ c.args.width _ c.requires.row_there.not_first in
-    told _ c.breaks_many.ensures
+    let part = c.requires.budgets in
+    part_found _ c.args.w _ c.min-weight.ensures _ _ part.weighs part.some c.min-copies.ensures _ _ c.args.width _
+    c.requires.row_there.not_first _ c.breaks_many.ensures

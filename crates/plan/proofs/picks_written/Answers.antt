@@ -1,5 +1,5 @@
 -- `plan::picks_written` meets its contract: each of its two arms is told the variants that it takes.
-use Rattle.std.proofs.Common.{inl, inr}
+use Rattle.std.proofs.Common.{inl, inr, refl}
 use Rattle.plan.specs.Picks.{picks_written}
 use Rattle.plan.proofs.picks_written.Goals as goal
 
@@ -17,7 +17,7 @@ pub returns-in-Sums : goal.returns-in-Sums
 unfolding picks_written
 returns-in-Sums c =
     elim c.in-Sums.is [
-      | inl (reached, totals, is) ↦ rw is
-      | inr (inl (ways, is)) ↦ rw is
-      | inr (inr (refused, is)) ↦ rw is
+      | inl (reached, totals, is) ↦ rw is refl
+      | inr (inl (ways, is)) ↦ rw is refl
+      | inr (inr (refused, is)) ↦ rw is refl
     ]
