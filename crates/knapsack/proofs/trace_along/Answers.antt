@@ -13,9 +13,9 @@ use Rattle.knapsack.proofs.trace_along.Goals as goal
 
 pub loop-label-init : goal.loop-label-init
 loop-label-init c = record {
+  traced = along_begins _ _ _ _ _ (c.fill.auto.self ∙ sym c.requires.capped.1) (search rules);
   some_of = omega arith;
   within = omega (arith, c.requires.bounded.wide);
-  traced = along_begins _ _ _ _ _ (c.fill.auto.self ∙ sym c.requires.capped.1) (search rules);
 }
 
 pub overflow_sub-c-then-leads : goal.overflow_sub-c-then-leads
@@ -38,19 +38,19 @@ unfolding turn_of
 loop-label-preserved-then-leads c =
     let w = c.at-w.ensures in
     let l = c.loop-label in record {
+      traced = rw (add-one, w) (taken l.invariant.traced (omega arith) (rw (← w, ← c.at-v.ensures) (sym c.leads.ensures ∙ c.if-leads.true)));
       some_of = l.invariant.some_of;
       within = omega arith;
-      traced = rw (add-one, w) (taken l.invariant.traced (omega arith) (rw (← w, ← c.at-v.ensures) (sym c.leads.ensures ∙ c.if-leads.true)));
     }
 
 pub loop-label-preserved : goal.loop-label-preserved
 unfolding turn_of
 loop-label-preserved c =
     let l = c.loop-label in record {
-      some_of = omega arith;
-      within = l.invariant.within;
       traced = rw add-one (passed l.invariant.traced (omega arith)
           (rw (← c.at-w.ensures, ← c.at-v.ensures) (sym c.leads.ensures ∙ c.if-leads.false)));
+      some_of = omega arith;
+      within = l.invariant.within;
     }
 
 pub returns : goal.returns

@@ -7,9 +7,9 @@ use Rattle.knapsack.proofs.trace_along.Given as goal
 
 abbrev pub invariant-loop-label : goal.invariant-loop-label
 invariant-loop-label l = record {
+  traced : AlongTo (at l.row) l.weights l.values (length l.row - 1) l.label l.c l.picks;
   some_of : l.label ≤ length l.weights;
   within : l.c < length l.row;
-  traced : AlongTo (at l.row) l.weights l.values (length l.row - 1) l.label l.c l.picks;
 }
 
 abbrev pub decreases-loop-label : goal.decreases-loop-label
