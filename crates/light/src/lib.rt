@@ -22,14 +22,7 @@ use numbers::Numbers;
 fn rise(x: u32, y: u32) -> u8
     ensures { result ≡ rose x y }
 {
-    if x < y { 1 } else { 0 }
-}
-
-// A byte as a wider number.
-fn wide(x: u8) -> u64
-    ensures { (result ≡ x) × (result < 256) }
-{
-    x as u64
+    u8::from(x < y)
 }
 
 // The four bytes at p as one number, lowest first.
@@ -37,7 +30,7 @@ fn four(b: &[u8; 64], p: usize) -> u64
     requires { Few b.now 64 × (p + 4 ≤ 64) }
     ensures { (result ≡ spaced (λ i. at b.now (p + i)) 4) × (result ≤ 16_843_009) }
 {
-    wide(b[p]) + wide(b[p + 1]) * 256 + wide(b[p + 2]) * 65_536 + wide(b[p + 3]) * 16_777_216
+    u64::from(b[p]) + u64::from(b[p + 1]) * 256 + u64::from(b[p + 2]) * 65_536 + u64::from(b[p + 3]) * 16_777_216
 }
 
 // The eight bytes at p as one number, lowest first: one load.
@@ -110,7 +103,7 @@ fn raise_few(row: &mut [u32], c: usize, n: usize, w: usize, v: u32) -> u64
     for k in (0..n).rev() {
         let without = row[c + k];
         let with = row[c + k - w] + v;
-        bits = (bits << 1) + wide(rise(without, with));
+        bits = (bits << 1) + u64::from(rise(without, with));
         row[c + k] = u32::max(without, with);
     }
     bits

@@ -11,4 +11,4 @@ pub loop-k-preserved : goal.loop-k-preserved
 loop-k-preserved c =
     let l = c.loop-k in
     falling_more _ _ _ _ c.args.n l.k l.bits _ _ l.row (omega arith) (omega arith) (omega arith) (omega arith) l.invariant
-    (c.wide.ensures.0 ∙ c.rise.ensures) c.max.ensures
+    (c.from.ensures ∙ c.rise.ensures) c.max.ensures
