@@ -5,7 +5,7 @@ use Prim.Native.Nat.{ℕ, zero, suc, ◌+◌, ◌-◌, ◌*◌, ◌/◌, ◌%◌
 use native.Mathlib.Nat.{two-pow-succ, zero-add, add-mul, mul_assoc, mul-add, mod-lt}
 use native.Mathlib.Omega.{arith}
 use lib.Pow.{pow_pos, pow-add, shl_exact, shl_lt, high, low, split}
-use Rattle.rows.proofs.Bits.{bit_of, bit_shr, bit_above}
+use Rattle.rows.proofs.Bits.{bit_of, bit_shr}
 use Rattle.light.specs.Bits.{binary}
 
 -- the first n bits are 0 or 1
@@ -42,9 +42,6 @@ binary_bit f (suc n) zero h l = bit_first (f 0) (binary (λ i. f (suc i)) n) (h 
 binary_bit f (suc n) (suc k) h l =
     bit_next (f 0) (binary (λ i. f (suc i)) n) k (h 0 (omega arith))
     ∙ binary_bit (λ i. f (suc i)) n k (λ m b. h (suc m) (omega arith)) (omega arith)
-
-pub binary_past : (f : ℕ → ℕ) (n k : ℕ) → Bits f n → n ≤ k → bit_of (binary f n) k ≡ 0
-binary_past f n k h l = bit_above (binary f n) n k (binary_lt f n h) l
 
 -- ---- bits from the highest down
 

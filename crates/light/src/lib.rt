@@ -30,7 +30,10 @@ fn four(b: &[u8; 64], p: usize) -> u64
     requires { Few b.now 64 × (p + 4 ≤ 64) }
     ensures { (result ≡ spaced (λ i. at b.now (p + i)) 4) × (result ≤ 16_843_009) }
 {
-    u64::from(b[p]) + u64::from(b[p + 1]) * 256 + u64::from(b[p + 2]) * 65_536 + u64::from(b[p + 3]) * 16_777_216
+    u64::from(b[p])
+        + u64::from(b[p + 1]) * 256
+        + u64::from(b[p + 2]) * 65_536
+        + u64::from(b[p + 3]) * 16_777_216
 }
 
 // The eight bytes at p as one number, lowest first: one load.
