@@ -16,11 +16,11 @@ use Rattle.meaning.proofs.Totals.{one_more, one_fewer, more_total, fewer_total}
 use Rattle.meaning.proofs.Steps.{best_none, none_better}
 use Rattle.meaning.proofs.Free.{free_more, free_fewer}
 use Rattle.meaning.proofs.Greedy.{first_is}
-use Rattle.rows.specs.Rows.{GreatestRow, AnyCount, Capped, leads_on}
+use Rattle.rows.specs.Rows.{AnyCount, Capped, leads_on}
 use Rattle.rows.proofs.Stores.{by}
 use Rattle.rows.proofs.LeadsOn.{leads_true, leads_false}
 use Rattle.rows.proofs.Counts.{greatest_capped, greatest_best}
-use Rattle.rows.proofs.Rounds.{each_round, Rounds}
+use Rattle.rows.proofs.Rounds.{each_round}
 use Rattle.rows.specs.Traces.{Trace, start}
 use Rattle.rows.proofs.Traces.{trace_few, trace_spent, trace_chosen}
 use Rattle.rows.specs.Bounded.{Bounded}
@@ -48,16 +48,6 @@ climbed_capped ws vs width i row b =
     (λ s none c l. omega (arith, none c l))
     (λ k s t inside capped up. greatest_capped AnyCount (at s) (at t) (at ws k) (at vs k) width (b.heavy k inside) (b.cheap k inside) capped up)
     i row
-
--- the loop over n labels: i of them have made the row
-abbrev pub Climbing : List ℕ → List ℕ → ℕ → ℕ → ℕ → List ℕ → Type 0
-Climbing ws vs n width i row =
-    Rounds (λ wide s. (c : ℕ) → c < wide → at s c ≡ 0) (λ wide m s t. GreatestRow AnyCount (at s) (at ws m) (at vs m) wide (at t)) n width i row
-
--- it keeps the row capped, which the next label asks
-pub climbing_capped : (ws vs : List ℕ) (n width i : ℕ) (row : List ℕ) → Bounded (length row) ws vs → i ≤ length ws → Climbing ws vs n width i row
-    → Capped (at row) (length row)
-climbing_capped ws vs n width i row b few d = rw d.long (climbed_capped ws vs width i row (rw d.long at b) few d.made)
 
 -- ---- the trace along
 

@@ -2,7 +2,7 @@
 -- Assumes nothing.
 use mathlib.Core.Path.{◌≡◌, sym, ◌∙◌}
 use Prim.Native.Nat.{ℕ, zero, suc, ◌+◌, ◌*◌, ◌≤◌, ◌<◌}
-use native.Mathlib.Nat.{suc-mul, mul-le-mul_right, zero-mul}
+use native.Mathlib.Nat.{suc-mul, mul-le-mul_right}
 use native.Mathlib.Omega.{arith}
 use mathlib.Core.List.{List, ◌++◌}
 use lib.ListN.{length}
@@ -11,7 +11,7 @@ use Rattle.meaning.specs.Job.{Job, Knapsack, labels}
 use Rattle.meaning.specs.Orders.{last_least}
 use Rattle.meaning.specs.Bounds.{most_value}
 use Rattle.meaning.specs.Knapsacks.{MayPick, BestValue, BestPicks, order_of}
-use Rattle.rows.specs.Rows.{SomeCount, GreatestRow, Stored, NextRow, Capped}
+use Rattle.rows.specs.Rows.{SomeCount, GreatestRow, NextRow, Capped}
 use Rattle.rows.proofs.Stores.{by}
 use Rattle.rows.proofs.Counts.{greatest_same, greatest_may, greatest_capped}
 use Rattle.rows.specs.Bounded.{Bounded}
@@ -21,28 +21,16 @@ use Rattle.rows.proofs.AnyRows.{one_row_more, rows_best, count_back, picks_back,
 
 -- ---- the table as it is filled
 
--- the rows of labels up to i + 1 are within those of n labels
-pub rows_within : (i n width : ℕ) → i < n → i * width + width + width ≤ (n + 1) * width
-rows_within i n width h = omega (arith, mul-le-mul_right width h, suc-mul i width, one_row_more n width)
-
 module _ (ws vs : List ℕ) (limit : ℕ → ℕ) (width : ℕ) where
-  -- the row of no labels
-  pub filled_none : (s t : List ℕ) → Stored s t 0 0 width (λ c. 0) → Filled ws vs limit width 0 t
-  filled_none s t d = record {
-    first = λ c h. let here : 0 * width + c ≡ 0 + c = omega (arith, zero-mul width) in rw here (d.cells c (omega arith) h);
-    next = λ m h. absurd (omega arith);
-  }
-
   -- rows before row i end before it
   rows_below : (m i c : ℕ) → m < i → c < width → m * width + c < i * width
   rows_below m i c h l = omega (arith, mul-le-mul_right width h, suc-mul m width)
 
   -- one row more
-  pub filled_more : (i from w v most : ℕ) (t u : List ℕ) → from ≡ i * width → w ≡ at ws i → v ≡ at vs i → most ≡ limit i
-      → Filled ws vs limit width i t → NextRow t u from width w v most → Filled ws vs limit width (i + 1) u
+  pub filled_more : (i : ℕ) (t u : List ℕ) → Filled ws vs limit width i t → NextRow t u (i * width) width (at ws i) (at vs i) (limit i)
+      → Filled ws vs limit width (i + 1) u
   unfolding GreatestRow
-  filled_more i from w v most t u e₁ e₂ e₃ e₄ d r₀ =
-      let r = rw (e₁, e₂, e₃, e₄) at r₀ in
+  filled_more i t u d r =
       let kept : (m c : ℕ) → m ≤ i → c < width → row_of t width m c ≡ row_of u width m c = λ m c h l.
       sym (r.before (m * width + c) (omega (arith, rows_below m (i + 1) c (omega arith) l, one_row_more i width))) in
       record {

@@ -49,16 +49,11 @@ fn fill(
         (length weights.now) cells.new }
 {
     rows::set_all(cells, width, 0);
-    let n = weights.len();
-    let mut i = 0;
-    let mut from = 0;
-    while i < n {
+    for i in 0..weights.len() {
         let w = weights.at(i);
         let v = values.at(i);
         let limit = allowed(kind, copies, i);
-        rows::next_row(cells, from, width, w, v, limit);
-        from += width;
-        i += 1;
+        rows::next_row(cells, i * width, width, w, v, limit);
     }
 }
 
@@ -80,10 +75,8 @@ fn trace_back(
         values.now (length weights.now)
         (width - 1) 0 result picks.new }
 {
-    let mut i = picks.len();
     let mut c = width - 1;
-    while 0 < i {
-        i -= 1;
+    for i in (0..picks.len()).rev() {
         let w = weights.at(i);
         let v = values.at(i);
         let from = i * width;
@@ -103,35 +96,26 @@ fn fill_row(weights: &Numbers, values: &Numbers, row: &mut [u32])
     ensures { Climbed weights.now values.now
         (length row.old) (length weights.now) row.new }
 {
-    let width = row.len();
-    rows::set_all(row, width, 0);
-    let n = weights.len();
-    let mut i = 0;
-    while i < n {
+    row.fill(0);
+    for i in 0..weights.len() {
         let w = weights.at(i);
         let v = values.at(i);
         rows::add_any_number(row, w, v);
-        i += 1;
     }
 }
 
 // The picks of kind 3, by the trace along the labels. Gives what is left of the budget.
-fn trace_along(
-    weights: &Numbers,
-    values: &Numbers,
-    row: &[u32],
-    picks: &mut [u32],
-) -> usize
+fn trace_along(weights: &Numbers, values: &Numbers, row: &[u32], picks: &mut [u32]) -> usize
     requires bounded { Bounded (length row.now) weights.now values.now }
     requires capped { Capped (at row.now) (length row.now) × (length weights.now ≡ length picks.old) }
     ensures { TraceAlong (at row.now) weights.now
         values.now (length row.now - 1) result picks.new }
 {
-    let n = picks.len();
-    rows::set_all(picks, n, 0);
+    picks.fill(0);
     let mut label = 0;
     let mut c = row.len() - 1;
-    while label < n {
+    // No `for`: a label that leads on has the next turn again.
+    while label < picks.len() {
         let w = weights.at(label);
         let v = values.at(label);
         if rows::leads(row, w, v, c) {
@@ -166,21 +150,8 @@ fn full_table(
     let n = weights.len();
     let width = budget as usize + 1;
     let needed = (n + 1) * width;
-    fill(
-        kind,
-        weights,
-        values,
-        copies,
-        width,
-        &mut cells[..needed],
-    );
-    let left = trace_back(
-        weights,
-        values,
-        width,
-        &cells[..needed],
-        &mut picks[..n],
-    );
+    fill(kind, weights, values, copies, width, &mut cells[..needed]);
+    let left = trace_back(weights, values, width, &cells[..needed], &mut picks[..n]);
     Answer::Knapsack {
         value: cells[needed - 1],
         weight: budget - left as u32,
@@ -204,12 +175,7 @@ fn one_row(
     let n = weights.len();
     let width = budget as usize + 1;
     fill_row(weights, values, &mut cells[..width]);
-    let left = trace_along(
-        weights,
-        values,
-        &cells[..width],
-        &mut picks[..n],
-    );
+    let left = trace_along(weights, values, &cells[..width], &mut picks[..n]);
     Answer::Knapsack {
         value: cells[width - 1],
         weight: budget - left as u32,
@@ -235,7 +201,5 @@ pub fn solve(
     if kind == 3 {
         return one_row(budget, weights, values, cells, picks);
     }
-    full_table(
-        kind, budget, weights, values, copies, cells, picks,
-    )
+    full_table(kind, budget, weights, values, copies, cells, picks)
 }

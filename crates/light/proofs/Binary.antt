@@ -2,10 +2,10 @@
 -- Assumes nothing.
 use mathlib.Core.Path.{◌≡◌, refl, sym, ap, ap₂, ◌∙◌}
 use Prim.Native.Nat.{ℕ, zero, suc, ◌+◌, ◌-◌, ◌*◌, ◌/◌, ◌%◌, ◌^◌, ◌≤◌, ◌<◌}
-use native.Mathlib.Nat.{two-pow-succ, lt_of_lt_of_le, zero-add, add-mul, mul_assoc, mul-add, mod-lt}
+use native.Mathlib.Nat.{two-pow-succ, zero-add, add-mul, mul_assoc, mul-add, mod-lt}
 use native.Mathlib.Omega.{arith}
-use lib.Pow.{pow_pos, pow_mono, pow-add, shl_exact, shl_lt, high, low, split}
-use Rattle.rows.proofs.Bits.{bit_of, bit_shr, bit_above}
+use lib.Pow.{pow_pos, pow-add, shl_exact, shl_lt, high, low, split}
+use Rattle.rows.proofs.Bits.{bit_of, bit_shr}
 use Rattle.light.specs.Bits.{binary}
 
 -- the first n bits are 0 or 1
@@ -43,18 +43,9 @@ binary_bit f (suc n) (suc k) h l =
     bit_next (f 0) (binary (λ i. f (suc i)) n) k (h 0 (omega arith))
     ∙ binary_bit (λ i. f (suc i)) n k (λ m b. h (suc m) (omega arith)) (omega arith)
 
-pub binary_past : (f : ℕ → ℕ) (n k : ℕ) → Bits f n → n ≤ k → bit_of (binary f n) k ≡ 0
-binary_past f n k h l = bit_above (binary f n) n k (binary_lt f n h) l
-
 -- ---- bits from the highest down
 
 module _ (f : ℕ → ℕ) (n : ℕ) (few : Bits f n) (short : n ≤ 64) where
-  -- all of them
-  pub bits_all : (i r : ℕ) → i ≡ 0 → r ≡ binary (λ m. f (i + m)) (n - i) → r ≡ binary f n
-  bits_all i r e h =
-      let none : n - i ≡ n = omega arith in
-      h ∙ rw none (binary_same (λ m. f (i + m)) f n (λ k l. ap f (omega arith)))
-
   module _ (i r : ℕ) (within : i ≤ n) (so_far : r ≡ binary (λ m. f (i + m)) (n - i)) where
     short_so_far : r < 2 ^ (n - i)
     short_so_far = rw so_far (binary_lt (λ m. f (i + m)) (n - i) (λ k l. few (i + k) (omega arith)))
@@ -68,12 +59,6 @@ module _ (f : ℕ → ℕ) (n : ℕ) (few : Bits f n) (short : n ≤ 64) where
         let others : binary (λ m. f (i - 1 + suc m)) (n - i) ≡ binary (λ m. f (i + m)) (n - i) =
         binary_same (λ m. f (i - 1 + suc m)) (λ m. f (i + m)) (n - i) (λ k l. ap f (omega arith)) in
         rw long (omega (arith, first, others, so_far, e, shl_exact (n - i) 1 64 short_so_far (omega arith)))
-
-    pub one_fits : (b : ℕ) → 0 < i → b ≡ f (i - 1) → r * 2 ^ 1 % 2 ^ 64 + b < 2 ^ 64
-    one_fits b pos e =
-        rw (one_more b pos e)
-        (let up : n - (i - 1) ≤ 64 = omega arith in
-        lt_of_lt_of_le (binary_lt (λ m. f (i - 1 + m)) (n - (i - 1)) (λ k l. few (i - 1 + k) (omega arith))) (pow_mono up))
 
 -- ---- bits in two parts
 

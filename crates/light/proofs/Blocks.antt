@@ -40,16 +40,6 @@ risen_over s t n w v r h old inside done d = record {
   bits = rw d.bits (bits_high (λ i. rose (at s (w + i)) (at s (w + i - w) + v)) n h (λ k l. omega arith));
 }
 
-pub lowered : (s t : List ℕ) (m bits high r : ℕ) → 0 < m → m ≤ length t → Stored s t 0 0 (m - 1) (λ k. 0)
-    → r ≡ bits * 2 ^ high % 2 ^ 64 + 0 / 2 ^ (64 - high) → Lowered s (set t (m - 1) r) m bits high
-lowered s t m bits high r pos room zeros e =
-    let nothing : 0 / 2 ^ (64 - high) ≡ 0 = div-eq_of_lt (pow_pos (64 - high)) in
-    record {
-      next = λ h. at_same t (m - 1) r (m - 1) (omega arith) refl ∙ omega (arith, nothing);
-      others = λ k h. at_other t (m - 1) r k (omega arith) ∙ stored_each s t (m - 1) (λ i. 0) zeros k (omega arith);
-      past = λ k h. at_other t (m - 1) r k (omega arith) ∙ zeros.past k (omega arith);
-    }
-
 -- ---- the bits of a label
 
 -- whether the label raises the cell of place x, of which the first 64 stand before the row: so a block may start there

@@ -6,17 +6,16 @@ use native.Mathlib.Nat.{zero-mul, one-mul, suc-mul, mul-le-mul_right, mul-le-mul
 use native.Mathlib.Numerals.{add-one}
 use native.Mathlib.Omega.{arith}
 use mathlib.Core.List.{List, ◌++◌}
-use lib.ListN.{length, take, drop, length-append, length-take, length-drop}
+use lib.ListN.{length, take, drop}
 use Rattle.meaning.specs.Lists.{at}
 use Rattle.meaning.specs.Bounds.{most_value, most_budget}
 use Rattle.meaning.specs.Sums.{bit, Tells}
-use Rattle.rows.specs.Rows.{Raised, Stored, Capped}
-use Rattle.rows.proofs.Stores.{by, stored_each}
+use Rattle.rows.specs.Rows.{Raised, Capped}
+use Rattle.rows.proofs.Stores.{by}
 use Rattle.rows.proofs.Counts.{raised_capped}
 use Rattle.rows.proofs.Parts.{part_of, part_long, put_at, put_before}
 use Rattle.rows.proofs.Bits.{bit_in, bit_same}
 use Rattle.rows.specs.Bounded.{Bounded}
-use Rattle.rows.proofs.AnyRows.{one_row_more}
 use Rattle.light.specs.Bits.{RisenAll}
 use Rattle.light.specs.Labels.{row_after, Lit}
 
@@ -44,29 +43,28 @@ module _ (ws vs : List ℕ) where
   row_fits width b i h k l = omega (arith, row_capped width b i (omega arith) k (omega arith), b.cheap i h, b.heavy i h, b.narrow)
 
   module _ (width per : ℕ) where
-    -- no labels
-    pub lit_none : (s t words : List ℕ) → Stored s t 0 0 width (λ c. 0) → Lit ws vs width per 0 t words
-    unfolding row_after
-    lit_none s t words d = record {
-      cells = stored_each s t width (λ c. 0) d;
-      set = λ m c h. absurd (omega arith);
-      above = λ m c h. absurd (omega arith);
-      narrow = λ k h. absurd (omega (arith, zero-mul per));
-    }
-
     -- the words of a label before label i end before those of label i
     words_before : (m i c : ℕ) → m < i → c < 64 * per → (64 * (m * per) + c) / 64 < i * per
     words_before m i c h l = omega (arith, mul-le-mul_right per h, suc-mul m per)
 
-    -- one label more
-    module _ (i from : ℕ) (row row' words part : List ℕ) (wide : width ≤ 64 * per) (here : from ≡ i * per)
-        (fits : from + per ≤ length words) (long : length part ≡ per)
-        (so_far : Lit ws vs width per i row words) (up : RisenAll row row' part (at ws i) (at vs i) width per) where
+    -- one label more, of n
+    module _ (n i : ℕ) (row row' words part : List ℕ) (wide : width ≤ 64 * per) (inside : i < n) (all : n * per ≡ length words)
+        (so_far : Lit ws vs width per i row words) (kept : length part ≡ length (part_of words (i * per) per))
+        (raised : RisenAll row row' part (at ws i) (at vs i) width (length (part_of words (i * per) per))) where
+      abbrev from : ℕ
+      from = i * per
+
       abbrev words' : List ℕ
       words' = take from words ++ (part ++ drop (from + per - from) (drop from words))
 
-      pub words_long : length words' ≡ length words
-      words_long = simp (length-append, length-take, length-drop) (omega arith)
+      fits : from + per ≤ length words
+      fits = omega (arith, mul-le-mul_right per inside, suc-mul i per)
+
+      long : length part ≡ per
+      long = kept ∙ part_long words from per fits
+
+      up : RisenAll row row' part (at ws i) (at vs i) width per
+      up = rw (part_long words from per fits) at raised
 
       old_bit : (m c : ℕ) → m < i → c < 64 * per → bit words' (64 * (m * per) + c) ≡ bit words (64 * (m * per) + c)
       old_bit m c h l =
@@ -76,7 +74,7 @@ module _ (ws vs : List ℕ) where
       new_bit : (c : ℕ) → c < 64 * per → bit words' (64 * (i * per) + c) ≡ bit part c
       new_bit c l =
           bit_in words' (from + c / 64) (c % 64) (64 * (i * per) + c) (omega arith) (omega arith)
-          ∙ rw (put_at words from per fits part (c / 64) (omega arith)) (sym (bit_in part (c / 64) (c % 64) c (omega arith) (omega arith)))
+          ∙ rw (put_at words from per fits part (c / 64) (omega (arith, long))) (sym (bit_in part (c / 64) (c % 64) c (omega arith) (omega arith)))
 
       new_row : (c : ℕ) → c < width → at row' c ≡ row_after ws vs (suc i) c
       new_row c l = by c (at ws i)
@@ -86,8 +84,8 @@ module _ (ws vs : List ℕ) where
       new_set : (c : ℕ) → c < width → Tells (row_after ws vs i c < row_after ws vs (suc i) c) (bit words' (64 * (i * per) + c))
       new_set c l = rw (← so_far.cells c l, ← new_row c l, new_bit c (omega arith)) (up.set c l)
 
-      pub lit_more : Lit ws vs width per (suc i) row' words'
-      lit_more = record {
+      pub lit_more : Lit ws vs width per (i + 1) row' words'
+      lit_more = rw add-one (record {
         cells = new_row;
         set = λ m c h l. by m i
             (λ b. rw (old_bit m c b (omega arith)) (so_far.set m c b l))
@@ -100,50 +98,6 @@ module _ (ws vs : List ℕ) where
             (λ b.
             let place : from + (k - from) ≡ k = omega arith in
             let inside : k - from < per = omega (arith, suc-mul i per) in
-            subst (λ (x : ℕ). x < 2 ^ 64) (sym (ap (at words') (sym place) ∙ put_at words from per fits part (k - from) (omega arith)))
+            subst (λ (x : ℕ). x < 2 ^ 64) (sym (ap (at words') (sym place) ∙ put_at words from per fits part (k - from) (omega (arith, long))))
             (up.narrow (k - from) inside));
-      }
-
--- ---- the loop over the labels
-
--- a loop over n labels has made the row and the words of i of them, and the words of the next start at `from`
-pub record Lighting (ws vs : List ℕ) (n width per len i from : ℕ) (row words : List ℕ) : Type 0 where
-  pub some_of : i ≤ n
-  pub place : from ≡ i * per
-  pub long : length row ≡ width
-  pub long_words : length words ≡ len
-  pub lit : Lit ws vs width per i row words
-
-module _ (ws vs : List ℕ) (n width per len : ℕ) where
-  pub lighting_none : (s t words : List ℕ) → Stored s t 0 0 width (λ c. 0) → length t ≡ width → length words ≡ len
-      → Lighting ws vs n width per len 0 0 t words
-  lighting_none s t words d long long_words = record {
-    some_of = omega arith;
-    place = omega (arith, zero-mul per);
-    long = long;
-    long_words = long_words;
-    lit = lit_none ws vs width per s t words d;
-  }
-
-  module _ (i from : ℕ) (row words : List ℕ) (d : Lighting ws vs n width per len i from row words) (inside : i < n) (all : n * per ≡ len) where
-    -- the words of label i are within the words
-    pub lighting_room : from + per ≤ length words
-    lighting_room = omega (arith, d.place, d.long_words, mul-le-mul_right per inside, suc-mul i per)
-
-    -- one label more
-    pub lighting_more : (next w v : ℕ) (row' part : List ℕ) → next ≡ from + per → width ≤ 64 * per → w ≡ at ws i → v ≡ at vs i
-        → length row' ≡ length row → length part ≡ length (part_of words from per)
-        → RisenAll row row' part w v (length row) (length (part_of words from per))
-        → Lighting ws vs n width per len (i + 1) next row' (take from words ++ (part ++ drop (from + per - from) (drop from words)))
-    lighting_more next w v row' part e wide e₁ e₂ kept kept_part up =
-        let room = lighting_room in
-        let long-part = part_long words from per room in
-        let marked = rw (e₁, e₂, d.long, long-part) at up in
-        record {
-          some_of = omega arith;
-          place = omega (arith, d.place, one_row_more i per);
-          long = kept ∙ d.long;
-          long_words =
-              words_long ws vs width per i from row row' words part wide d.place room (kept_part ∙ long-part) d.lit marked ∙ d.long_words;
-          lit = rw add-one (lit_more ws vs width per i from row row' words part wide d.place room (kept_part ∙ long-part) d.lit marked);
-        }
+      })

@@ -5,8 +5,7 @@ use Prim.Native.Nat.{ℕ, suc, ◌+◌, ◌-◌, ◌*◌, ◌≤◌, ◌<◌}
 use native.Mathlib.Nat.{zero-add, mul-one, mul-zero}
 use native.Mathlib.Omega.{arith}
 use mathlib.Core.List.{List, []}
-use lib.ListN.{length, drop, set, length-set}
-use lib.Seq.{drop-length}
+use lib.ListN.{length, drop, set}
 use Rattle.meaning.specs.Lists.{at}
 use Rattle.meaning.specs.Job.{Job, labels, once}
 use Rattle.meaning.specs.Sums.{bit, Tells, is_so, is_not}
@@ -51,34 +50,13 @@ rise_least f g w v width c up inside (is_not not e) =
     })
 
 -- one label more on the trace
-bits_more : (ws words : List ℕ) (per n budget i c x : ℕ) (picks : List ℕ) → 0 < i → i ≤ length picks
+pub bits_more : (ws words : List ℕ) (per n budget i c x : ℕ) (picks : List ℕ) → 0 < i → i ≤ length picks
     → TraceBits ws words per n budget i c (drop i picks) → x ≡ bit words (64 * ((i - 1) * per) + c) → at ws (i - 1) * x ≤ c
     → TraceBits ws words per n budget (i - 1) (c - at ws (i - 1) * x) (drop (i - 1) (set picks (i - 1) x))
 bits_more ws words per n budget i c x picks pos inside trace e fits =
     let here : i ≡ suc (i - 1) = omega arith in
     let before = subst (λ (m : ℕ). TraceBits ws words per n budget m c (drop m picks)) here trace in
     rw (stored_first picks (i - 1) x (omega arith)) (read_off {rest = c - at ws (i - 1) * x} before e (omega arith))
-
--- a loop that reads the picks of n labels off the bits has come back to label i, and c of the budget is left
-pub record Tracing (ws words : List ℕ) (per n budget i c : ℕ) (picks : List ℕ) : Type 0 where
-  pub some_of : i ≤ n
-  pub left : c ≤ budget
-  pub long : length picks ≡ n
-  pub trace : TraceBits ws words per n budget i c (drop i picks)
-
-module _ (ws words : List ℕ) (per n budget : ℕ) where
-  pub tracing_none : (picks : List ℕ) → n ≡ length picks → Tracing ws words per n budget (length picks) budget picks
-  tracing_none picks e = record { some_of = omega arith; left = omega arith; long = omega arith; trace = rw (e, drop-length picks) begun }
-
-  -- one label more
-  pub tracing_more : (i c w x : ℕ) (picks : List ℕ) → 0 < i → Tracing ws words per n budget i c picks → w ≡ at ws (i - 1)
-      → x ≡ bit words (64 * ((i - 1) * per) + c) → w * x ≤ c → Tracing ws words per n budget (i - 1) (c - w * x) (set picks (i - 1) x)
-  tracing_more i c w x picks pos d e is fits = record {
-    some_of = omega (arith, d.some_of);
-    left = omega (arith, d.left);
-    long = simp length-set d.long;
-    trace = rw e (bits_more ws words per n budget i c x picks pos (omega (arith, d.some_of, d.long)) d.trace is (rw e at fits));
-  }
 
 -- ---- all labels
 

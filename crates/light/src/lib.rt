@@ -23,21 +23,7 @@ use numbers::Numbers;
 fn rise(x: u32, y: u32) -> u8
     ensures { result ≡ rose x y }
 {
-    if x < y { 1 } else { 0 }
-}
-
-// The greater of two numbers.
-fn greater(x: u32, y: u32) -> u32
-    ensures { result ≡ max x y }
-{
-    if x < y { y } else { x }
-}
-
-// A byte as a wider number.
-fn wide(x: u8) -> u64
-    ensures { (result ≡ x) × (result < 256) }
-{
-    x as u64
+    u8::from(x < y)
 }
 
 // The four bytes at p as one number, lowest first.
@@ -45,7 +31,10 @@ fn four(b: &[u8; 64], p: usize) -> u64
     requires { Few b.now 64 × (p + 4 ≤ 64) }
     ensures { (result ≡ spaced (λ i. at b.now (p + i)) 4) × (result ≤ 16_843_009) }
 {
-    wide(b[p]) + wide(b[p + 1]) * 256 + wide(b[p + 2]) * 65_536 + wide(b[p + 3]) * 16_777_216
+    u64::from(b[p])
+        + u64::from(b[p + 1]) * 256
+        + u64::from(b[p + 2]) * 65_536
+        + u64::from(b[p + 3]) * 16_777_216
 }
 
 // The eight bytes at p as one number, lowest first: one load.
@@ -94,21 +83,16 @@ fn raise_word(row: &mut [u32], c: usize, w: usize, v: u32) -> u64
     requires by_index { (k : ℕ) → k + w < c + 64 → at row.old k + v < 4_294_967_296 }
     ensures { Risen row.old row.new c 64 w v result }
 {
-    let from = c - w;
     let mut sums: [u32; 64] = [0; 64];
-    let mut k = 0;
-    while k < 64 {
-        sums[k] = row[from + k] + v;
-        k += 1;
+    for k in 0..64 {
+        sums[k] = row[c + k - w] + v;
     }
     let mut bits: [u8; 64] = [0; 64];
-    let mut i = 0;
-    while i < 64 {
+    for i in 0..64 {
         let without = row[c + i];
         let with = sums[i];
         bits[i] = rise(without, with);
-        row[c + i] = greater(without, with);
-        i += 1;
+        row[c + i] = u32::max(without, with);
     }
     word(&bits)
 }
@@ -120,13 +104,11 @@ fn raise_few(row: &mut [u32], c: usize, n: usize, w: usize, v: u32) -> u64
     ensures { Risen row.old row.new c n w v result }
 {
     let mut bits: u64 = 0;
-    let mut k = n;
-    while 0 < k {
-        k -= 1;
+    for k in (0..n).rev() {
         let without = row[c + k];
         let with = row[c + k - w] + v;
-        bits = (bits << 1) + wide(rise(without, with));
-        row[c + k] = greater(without, with);
+        bits = (bits << 1) + u64::from(rise(without, with));
+        row[c + k] = u32::max(without, with);
     }
     bits
 }
@@ -202,29 +184,18 @@ fn raise_label(row: &mut [u32], words: &mut [u64], w: u32, v: u32)
 // ---- all labels
 
 // The row of all labels, and the bits of each, in `per` words.
-fn fill(
-    weights: &Numbers,
-    values: &Numbers,
-    per: usize,
-    row: &mut [u32],
-    words: &mut [u64],
-)
+fn fill(weights: &Numbers, values: &Numbers, per: usize, row: &mut [u32], words: &mut [u64])
     requires bounded { Bounded (length row.old) weights.now values.now }
     requires per_value { (per ≡ (length row.old - 1) / 64 + 1) × (length weights.now * per ≡ length words.old) }
     ensures { Lit weights.now values.now
         (length row.old) per (length weights.now) row.new words.new }
 {
-    let width = row.len();
-    rows::set_all(row, width, 0);
-    let n = weights.len();
-    let mut i = 0;
-    let mut from = 0;
-    while i < n {
+    row.fill(0);
+    for i in 0..weights.len() {
         let w = weights.at(i);
         let v = values.at(i);
+        let from = i * per;
         raise_label(row, &mut words[from..from + per], w, v);
-        from += per;
-        i += 1;
     }
 }
 
@@ -253,10 +224,8 @@ fn trace_bits(
     ensures { TraceBits weights.now words.now per
         (length weights.now) budget 0 result picks.new }
 {
-    let mut i = picks.len();
     let mut c = budget;
-    while 0 < i {
-        i -= 1;
+    for i in (0..picks.len()).rev() {
         let w = weights.at(i);
         let x = bit_at(words, i * per, c);
         picks[i] = x;

@@ -1,5 +1,4 @@
 -- `knapsack::trace_along` meets its contract: the trace has come to a label; each turn takes one of it, which weighs something, or passes it.
-use mathlib.Core.Path.{◌≡◌}
 use Prim.Native.Nat.{◌+◌, ◌-◌, ◌≤◌, ◌<◌}
 use lib.ListN.{length}
 use Rattle.meaning.specs.Lists.{at}
@@ -7,10 +6,11 @@ use Rattle.knapsack.proofs.FreeRow.{AlongTo}
 use Rattle.knapsack.proofs.trace_along.Given as goal
 
 abbrev pub invariant-loop-label : goal.invariant-loop-label
-invariant-loop-label l = (l.label ≤ length l.weights)
-    × (l.c < length l.row)
-    × (length l.picks ≡ length l.initial.picks)
-    × AlongTo (at l.row) l.weights l.values (length l.row - 1) l.label l.c l.picks
+invariant-loop-label l = record {
+  traced : AlongTo (at l.row) l.weights l.values (length l.row - 1) l.label l.c l.picks;
+  some_of : l.label ≤ length l.weights;
+  within : l.c < length l.row;
+}
 
 abbrev pub decreases-loop-label : goal.decreases-loop-label
-decreases-loop-label l = length l.initial.picks - l.label + l.c
+decreases-loop-label l = length l.weights - l.label + l.c

@@ -1,11 +1,7 @@
--- `light::fill` meets its contract: one label more (`lighting_more`), and each still fits 32 bits (`row_fits`).
-use Prim.Native.Nat.{◌-◌}
+-- `light::fill` meets its contract: one label more (`lit_more`), and each still fits 32 bits (`row_fits`).
 use lib.ListN.{length}
-use Rattle.light.proofs.Labels.{Lighting}
+use Rattle.light.specs.Labels.{Lit}
 use Rattle.light.proofs.fill.Given as goal
 
 abbrev pub invariant-loop-i : goal.invariant-loop-i
-invariant-loop-i l = Lighting l.weights l.values l.n l.width l.per (length l.initial.words) l.i l.from l.row l.words
-
-abbrev pub decreases-loop-i : goal.decreases-loop-i
-decreases-loop-i l = l.n - l.i
+invariant-loop-i l = Lit l.weights l.values (length l.fn.row) l.per l.i l.row l.words

@@ -10,11 +10,7 @@ pub returns : goal.returns
 unfolding Few
 returns c =
     let p = c.args.p in
-    let e₀ = c.wide.ensures.0 in
-    let e₁ = c.wide-2.ensures.0 in
-    let e₂ = c.wide-3.ensures.0 in
-    let e₃ = c.wide-4.ensures.0 in
     let few = c.requires.0 in (
-      four_spaced (at c.args.b.now) p c.wide.result c.wide-2.result c.wide-3.result c.wide-4.result e₀ e₁ e₂ e₃,
-      omega (arith, e₀, e₁, e₂, e₃, few p (omega arith), few (p + 1) (omega arith), few (p + 2) (omega arith), few (p + 3) (omega arith)),
+      four_spaced (at c.args.b.now) p _ _ _ _ c.from.ensures c.from-2.ensures c.from-3.ensures c.from-4.ensures,
+      omega (arith, few p (omega arith), few (p + 1) (omega arith), few (p + 2) (omega arith), few (p + 3) (omega arith)),
     )

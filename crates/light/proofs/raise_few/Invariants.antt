@@ -4,6 +4,3 @@ use Rattle.light.proofs.raise_few.Given as goal
 
 abbrev pub invariant-loop-k : goal.invariant-loop-k
 invariant-loop-k l = Falling l.initial.row l.c l.w l.v l.n l.k l.row l.bits
-
-abbrev pub decreases-loop-k : goal.decreases-loop-k
-decreases-loop-k l = l.k

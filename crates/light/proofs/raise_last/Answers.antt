@@ -3,19 +3,11 @@ use native.Mathlib.Omega.{arith}
 use Rattle.light.proofs.Blocks.{risen_high, risen_over}
 use Rattle.light.proofs.raise_last.Goals as goal
 
-pub raise_word-requires : goal.raise_word-requires
-raise_word-requires c =
-    record { w_le_c = (omega arith, omega arith); by_index = λ k h. c.requires.by_index k (omega arith) (omega arith) }
-
 pub returns-then-w-n-ge64 : goal.returns-then-w-n-ge64
 returns-then-w-n-ge64 c =
     let a = c.args in
     risen_over a.row.now c.raise_word.new.row a.n a.w a.v c.raise_word.result (omega (arith, c.requires.n_bound))
     (omega arith) (omega arith) c.requires.by_index_2 c.raise_word.ensures
-
-pub raise_few-requires : goal.raise_few-requires
-raise_few-requires c =
-    record { w_le_c = (omega arith, (omega (arith, c.requires.n_bound), omega (arith, c.requires.n_bound))); by_index = λ k h. c.requires.by_index k (omega arith) (omega (arith, c.requires.n_bound)) }
 
 pub returns : goal.returns
 returns c =

@@ -1,41 +1,24 @@
--- `light::raise_word` meets its contract: first the sums of the old row (`summing_more`), then cell by cell what they raise (`raising_more`).
-use mathlib.Core.Path.{refl}
-use Prim.Native.Nat.{◌+◌, ◌-◌}
+-- `light::raise_word` meets its contract: first the sums of the old row, then cell by cell what they raise (`raising_more`).
+use mathlib.Core.Path.{◌≡◌, ◌∙◌}
 use native.Mathlib.Omega.{arith}
-use Rattle.light.proofs.Rising.{summing_none, summing_more, raising_none, raising_more, raising_few, raising_all}
+use Rattle.meaning.specs.Lists.{at}
+use Rattle.light.specs.Bits.{Few}
+use Rattle.light.proofs.Binary.{binary_same}
+use Rattle.light.proofs.Rising.{raising_more}
 use Rattle.light.proofs.raise_word.Goals as goal
-
-pub loop-k-init : goal.loop-k-init
-loop-k-init c = let a = c.args in summing_none a.row.now a.c a.w a.v _ refl
-
-pub overflow_add-sums-in-loop-k : goal.overflow_add-sums-in-loop-k
-overflow_add-sums-in-loop-k c =
-    let a = c.args in
-    omega (arith, c.requires.by_index (a.c - a.w + c.loop-k.k) (omega arith))
-
-pub loop-k-preserved : goal.loop-k-preserved
-loop-k-preserved c =
-    let a = c.args in
-    summing_more a.row.now a.c a.w a.v c.loop-k.k _ c.loop-k.sums (omega arith) c.loop-k.invariant refl
-
-pub loop-i-init : goal.loop-i-init
-loop-i-init c = let a = c.args in raising_none a.row.now a.c a.w a.v _ refl
 
 pub loop-i-preserved : goal.loop-i-preserved
 loop-i-preserved c =
-    let sums = c.loop-k in
-    let a = c.args in
     let l = c.loop-i in
-    raising_more a.row.now a.c a.w a.v sums.k l.i c.greater.result c.rise.result sums.sums l.row l.bits
-    (omega arith) (omega arith) (omega arith) (omega arith) sums.invariant l.invariant c.rise.ensures c.greater.ensures
+    raising_more _ _ _ _ l.i _ _ _ l.row l.bits (omega arith) (omega arith) l.invariant (c.loop-k.invariant.1 l.i (omega arith)) c.rise.ensures c.max.ensures
 
 pub word-requires : goal.word-requires
-word-requires c =
-    let a = c.args in
-    raising_few a.row.now a.c a.w a.v c.loop-i.i c.loop-i.row c.loop-i.bits (omega arith) c.loop-i.invariant
+unfolding Few
+word-requires c = λ m h. omega (arith, c.loop-i.invariant.each m (omega arith))
 
 pub returns : goal.returns
 returns c =
-    let a = c.args in
-    raising_all a.row.now a.c a.w a.v c.loop-i.i c.word.result c.loop-i.row c.loop-i.bits (omega arith) c.loop-i.invariant
-    c.word.ensures
+    let l = c.loop-i in
+    let last : l.i ≡ 64 = omega arith in
+    let d = rw last at l.invariant in
+    record { cells = d.cells; bits = c.word.ensures ∙ binary_same (at l.bits) _ 64 d.each }
