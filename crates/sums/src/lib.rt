@@ -20,9 +20,7 @@ use numbers::Numbers;
 fn add_words(words: &mut [u64], q: usize)
     ensures { Added words.old words.new (64 * q) 0 (length words.old) }
 {
-    let mut m = words.len();
-    while q < m {
-        m -= 1;
+    for m in (q..words.len()).rev() {
         words[m] = words[m] | words[m - q];
     }
 }
@@ -37,16 +35,15 @@ fn add_in_vectors(words: &mut [u64], q: usize, r: usize) -> usize
     ensures { ((q < result) × (result ≤ length words.old))
         × Added words.old words.new (64 * q + r) result (length words.old) }
 {
-    let mut m = words.len();
-    if m <= FEW {
-        return m;
+    let len = words.len();
+    if len <= FEW {
+        return len;
     }
     let back = 64 - r;
-    while q + 1 < m {
-        m -= 1;
+    for m in (q + 1..len).rev() {
         words[m] = words[m] | (words[m - q] << r) | (words[m - q - 1] >> back);
     }
-    m
+    q + 1
 }
 
 // A label that weighs q words and r bits: each word takes the bits of two, the lowest that it reaches those of one. Only few words are left
@@ -56,9 +53,8 @@ fn add_bits(words: &mut [u64], q: usize, r: usize)
     ensures { Added words.old words.new (64 * q + r) 0 (length words.old) }
 {
     let back = 64 - r;
-    let mut m = add_in_vectors(words, q, r);
-    while q + 1 < m {
-        m -= 1;
+    let end = add_in_vectors(words, q, r);
+    for m in (q + 1..end).rev() {
         words[m] = words[m] | ((words[m - q] << r) | (words[m - q - 1] >> back));
     }
     words[q] = words[q] | (words[0] << r);
@@ -87,11 +83,8 @@ fn fill(weights: &Numbers, words: &mut [u64])
         (length weights.now) words.new }
 {
     rows::first_alone(words);
-    let n = weights.len();
-    let mut i = 0;
-    while i < n {
+    for i in 0..weights.len() {
         add_label(words, weights.at(i));
-        i += 1;
     }
 }
 
@@ -121,10 +114,8 @@ fn count_totals(words: &[u64]) -> u32
     ensures { result ≡ tally (is_set words.now) (up_to (64 * length words.now)) }
 {
     let mut count: u64 = 0;
-    let mut m = 0;
-    while m < words.len() {
-        count += u64::count_ones(words[m]) as u64;
-        m += 1;
+    for word in words {
+        count += u64::count_ones(*word) as u64;
     }
     count as u32
 }
