@@ -17,6 +17,7 @@ use numbers::Numbers;
 // ---- the words, label by label
 
 // A label that weighs q whole words: from the highest word down, so that it is used once.
+#[tactic(auto, using(crate::proofs::Words::words_more, crate::proofs::Words::added_all))]
 fn add_words(words: &mut [u64], q: usize)
     ensures { Added words.old words.new (64 * q) 0 (length words.old) }
 {
@@ -30,6 +31,7 @@ const FEW: usize = 16;
 
 // A label that weighs q words and r bits, in vectors. Few words don't take it here; of more, all do but the lowest that it reaches. Returns
 // the first that has. A word takes the bits of two, and the two aren't joined before: only so does the loop run in vectors.
+#[tactic(auto, using(crate::proofs::Words::bits_more))]
 fn add_in_vectors(words: &mut [u64], q: usize, r: usize) -> usize
     requires { (q < length words.old) × ((0 < r) × (r < 64)) }
     ensures { ((q < result) × (result ≤ length words.old))
@@ -109,6 +111,7 @@ fn is_set(words: &[u64], t: usize) -> bool
 }
 
 // How many bits are set, a word at a time. The sum is as wide as a word and narrowed once: only so does no turn of the loop narrow its vectors.
+#[tactic(auto, using(crate::proofs::Ones::word_counted, meaning::proofs::Tally::tally_most), unfolding(meaning::specs::Bounds::most_budget, meaning::specs::Lists::tally, meaning::specs::Lists::up_to))]
 fn count_totals(words: &[u64]) -> u32
     requires { 64 * length words.now ≤ most_budget + 1 }
     ensures { result ≡ tally (is_set words.now) (up_to (64 * length words.now)) }
