@@ -35,25 +35,20 @@ fn add_label(row: &mut [u32], w: u32, i: u32)
     ensures { Joined (first_by i) (at row.old) (at row.old) (at row.new) w (length row.old) }
 {
     let w = w as usize;
-    let mut t = row.len();
-    while w < t {
-        t -= 1;
+    for t in (w..row.len()).rev() {
         row[t] = first_by(i, row[t], row[t - w]);
     }
 }
 
 // The row of all labels.
+#[tactic(auto, unfolding(meaning::specs::Bounds::most_labels))]
 fn fill(weights: &Numbers, row: &mut [u32])
     requires { (0 < length row.old) × (length weights.now ≤ most_labels) }
     ensures { FirstsGrown weights.now (length row.old) row.new }
 {
     rows::mark_rest(row);
-    let n = weights.len();
-    let mut i = 0;
-    while i < n {
-        let w = weights.at(i);
-        i += 1;
-        add_label(row, w, i as u32);
+    for i in 0..weights.len() {
+        add_label(row, weights.at(i), i as u32 + 1);
     }
 }
 
@@ -66,9 +61,9 @@ fn trace_off(weights: &Numbers, row: &[u32], picks: &mut [u32])
     ensures { TraceOff (at row.now) weights.now
         (length row.now - 1) 0 picks.new }
 {
-    let n = picks.len();
-    rows::set_all(picks, n, 0);
+    picks.fill(0);
     let mut t = row.len() - 1;
+    // each turn goes on at what the label that was found leaves
     while 0 < t {
         let m = row[t] as usize - 1;
         picks[m] = 1;
@@ -79,12 +74,7 @@ fn trace_off(weights: &Numbers, row: &[u32], picks: &mut [u32])
 // ---- the door
 
 // Kind 8: the row, and the labels that weigh the whole budget, or that there are none.
-pub fn solve(
-    budget: u32,
-    weights: &Numbers,
-    cells: &mut [u32],
-    picks: &mut [u32],
-) -> Answer
+pub fn solve(budget: u32, weights: &Numbers, cells: &mut [u32], picks: &mut [u32]) -> Answer
     requires { Unrefused labels_behind (weights_from 8 (budget ∷ []) weights.now) (lent_of cells.old [] picks.old) }
     ensures { SolvedInCells (weights_from 8 (budget ∷ []) weights.now)
         cells.old picks.old result cells.new picks.new }
