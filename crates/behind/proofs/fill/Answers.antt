@@ -1,11 +1,8 @@
 -- `behind::fill` meets its contract: total 0 alone with no labels, and then a label more each turn.
 use mathlib.Core.Path.{◌∙◌}
 use native.Mathlib.Numerals.{add-one}
-use Rattle.rows.specs.Rounds.{none_yet, one_more}
+use Rattle.rows.specs.Rounds.{one_more}
 use Rattle.behind.proofs.fill.Goals as goal
-
-pub loop-i-init : goal.loop-i-init
-loop-i-init c = none_yet c.mark_rest.ensures
 
 pub loop-i-preserved : goal.loop-i-preserved
 loop-i-preserved c =
