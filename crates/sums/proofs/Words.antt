@@ -117,18 +117,18 @@ module _ (s : List ℕ) (q r : ℕ) (some : 0 < r) (few : r < 64) where
 
 module _ (s t : List ℕ) (q len n : ℕ) where
   -- what a loop from the highest word down stores in word m, as what it takes are still the old words: of whole words
-  pub words_more : (lo m : ℕ) → lo ≡ m → n ≡ m + 1 → q ≤ m → m < length t → Added s t (64 * q) n len
-      → Added s (set t m (bit_or (at t m) (at t (m - q)))) (64 * q) lo len
-  words_more lo m here e h inside d =
-      rw (here, d.below m (omega arith), d.below (m - q) (omega arith)) (added_more s (64 * q) len t n m _ e inside d (new_words s q m h))
+  pub words_more : (lo m x : ℕ) → lo ≡ m → n ≡ m + 1 → q ≤ m → m < length t → Added s t (64 * q) n len
+      → x ≡ bit_or (at t m) (at t (m - q)) → Added s (set t m x) (64 * q) lo len
+  words_more lo m x here e h inside d made =
+      rw (here, made, d.below m (omega arith), d.below (m - q) (omega arith)) (added_more s (64 * q) len t n m _ e inside d (new_words s q m h))
 
   module _ (r : ℕ) (some : 0 < r) (few : r < 64) (d : Added s t (64 * q + r) n len) where
     -- of words and bits
-    pub bits_more : (lo m : ℕ) → lo ≡ m → n ≡ m + 1 → q < m → m < length t → at t (m - q - 1) < 2 ^ 64
-        → Added s (set t m (bit_or (bit_or (at t m) (up (at t (m - q)) r)) (over (at t (m - q - 1)) r))) (64 * q + r) lo len
-    bits_more lo m here e h inside narrow =
+    pub bits_more : (lo m x : ℕ) → lo ≡ m → n ≡ m + 1 → q < m → m < length t → at t (m - q - 1) < 2 ^ 64
+        → x ≡ bit_or (bit_or (at t m) (up (at t (m - q)) r)) (over (at t (m - q - 1)) r) → Added s (set t m x) (64 * q + r) lo len
+    bits_more lo m x here e h inside narrow made =
         let old = d.below in
-        rw (here, old m (omega arith), old (m - q) (omega arith), old (m - q - 1) (omega arith))
+        rw (here, made, old m (omega arith), old (m - q) (omega arith), old (m - q - 1) (omega arith))
         (added_more s (64 * q + r) len t n m _ e inside d
         (new_bits s q r some few m h (omega (arith, old (m - q - 1) (omega arith)))))
 
