@@ -10,15 +10,9 @@ use Rattle.meaning.specs.Cells.{LeastShown, no_way, shown, none_shown}
 use Rattle.meaning.specs.Job.{Job, labels}
 use Rattle.meaning.specs.Behind.{ReachedBy}
 use Rattle.meaning.proofs.Behind.{first_none, first_no_labels, first_kept, first_new, first_still, too_heavy, rest_unreached, rest_reached}
-use Rattle.rows.specs.Rows.{Joined, FirstAlone}
 use Rattle.rows.proofs.Stores.{by, alone_shows}
-use Rattle.rows.proofs.Rounds.{each_round, Rounds}
+use Rattle.rows.proofs.Rounds.{each_round}
 use Rattle.behind.specs.Firsts.{first_by, FirstsGrown}
-
--- the loop over n labels: i of them have made the row
-abbrev pub Growing : List ℕ → ℕ → ℕ → ℕ → List ℕ → Type 0
-Growing weights n width i row =
-    Rounds (FirstAlone 0 no_way) (λ wide m s t. Joined (first_by (suc m)) (at s) (at s) (at t) (at weights m) wide) n width i row
 
 -- ---- what the rule makes of a cell
 

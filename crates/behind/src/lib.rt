@@ -36,25 +36,20 @@ fn add_label(row: &mut [u32], w: u32, i: u32)
     ensures { Joined (first_by i) (at row.old) (at row.old) (at row.new) w (length row.old) }
 {
     let w = w as usize;
-    let mut t = row.len();
-    while w < t {
-        t -= 1;
+    for t in (w..row.len()).rev() {
         row[t] = first_by(i, row[t], row[t - w]);
     }
 }
 
 // The row of all labels.
+#[tactic(auto, using(rows::specs::Rounds::none_yet), unfolding(meaning::specs::Bounds::most_labels))]
 fn fill(weights: &Numbers, row: &mut [u32])
     requires { (0 < length row.old) × (length weights.now ≤ most_labels) }
     ensures { FirstsGrown weights.now (length row.old) row.new }
 {
     rows::mark_rest(row);
-    let n = weights.len();
-    let mut i = 0;
-    while i < n {
-        let w = weights.at(i);
-        i += 1;
-        add_label(row, w, i as u32);
+    for i in 0..weights.len() {
+        add_label(row, weights.at(i), i as u32 + 1);
     }
 }
 
@@ -67,9 +62,9 @@ fn trace_off(weights: &Numbers, row: &[u32], picks: &mut [u32])
     ensures { TraceOff (at row.now) weights.now
         (length row.now - 1) 0 picks.new }
 {
-    let n = picks.len();
-    rows::set_all(picks, n, 0);
+    picks.fill(0);
     let mut t = row.len() - 1;
+    // each turn goes on at what the label that was found leaves
     while 0 < t {
         let m = row[t] as usize - 1;
         picks[m] = 1;

@@ -60,9 +60,9 @@ module _ (row : ℕ → ℕ) (sizes : List ℕ) (amount i a : ℕ) (picks : List
   unfolding turn_of
   turn_now = omega arith
 
-  pub down_taken : leads_down row sizes (i - 1) a ≡ true
-      → DownTo row sizes amount i (a - at sizes (i - 1)) (set picks (i - 1) (at picks (i - 1) + 1))
-  down_taken on = rw (add-one, ← turn_now) (taken trace (omega arith) (rw turn_now on))
+  pub down_taken : (w : ℕ) → w ≡ at sizes (i - 1) → leaves_fewer row w a ≡ true
+      → DownTo row sizes amount i (a - w) (set picks (i - 1) (at picks (i - 1) + 1))
+  down_taken w e on = rw (e, add-one, ← turn_now) (taken trace (omega arith) (rw (turn_now, ← e) on))
 
   pub down_passed : leads_down row sizes (i - 1) a ≡ false
       → DownTo row sizes amount (i - 1) a picks

@@ -30,10 +30,8 @@ fn lay_stretch(row: &mut [u32], from: usize, to: usize, w: usize)
     requires { (1 ≤ w) × ((w ≤ from) × ((from ≤ to) × (to ≤ length row.old))) }
     ensures { Swept fewer_of row.old row.new w from to }
 {
-    let mut a = from;
-    while a < to {
+    for a in from..to {
         row[a] = fewer(row[a], row[a - w]);
-        a += 1;
     }
 }
 
@@ -58,6 +56,7 @@ fn lay(row: &mut [u32], w: u32)
 {
     let w = w as usize;
     let mut a = w;
+    // a stretch begins where the one before it ended
     while a < row.len() {
         let end = lay_end(row.len(), a, w);
         lay_stretch(row, a, end, w);
@@ -66,16 +65,14 @@ fn lay(row: &mut [u32], w: u32)
 }
 
 // The row of fewest blocks, size by size.
+#[tactic(auto, using(rows::specs::Rounds::none_yet))]
 fn fill_fewest(weights: &Numbers, row: &mut [u32])
     requires { Bounded (length row.old) weights.now }
     ensures { FewestGrown weights.now (length row.old) row.new }
 {
     rows::mark_rest(row);
-    let n = weights.len();
-    let mut i = 0;
-    while i < n {
+    for i in 0..weights.len() {
         lay(row, weights.at(i));
-        i += 1;
     }
 }
 
@@ -92,16 +89,17 @@ fn leads(row: &[u32], w: u32, a: usize) -> bool
 }
 
 // The blocks for the greatest amount of a row, by the trace down the sizes.
+#[tactic(auto, using(crate::proofs::Laying::down_begins, crate::proofs::Laying::down_light, crate::proofs::Laying::down_few, crate::proofs::Laying::down_passed), unfolding(meaning::specs::Bounds::most_budget))]
 fn trace_down(weights: &Numbers, row: &[u32], picks: &mut [u32])
     requires bounded { Bounded (length row.now) weights.now }
     requires weights_len { length weights.now ≡ length picks.old }
     ensures { TraceDown (at row.now) weights.now
         (length row.now - 1) picks.new }
 {
-    let n = picks.len();
-    rows::set_all(picks, n, 0);
-    let mut i = n;
+    picks.fill(0);
+    let mut i = picks.len();
     let mut a = row.len() - 1;
+    // a turn settles a size, or lays one block of it and stays there
     while 0 < i {
         let w = weights.at(i - 1);
         if leads(row, w, a) {
@@ -141,14 +139,11 @@ fn fewest(
 const TOO_MANY: u64 = 18_446_744_073_709_551_615;
 
 // The ways for an amount, by those without a size and those for the rest, as far as they can be counted. No sum passes 64 bits.
+#[tactic(auto, unfolding(meaning::specs::Blocks::too_many))]
 fn ways_of(without: u64, rest: u64) -> u64
     ensures { result ≡ ways_of without rest }
 {
-    if TOO_MANY - rest < without {
-        TOO_MANY
-    } else {
-        without + rest
-    }
+    u64::saturating_add(without, rest)
 }
 
 // The row of ways with a size more, from small amounts up. There are no stretches: a sum with a bound costs more in vectors than it saves.
@@ -157,24 +152,20 @@ fn count(words: &mut [u64], w: u32)
     ensures { Swept ways_of words.old words.new w w (length words.old) }
 {
     let w = w as usize;
-    let mut a = w;
-    while a < words.len() {
+    for a in w..words.len() {
         words[a] = ways_of(words[a], words[a - w]);
-        a += 1;
     }
 }
 
 // The row of ways, size by size.
+#[tactic(auto, using(rows::specs::Rounds::none_yet))]
 fn fill_ways(weights: &Numbers, words: &mut [u64])
     requires { Bounded (length words.old) weights.now }
     ensures { WaysGrown weights.now (length words.old) words.new }
 {
     rows::first_alone(words);
-    let n = weights.len();
-    let mut i = 0;
-    while i < n {
+    for i in 0..weights.len() {
         count(words, weights.at(i));
-        i += 1;
     }
 }
 

@@ -1,11 +1,11 @@
 -- The words: those of no labels, one label more from the highest word down, and the last word cut off at the budget.
 -- Assumes nothing.
-use mathlib.Core.Path.{◌≡◌, refl, ap, sym, ◌∙◌}
+use mathlib.Core.Path.{◌≡◌, ap, sym, ◌∙◌}
 use Prim.Native.Nat.{ℕ, ◌+◌, ◌-◌, ◌*◌, ◌/◌, ◌%◌, ◌^◌, ◌≤◌, ◌<◌, max}
 use native.Mathlib.Omega.{arith}
 use mathlib.Core.List.{List}
 use lib.Bits.{bit_or}
-use lib.ListN.{length, set, length-set}
+use lib.ListN.{length, set}
 use Rattle.meaning.specs.Lists.{at}
 use Rattle.meaning.specs.Sums.{bit}
 use Rattle.rows.specs.Rows.{FirstAlone}
@@ -38,12 +38,8 @@ pub record NewWord (s : List ℕ) (w m y : ℕ) : Type 0 where
   pub long : (u : ℕ) → u / 64 ≡ m → w ≤ u → bit_of y (u % 64) ≡ max (bit s u) (bit s (u - w))
 
 module _ (s : List ℕ) (w len : ℕ) where
-  -- none yet
-  pub added_none : Added s s w len len
-  added_none = record { short = λ u a b l. absurd (omega arith); long = λ u a b l. absurd (omega arith); below = λ m h. refl }
-
   -- one word more
-  pub added_more : (t : List ℕ) (n m y : ℕ) → n ≡ m + 1 → m < length t → Added s t w n len → NewWord s w m y → Added s (set t m y) w m len
+  added_more : (t : List ℕ) (n m y : ℕ) → n ≡ m + 1 → m < length t → Added s t w n len → NewWord s w m y → Added s (set t m y) w m len
   added_more t n m y e inside d new =
       let here : (u : ℕ) → 64 * m ≤ u → u < 64 * n → bit (set t m y) u ≡ bit_of y (u % 64) =
       λ u a b. stored_bit t m y (u % 64) u inside (omega arith) (omega arith) in
@@ -119,43 +115,29 @@ module _ (s : List ℕ) (q r : ℕ) (some : 0 < r) (few : r < 64) where
             omega (arith, both u e, bit_shl (at s 0) r (u % 64) (omega arith) (omega arith));
       }
 
--- a loop from word m₀ - 1 down has come to word m. Of whatever words s the words t₀ were made, the words t are
-pub record AddingBits (t₀ : List ℕ) (q r m₀ : ℕ) (t : List ℕ) (m : ℕ) : Type 0 where
-  pub reached : q < m
-  pub within : m ≤ length t₀
-  pub long : length t ≡ length t₀
-  pub added : (s : List ℕ) (len : ℕ) → Added s t₀ (64 * q + r) m₀ len → Added s t (64 * q + r) m len
+module _ (s t : List ℕ) (q len n : ℕ) where
+  -- what a loop from the highest word down stores in word m, as what it takes are still the old words: of whole words
+  pub words_more : (lo m x : ℕ) → lo ≡ m → n ≡ m + 1 → q ≤ m → m < length t → Added s t (64 * q) n len
+      → x ≡ bit_or (at t m) (at t (m - q)) → Added s (set t m x) (64 * q) lo len
+  words_more lo m x here e h inside d made =
+      rw (here, made, d.below m (omega arith), d.below (m - q) (omega arith)) (added_more s (64 * q) len t n m _ e inside d (new_words s q m h))
 
-module _ (t₀ : List ℕ) (q r m₀ : ℕ) where
-  pub adding_none : q < m₀ → m₀ ≤ length t₀ → AddingBits t₀ q r m₀ t₀ m₀
-  adding_none h l = record { reached = h; within = l; long = refl; added = λ s len d. d }
+  module _ (r : ℕ) (some : 0 < r) (few : r < 64) (d : Added s t (64 * q + r) n len) where
+    -- of words and bits
+    pub bits_more : (lo m x : ℕ) → lo ≡ m → n ≡ m + 1 → q < m → m < length t → at t (m - q - 1) < 2 ^ 64
+        → x ≡ bit_or (bit_or (at t m) (up (at t (m - q)) r)) (over (at t (m - q - 1)) r) → Added s (set t m x) (64 * q + r) lo len
+    bits_more lo m x here e h inside narrow made =
+        let old = d.below in
+        rw (here, made, old m (omega arith), old (m - q) (omega arith), old (m - q - 1) (omega arith))
+        (added_more s (64 * q + r) len t n m _ e inside d
+        (new_bits s q r some few m h (omega (arith, old (m - q - 1) (omega arith)))))
 
-  module _ (some : 0 < r) (few : r < 64) (t : List ℕ) (m : ℕ) (d : AddingBits t₀ q r m₀ t m) where
-    -- one word more, as what it takes are still the old words
-    pub adding_more : q + 1 < m → at t (m - 1 - q - 1) < 2 ^ 64
-        → AddingBits t₀ q r m₀ (set t (m - 1) (bit_or (bit_or (at t (m - 1)) (up (at t (m - 1 - q)) r)) (over (at t (m - 1 - q - 1)) r))) (m - 1)
-    adding_more h narrow = record {
-      reached = omega arith;
-      within = omega (arith, d.within);
-      long = simp length-set d.long;
-      added = λ s len made.
-          let n = m - 1 in
-          let e = d.added s len made in
-          let old = e.below in
-          added_more s (64 * q + r) len t m n _ (omega arith) (omega (arith, d.long, d.within)) e
-          (rw (old n (omega arith), old (n - q) (omega arith), old (n - q - 1) (omega arith))
-          (new_bits s q r some few n (omega arith) (omega (arith, old (n - q - 1) (omega arith)))));
-    }
-
-    -- and the lowest that is reached: those below it stay
-    pub adding_all : (s : List ℕ) (len : ℕ) → m ≤ q + 1 → Added s t₀ (64 * q + r) m₀ len
-        → Added s (set t q (bit_or (at t q) (up (at t 0) r))) (64 * q + r) 0 len
-    adding_all s len h made =
+    -- and in the lowest that is reached: those below it stay
+    pub bits_all : n ≡ q + 1 → q < length t → Added s (set t q (bit_or (at t q) (up (at t 0) r))) (64 * q + r) 0 len
+    bits_all e inside =
         let w = 64 * q + r in
-        let e = d.added s len made in
         added_all s w len _ q (omega arith)
-        (added_more s w len t m q _ (omega (arith, d.reached)) (omega (arith, d.reached, d.long, d.within)) e
-        (rw (e.below q (omega (arith, d.reached)), e.below 0 (omega (arith, d.reached))) (new_lowest s q r some few)))
+        (added_more s w len t n q _ e inside d (rw (d.below q (omega arith), d.below 0 (omega arith)) (new_lowest s q r some few)))
 
 -- ---- the last word cut off
 

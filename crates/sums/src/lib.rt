@@ -18,12 +18,11 @@ use numbers::Numbers;
 // ---- the words, label by label
 
 // A label that weighs q whole words: from the highest word down, so that it is used once.
+#[tactic(auto, using(crate::proofs::Words::words_more, crate::proofs::Words::added_all))]
 fn add_words(words: &mut [u64], q: usize)
     ensures { Added words.old words.new (64 * q) 0 (length words.old) }
 {
-    let mut m = words.len();
-    while q < m {
-        m -= 1;
+    for m in (q..words.len()).rev() {
         words[m] = words[m] | words[m - q];
     }
 }
@@ -33,33 +32,33 @@ const FEW: usize = 16;
 
 // A label that weighs q words and r bits, in vectors. Few words don't take it here; of more, all do but the lowest that it reaches. Returns
 // the first that has. A word takes the bits of two, and the two aren't joined before: only so does the loop run in vectors.
+#[tactic(auto, using(crate::proofs::Words::bits_more))]
 fn add_in_vectors(words: &mut [u64], q: usize, r: usize) -> usize
     requires { (q < length words.old) × ((0 < r) × (r < 64)) }
     ensures { ((q < result) × (result ≤ length words.old))
         × Added words.old words.new (64 * q + r) result (length words.old) }
 {
-    let mut m = words.len();
-    if m <= FEW {
-        return m;
+    let len = words.len();
+    if len <= FEW {
+        return len;
     }
     let back = 64 - r;
-    while q + 1 < m {
-        m -= 1;
+    for m in (q + 1..len).rev() {
         words[m] = words[m] | (words[m - q] << r) | (words[m - q - 1] >> back);
     }
-    m
+    q + 1
 }
 
 // A label that weighs q words and r bits: each word takes the bits of two, the lowest that it reaches those of one. Only few words are left
 // to this loop. The two are joined before a word takes them, which is one double shift and keeps the loop out of vectors.
+#[tactic(auto, using(crate::proofs::Words::bits_more, crate::proofs::Words::bits_all, rows::proofs::Bits::or_assoc))]
 fn add_bits(words: &mut [u64], q: usize, r: usize)
     requires { (q < length words.old) × ((0 < r) × (r < 64)) }
     ensures { Added words.old words.new (64 * q + r) 0 (length words.old) }
 {
     let back = 64 - r;
-    let mut m = add_in_vectors(words, q, r);
-    while q + 1 < m {
-        m -= 1;
+    let end = add_in_vectors(words, q, r);
+    for m in (q + 1..end).rev() {
         words[m] = words[m] | ((words[m - q] << r) | (words[m - q - 1] >> back));
     }
     words[q] = words[q] | (words[0] << r);
@@ -88,11 +87,8 @@ fn fill(weights: &Numbers, words: &mut [u64])
         (length weights.now) words.new }
 {
     rows::first_alone(words);
-    let n = weights.len();
-    let mut i = 0;
-    while i < n {
+    for i in 0..weights.len() {
         add_label(words, weights.at(i));
-        i += 1;
     }
 }
 
@@ -117,15 +113,14 @@ fn is_set(words: &[u64], t: usize) -> bool
 }
 
 // How many bits are set, a word at a time. The sum is as wide as a word and narrowed once: only so does no turn of the loop narrow its vectors.
+#[tactic(auto, using(crate::proofs::Ones::word_counted, meaning::proofs::Tally::tally_most), unfolding(meaning::specs::Bounds::most_budget, meaning::specs::Lists::tally, meaning::specs::Lists::up_to))]
 fn count_totals(words: &[u64]) -> u32
     requires { 64 * length words.now ≤ most_budget + 1 }
     ensures { result ≡ tally (is_set words.now) (up_to (64 * length words.now)) }
 {
     let mut count: u64 = 0;
-    let mut m = 0;
-    while m < words.len() {
-        count += u64::count_ones(words[m]) as u64;
-        m += 1;
+    for word in words {
+        count += u64::count_ones(*word) as u64;
     }
     count as u32
 }

@@ -1,9 +1,8 @@
 -- `sums::add_bits` meets its contract: the words below those that took the label in vectors take it too, and the lowest takes the bits of one.
-use Rattle.sums.proofs.Words.{AddingBits}
+use Prim.Native.Nat.{◌+◌, ◌*◌, max}
+use lib.ListN.{length}
+use Rattle.sums.specs.Words.{Added}
 use Rattle.sums.proofs.add_bits.Given as goal
 
 abbrev pub invariant-loop-m : goal.invariant-loop-m
-invariant-loop-m l = AddingBits l.initial.words l.q l.r l.initial.m l.words l.m
-
-abbrev pub decreases-loop-m : goal.decreases-loop-m
-decreases-loop-m l = l.m
+invariant-loop-m l = let s = l.fn.words in Added s l.words (64 * l.q + l.r) (max (l.q + 1) l.m) (length s)

@@ -1,19 +1,12 @@
 -- `sums::fill` meets its contract: total 0 alone with no labels, and then a label more each turn.
-use mathlib.Core.Path.{◌≡◌, ◌∙◌}
-use native.Mathlib.Omega.{arith}
-use lib.ListN.{length}
-use Rattle.rows.proofs.Rounds.{rounds_none, rounds_more, rounds_all}
+use mathlib.Core.Path.{◌∙◌}
+use native.Mathlib.Numerals.{add-one}
+use Rattle.rows.specs.Rounds.{none_yet, one_more}
 use Rattle.sums.proofs.fill.Goals as goal
 
 pub loop-i-init : goal.loop-i-init
-loop-i-init c = let words = c.first_alone in rounds_none (rw words.auto.words words.ensures)
+loop-i-init c = none_yet c.first_alone.ensures
 
 pub loop-i-preserved : goal.loop-i-preserved
 loop-i-preserved c =
-    rounds_more c.loop-i.invariant c.loop-i-test.true c.add_label.auto.words
-    (rw c.at.ensures at c.add_label.ensures)
-
-pub returns : goal.returns
-returns c =
-    let long : length c.loop-i.words ≡ length c.args.words.now = c.loop-i.invariant.long ∙ c.first_alone.auto.words in
-    rounds_all _ _ c.loop-i.invariant (omega arith) c.len-n.ensures long
+    rw add-one (one_more c.loop-i.invariant (rw (c.at.ensures, c.loop-i.auto.words ∙ c.first_alone.auto.words) at c.add_label.ensures))

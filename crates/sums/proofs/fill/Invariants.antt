@@ -1,14 +1,7 @@
 -- `sums::fill` meets its contract: total 0 alone with no labels, and then a label more each turn.
-use Prim.Native.Nat.{◌-◌}
 use lib.ListN.{length}
-use Rattle.meaning.specs.Lists.{at}
-use Rattle.rows.specs.Rows.{FirstAlone}
-use Rattle.rows.proofs.Rounds.{Rounds}
-use Rattle.sums.specs.Words.{Added}
+use Rattle.sums.specs.Words.{Marked}
 use Rattle.sums.proofs.fill.Given as goal
 
 abbrev pub invariant-loop-i : goal.invariant-loop-i
-invariant-loop-i l = Rounds (FirstAlone 1 0) (λ len m s t. Added s t (at l.weights m) 0 len) l.n (length l.initial.words) l.i l.words
-
-abbrev pub decreases-loop-i : goal.decreases-loop-i
-decreases-loop-i l = l.n - l.i
+invariant-loop-i l = Marked l.weights (length l.fn.words) l.i l.words
