@@ -3,51 +3,42 @@
 
 ghost use Rattle.std.specs.Prelude.{◌≡◌};
 ghost use Rattle.meaning.specs.Lent.{lent_of};
+ghost use Rattle.meaning.specs.Says.{given, said};
+ghost use Rattle.meaning.specs.Judges.{judged};
 ghost use Rattle.meaning.specs.Answers.{answer_numbers};
 ghost use Rattle.meaning.specs.Certificates.{verdict_of};
 ghost use Rattle.meaning.specs.Host.{refusal_number, value_or_place, first_number, second_number, SolvedHost, SolvedFullHost, WritesHost, QuickHost};
 ghost use Rattle.meaning.specs.Quick.{quick_job};
 
-use meaning::{Answer, Quick, Verdict, Written};
+use meaning::{Answer, Fault, Quick, Refusal};
 
 // ---- the numbers of a verdict and of an answer
 
 // 0 for accepted, or the refusal number.
-fn verdict_refusal(verdict: Verdict) -> u32
-    ensures { result ≡ refusal_number verdict }
+fn verdict_refusal(verdict: Result<u32, Fault>) -> u32
+    ensures { result ≡ refusal_number (judged verdict) }
 {
     match verdict {
-        Verdict::Accepted(_) => 0,
-        Verdict::Refused { number, place: _ } => number,
+        Ok(_) => 0,
+        Err(fault) => fault.refusal.number(),
     }
 }
 
 // The value, or the place.
-fn verdict_detail(verdict: Verdict) -> u64
-    ensures { result ≡ value_or_place verdict }
+fn verdict_detail(verdict: Result<u32, Fault>) -> u64
+    ensures { result ≡ value_or_place (judged verdict) }
 {
     match verdict {
-        Verdict::Accepted(value) => value as u64,
-        Verdict::Refused { number: _, place } => place,
-    }
-}
-
-// 0, or the refusal number.
-fn answer_refusal(answer: Answer) -> u32
-    ensures { result ≡ (answer_numbers answer).refusal }
-{
-    match answer {
-        Answer::Refused(number) => number,
-        _ => 0,
+        Ok(value) => value as u64,
+        Err(fault) => fault.place,
     }
 }
 
 // The value, yes as 1, the blocks, the ways, the spare or kind 8's weight.
 fn first_number(answer: Answer) -> u64
-    ensures { result ≡ first_number (answer_numbers answer) }
+    ensures { result ≡ first_number (answer_numbers (given answer)) }
 {
     match answer {
-        Answer::Refused(_) => 0,
         Answer::Knapsack { value, weight: _ } => value as u64,
         Answer::Sums { yes, totals: _ } => yes as u64,
         Answer::Blocks(blocks) => blocks as u64,
@@ -59,7 +50,7 @@ fn first_number(answer: Answer) -> u64
 
 // The weight beside a value, or the totals.
 fn second_number(answer: Answer) -> u64
-    ensures { result ≡ second_number (answer_numbers answer) }
+    ensures { result ≡ second_number (answer_numbers (given answer)) }
 {
     match answer {
         Answer::Knapsack { value: _, weight } => weight as u64,
@@ -68,14 +59,23 @@ fn second_number(answer: Answer) -> u64
     }
 }
 
-// Gives an answer as numbers: 0 or the refusal number, and two in first and second.
-fn give(answer: Answer, first: &mut u64, second: &mut u64) -> u32
-    ensures { (result ≡ (answer_numbers answer).refusal) × ((first.new ≡ first_number (answer_numbers answer))
-        × (second.new ≡ second_number (answer_numbers answer))) }
+// Gives an answer as numbers: 0 or the refusal number, and two in first and second, 0 on a refusal.
+fn give(answer: Result<Answer, Refusal>, first: &mut u64, second: &mut u64) -> u32
+    ensures { (result ≡ (answer_numbers (said answer)).refusal) × ((first.new ≡ first_number (answer_numbers (said answer)))
+        × (second.new ≡ second_number (answer_numbers (said answer)))) }
 {
-    *first = first_number(answer);
-    *second = second_number(answer);
-    answer_refusal(answer)
+    match answer {
+        Ok(answer) => {
+            *first = first_number(answer);
+            *second = second_number(answer);
+            0
+        }
+        Err(refusal) => {
+            *first = 0;
+            *second = 0;
+            refusal.number()
+        }
+    }
 }
 
 // ---- the entries
@@ -109,8 +109,7 @@ pub extern "C" fn quabnester_solve(
     ensures { SolvedHost job.now (lent_of cells.old words.old picks.old)
         result first.new second.new (lent_of cells.new words.new picks.new) }
 {
-    let answer = planner::solve_bytes(job, cells, words, picks);
-    give(answer, first, second)
+    give(planner::solve_bytes(job, cells, words, picks), first, second)
 }
 
 // The same, kind 1 with the full table.
@@ -126,8 +125,11 @@ pub extern "C" fn quabnester_solve_full(
     ensures { SolvedFullHost job.now (lent_of cells.old words.old picks.old)
         result first.new second.new (lent_of cells.new words.new picks.new) }
 {
-    let answer = planner::solve_full_bytes(job, cells, words, picks);
-    give(answer, first, second)
+    give(
+        planner::solve_full_bytes(job, cells, words, picks),
+        first,
+        second,
+    )
 }
 
 // 0 or the refusal number; how many bytes were written in `written`, 0 on a refusal.
@@ -142,15 +144,14 @@ pub extern "C" fn quabnester_write(
     ensures { WritesHost job.now picks.now cells.now out.old
         result written.new out.new }
 {
-    let answer = certificate::write_bytes(job, picks, cells, out);
-    match answer {
-        Written::Bytes(count) => {
+    match certificate::write_bytes(job, picks, cells, out) {
+        Ok(count) => {
             *written = count;
             0
         }
-        Written::Refused(number) => {
+        Err(refusal) => {
             *written = 0;
-            number
+            refusal.number()
         }
     }
 }
@@ -169,19 +170,18 @@ pub extern "C" fn quabnester_quick(
     ensures { QuickHost (quick_job budget weights.now values.now) first.old second.old
         result which.new value.new first.new second.new }
 {
-    let answer = quick::fill(budget, weights, values, first, second);
-    match answer {
-        Quick::Refused(number) => {
+    match quick::fill(budget, weights, values, first, second) {
+        Err(refusal) => {
             *which = 0;
             *value = 0;
-            number
+            refusal.number()
         }
-        Quick::First(worth) => {
+        Ok(Quick::First(worth)) => {
             *which = 1;
             *value = worth;
             0
         }
-        Quick::Second(worth) => {
+        Ok(Quick::Second(worth)) => {
             *which = 2;
             *value = worth;
             0

@@ -4,10 +4,11 @@
 ghost use Rattle.std.specs.Prelude.{◌≡◌, ◌≤◌, ◌<◌, length, take, IfOk};
 ghost use Rattle.std.specs.Io.{ReadsAtMost};
 ghost use Rattle.std.specs.Io.KnownBytes.{Consumes, IsAtEnd};
+ghost use Rattle.meaning.specs.Says.{given, said};
 ghost use Rattle.plan.specs.Picks.{picks_written};
 ghost use Rattle.plan.specs.Replies.{JobReplied, Replied, lines_room};
 
-use meaning::Answer;
+use meaning::{Answer, Refusal};
 use std::io;
 use std::io::Read;
 
@@ -24,9 +25,9 @@ const PICKS: usize = 1_024;
 // How many bytes the lines of an answer need: 128, and 21 for each pick that is lent.
 const LINES_ROOM: usize = 128 + 21 * PICKS;
 
-// How many picks an answer to a job of n labels has written: one a label where its kind has picks, none with a refusal.
-fn picks_written(answer: Answer, n: usize) -> usize
-    ensures { result ≡ picks_written answer n }
+// How many picks an answer to a job of n labels has written: one a label where its kind has picks.
+fn picks_of(answer: Answer, n: usize) -> usize
+    ensures { result ≡ picks_written (given answer) n }
 {
     match answer {
         Answer::Knapsack {
@@ -36,7 +37,17 @@ fn picks_written(answer: Answer, n: usize) -> usize
         | Answer::Blocks(_)
         | Answer::Shares(_)
         | Answer::Weight(_) => n,
-        Answer::Sums { yes: _, totals: _ } | Answer::Ways(_) | Answer::Refused(_) => 0,
+        Answer::Sums { yes: _, totals: _ } | Answer::Ways(_) => 0,
+    }
+}
+
+// The same of what was handed back: a refusal has none.
+fn picks_written(answer: Result<Answer, Refusal>, n: usize) -> usize
+    ensures { result ≡ picks_written (said answer) n }
+{
+    match answer {
+        Ok(answer) => picks_of(answer, n),
+        Err(_) => 0,
     }
 }
 
@@ -60,7 +71,7 @@ fn reply(input: &[u8], out: &mut [u8]) -> usize
     ensures { Replied input.now out.old out.new result }
 {
     if MOST_INPUT < input.len() {
-        return print::text(0, Answer::Refused(4), &[0u32; 0], out);
+        return print::text(0, Err(Refusal::Bound), &[0u32; 0], out);
     }
     reply_to_job(input, out)
 }

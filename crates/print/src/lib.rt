@@ -3,12 +3,13 @@
 #![tactic(auto)]
 
 ghost use Rattle.std.specs.Prelude.{◌+◌, ◌≤◌, length};
+ghost use Rattle.meaning.specs.Says.{given, said};
 ghost use Rattle.numbers.specs.Placed.{WrittenAt};
 ghost use Rattle.print.specs.Lines.{after_blank, line_of, picks_line, head_lines};
 ghost use Rattle.print.specs.Lines.{refused_lines, knapsack_lines, sums_lines, ways_lines, number_and_picks, lines_of};
 ghost use Rattle.print.specs.Puts.{PutFirst};
 
-use meaning::Answer;
+use meaning::{Answer, Refusal};
 
 // Puts bytes at p, and gives the place after them.
 #[tactic(auto, unfolding(numbers::specs::Placed::HoldsAt))]
@@ -107,19 +108,34 @@ fn put_number_and_picks(out: &mut [u8], kind: u32, name: &[u8], x: u32, picks: &
     put_picks(out, next, picks)
 }
 
-// Puts all lines of an answer to a job of this kind at the start of a slice, and gives how long they are: at most 128 bytes, and 21 for
-// each pick.
-pub fn text(kind: u32, answer: Answer, picks: &[u32], out: &mut [u8]) -> usize
-    requires { length (lines_of kind answer picks.now) ≤ length out.old }
-    ensures { PutFirst (lines_of kind answer picks.now) out.old out.new result }
+// Puts the lines of an answer, and gives how long they are.
+fn put_answer(out: &mut [u8], kind: u32, answer: Answer, picks: &[u32]) -> usize
+    requires { length (lines_of kind (given answer) picks.now) ≤ length out.old }
+    ensures { PutFirst (lines_of kind (given answer) picks.now) out.old out.new result }
 {
     match answer {
-        Answer::Refused(refused) => put_refused(out, refused),
         Answer::Knapsack { value, weight } => put_knapsack(out, kind, value, weight, picks),
         Answer::Sums { yes, totals } => put_sums(out, kind, yes, totals),
         Answer::Blocks(blocks) => put_number_and_picks(out, kind, b"blocks", blocks, picks),
         Answer::Ways(ways) => put_ways(out, kind, ways),
         Answer::Shares(spare) => put_number_and_picks(out, kind, b"spare", spare, picks),
         Answer::Weight(weight) => put_number_and_picks(out, kind, b"weight", weight, picks),
+    }
+}
+
+// Puts all lines of an answer to a job of this kind, or of its refusal, at the start of a slice, and gives how long they are: at most 128 bytes, and
+// 21 for each pick.
+pub fn text(
+    kind: u32,
+    answer: Result<Answer, Refusal>,
+    picks: &[u32],
+    out: &mut [u8],
+) -> usize
+    requires { length (lines_of kind (said answer) picks.now) ≤ length out.old }
+    ensures { PutFirst (lines_of kind (said answer) picks.now) out.old out.new result }
+{
+    match answer {
+        Ok(answer) => put_answer(out, kind, answer, picks),
+        Err(refusal) => put_refused(out, refusal.number()),
     }
 }

@@ -5,10 +5,6 @@ use Rattle.meaning.specs.Host.{first_number}
 use Rattle.meaning.proofs.Tally.{one_or_none}
 use Rattle.host.proofs.first_number.Goals as goal
 
-pub returns-in-Refused : goal.returns-in-Refused
-unfolding answer_numbers first_number
-returns-in-Refused c = rw c.in-Refused.is
-
 pub returns-in-Knapsack : goal.returns-in-Knapsack
 unfolding answer_numbers first_number
 returns-in-Knapsack c = rw c.in-Knapsack.is (omega arith)

@@ -1,25 +1,26 @@
 -- `host::quabnester_write` meets its contract: the writer's answer as numbers.
+use Rattle.meaning.specs.Reports.{reported}
 use Rattle.meaning.specs.Answers.{written_numbers}
 use Rattle.host.proofs.quabnester_write.Goals as goal
 
-pub returns-in-Bytes : goal.returns-in-Bytes
+pub returns-in-Ok : goal.returns-in-Ok
 unfolding written_numbers
-returns-in-Bytes c =
-    let writer = c.write_bytes-answer in
+returns-in-Ok c =
+    let writer = c.write_bytes in
     record {
-      answer = writer.result;
+      answer = reported writer.result;
       writes = writer.ensures;
-      refusal = rw c.in-Bytes.is;
-      bytes_are = rw c.in-Bytes.is;
+      refusal = rw c.in-Ok.is;
+      bytes_are = rw c.in-Ok.is;
     }
 
-pub returns-in-Refused : goal.returns-in-Refused
+pub returns-in-Err : goal.returns-in-Err
 unfolding written_numbers
-returns-in-Refused c =
-    let writer = c.write_bytes-answer in
+returns-in-Err c =
+    let writer = c.write_bytes in
     record {
-      answer = writer.result;
+      answer = reported writer.result;
       writes = writer.ensures;
-      refusal = rw c.in-Refused.is;
-      bytes_are = rw c.in-Refused.is;
+      refusal = rw c.in-Err.is c.number.ensures;
+      bytes_are = rw c.in-Err.is;
     }

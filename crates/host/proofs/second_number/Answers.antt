@@ -2,24 +2,24 @@
 use mathlib.Core.Path.{◌≡◌, refl}
 use mathlib.Core.Bool.{Bool}
 use Prim.Native.Nat.{ℕ}
-use Rattle.meaning.specs.Says.{Answer}
-use Rattle.meaning.specs.Says as Says
+use Rattle.meaning.specs.declared.Answer.{Answer}
+use Rattle.meaning.specs.declared.Answer.TheVariants as Gives
+use Rattle.meaning.specs.Says.{given}
 use native.Mathlib.Omega.{arith}
 use Rattle.meaning.specs.Answers.{answer_numbers}
 use Rattle.meaning.specs.Host.{second_number}
 use Rattle.host.proofs.second_number.Goals as goal
 
 -- every other case
-others : (a : Answer) → ((v w : ℕ) → a ≡ Says.Knapsack v w → ⊥) → ((y : Bool) (n : ℕ) → a ≡ Says.Sums y n → ⊥)
-    → 0 ≡ second_number (answer_numbers a)
+others : (a : Answer) → ((v w : ℕ) → a ≡ Gives.Knapsack v w → ⊥) → ((y : Bool) (n : ℕ) → a ≡ Gives.Sums y n → ⊥)
+    → 0 ≡ second_number (answer_numbers (given a))
 unfolding second_number answer_numbers
-others (Says.Refused r) other neither = refl
-others (Says.Knapsack v w) other neither = absurd (other v w refl)
-others (Says.Sums y n) other neither = absurd (neither y n refl)
-others (Says.Blocks b) other neither = refl
-others (Says.Ways w) other neither = refl
-others (Says.Shares x) other neither = refl
-others (Says.Weight w) other neither = refl
+others (Gives.Knapsack v w) other neither = absurd (other v w refl)
+others (Gives.Sums y n) other neither = absurd (neither y n refl)
+others (Gives.Blocks b) other neither = refl
+others (Gives.Ways w) other neither = refl
+others (Gives.Shares x) other neither = refl
+others (Gives.Weight w) other neither = refl
 
 pub returns-in-Knapsack : goal.returns-in-Knapsack
 unfolding answer_numbers second_number

@@ -4,10 +4,10 @@ use Rattle.meaning.specs.Answers.{verdict_numbers}
 use Rattle.meaning.specs.Host.{value_or_place}
 use Rattle.host.proofs.verdict_detail.Goals as goal
 
-pub returns-in-Accepted : goal.returns-in-Accepted
+pub returns-in-Ok : goal.returns-in-Ok
 unfolding value_or_place verdict_numbers
-returns-in-Accepted c = rw c.in-Accepted.is (omega arith)
+returns-in-Ok c = rw c.in-Ok.is (omega arith)
 
-pub returns-in-Refused : goal.returns-in-Refused
+pub returns-in-Err : goal.returns-in-Err
 unfolding value_or_place verdict_numbers
-returns-in-Refused c = rw c.in-Refused.is (omega arith)
+returns-in-Err c = rw c.in-Err.is (omega arith)

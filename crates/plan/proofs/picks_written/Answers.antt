@@ -1,23 +1,11 @@
--- `plan::picks_written` meets its contract: each of its two arms is told the variants that it takes.
-use Rattle.std.proofs.Common.{inl, inr, refl}
+-- `plan::picks_written` meets its contract: an answer has its picks, and a refusal none.
+use mathlib.Core.Path.{refl}
 use Rattle.plan.specs.Picks.{picks_written}
 use Rattle.plan.proofs.picks_written.Goals as goal
 
-pub returns-in-Knapsack : goal.returns-in-Knapsack
-unfolding picks_written
-returns-in-Knapsack c =
-    elim c.in-Knapsack.is [
-      | inl (value, weight, is) ↦ rw is
-      | inr (inl (blocks, is)) ↦ rw is
-      | inr (inr (inl (spare, is))) ↦ rw is
-      | inr (inr (inr (weight, is))) ↦ rw is
-    ]
+pub returns-in-Ok : goal.returns-in-Ok
+returns-in-Ok c = rw c.in-Ok.is c.picks_of.ensures
 
-pub returns-in-Sums : goal.returns-in-Sums
+pub returns-in-Err : goal.returns-in-Err
 unfolding picks_written
-returns-in-Sums c =
-    elim c.in-Sums.is [
-      | inl (reached, totals, is) ↦ rw is refl
-      | inr (inl (ways, is)) ↦ rw is refl
-      | inr (inr (refused, is)) ↦ rw is refl
-    ]
+returns-in-Err c = rw c.in-Err.is refl

@@ -5,6 +5,7 @@ use native.Mathlib.Omega.{arith}
 use lib.ListN.{length, take}
 use lib.Seq.{length-take-le}
 use Rattle.meaning.specs.Lent.{lent_of}
+use Rattle.meaning.specs.Says.{said}
 use Rattle.print.proofs.Lengths.{lines_room}
 use Rattle.plan.proofs.Room.{picks_room}
 use Rattle.plan.proofs.Replies.{replied, told_on_ours}
@@ -32,7 +33,7 @@ text-requires c =
     let room : written.result ≤ length told.new.picks = omega (arith, picks_room told.ensures, written.ensures, told.auto.picks) in
     omega (
       arith,
-      lines_room told.result.kind told.result.answer (take written.result told.new.picks),
+      lines_room told.result.kind (said told.result.answer) (take written.result told.new.picks),
       length-take-le written.result told.new.picks room,
       room,
       told.auto.picks,
