@@ -3,7 +3,7 @@
 ghost use Rattle.std.specs.Prelude.{◌≤◌, length};
 
 use crate::lines;
-use meaning::{Answer, Way};
+use meaning::{Answer, Refusal, Way};
 use std::io;
 
 // Where the budgets' count stands.
@@ -66,7 +66,7 @@ pub fn lent(numbers: &[u32], which: usize, most: usize) -> usize
 fn show(
     rt: &impl Print,
     numbers: &[u32],
-    answer: Answer,
+    answer: Result<Answer, Refusal>,
     picks: [u32; PICKS],
     whole: bool,
 ) -> io::Result<()> {
@@ -82,7 +82,7 @@ fn solve_bytes(
     cells: &mut [u32],
     words: &mut [u64],
     picks: &mut [u32],
-) -> Answer {
+) -> Result<Answer, Refusal> {
     match way {
         Way::Light => planner::solve_bytes(job, cells, words, picks),
         Way::Full => planner::solve_full_bytes(job, cells, words, picks),
@@ -96,7 +96,7 @@ fn solve_lists(
     cells: &mut [u32],
     words: &mut [u64],
     picks: &mut [u32],
-) -> Answer {
+) -> Result<Answer, Refusal> {
     let kind = at(numbers, 1);
     let budgets = list(numbers, BUDGETS);
     let budget = at(budgets, 0);
@@ -125,7 +125,7 @@ fn solve(
     cells: &mut [u32],
     words: &mut [u64],
     picks: &mut [u32],
-) -> Answer {
+) -> Result<Answer, Refusal> {
     if as_bytes {
         return solve_bytes(way, job, cells, words, picks);
     }

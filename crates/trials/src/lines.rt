@@ -1,7 +1,7 @@
 // What is printed: an answer as its lines, or within a line.
 ghost use Rattle.std.specs.Prelude.{◌≤◌, length};
 
-use meaning::Answer;
+use meaning::{Answer, Refusal};
 use std::io;
 
 // Some text, with no line end.
@@ -53,7 +53,7 @@ fn put(rt: &impl Print, lines: &[u8], whole: bool) -> io::Result<()> {
 pub fn show(
     rt: &impl Print,
     kind: u32,
-    answer: Answer,
+    answer: Result<Answer, Refusal>,
     picks: &[u32],
     whole: bool,
 ) -> io::Result<()>

@@ -3,7 +3,7 @@
 ghost use Rattle.std.specs.Prelude.{◌≤◌};
 
 use crate::{doors, lines};
-use meaning::Quick;
+use meaning::{Quick, Refusal};
 use std::io;
 
 // A number, after a blank.
@@ -17,6 +17,11 @@ fn line(rt: &impl Print, name: &[u8], x: u64) -> io::Result<()> {
     lines::text(rt, name)?;
     number(rt, x)?;
     lines::text(rt, b"\n")
+}
+
+// The line of a refusal.
+fn refused(rt: &impl Print, refusal: Refusal) -> io::Result<()> {
+    line(rt, b"refused", u64::from(refusal.number()))
 }
 
 // The lines that tell which list is the worthier, and what it is worth.
@@ -79,9 +84,9 @@ fn show_told(rt: &impl Print, numbers: &[u32]) -> io::Result<()> {
         &mut second[..s],
     );
     match told {
-        Quick::Refused(refused) => line(rt, b"refused", u64::from(refused)),
-        Quick::First(value) => worthier(rt, 1, value),
-        Quick::Second(value) => worthier(rt, 2, value),
+        Err(refusal) => refused(rt, refusal),
+        Ok(Quick::First(value)) => worthier(rt, 1, value),
+        Ok(Quick::Second(value)) => worthier(rt, 2, value),
     }
 }
 
@@ -103,15 +108,15 @@ fn show_picks(rt: &impl Print, numbers: &[u32]) -> io::Result<()> {
 
 // The quick answer to a job.
 pub fn answer(rt: &impl Print, numbers: &[u32]) -> io::Result<()> {
-    let refused = quick::refusal(
+    let asked = quick::refusal(
         budget(numbers),
         weights(numbers),
         values(numbers),
         places(numbers, 1),
         places(numbers, 2),
     );
-    if refused != 0 {
-        return line(rt, b"refused", u64::from(refused));
+    if let Err(refusal) = asked {
+        return refused(rt, refusal);
     }
     show_told(rt, numbers)?;
     show_picks(rt, numbers)
