@@ -23,7 +23,7 @@ trace : (c : goal.After-slice_known-5-1)
 trace c =
     let room = full_ready c.requires.let_in c.requires.kind_bound in
     let needed : ℕ = (c.len-n.result + 1) * (c.args.budget + 1) in
-    let long : length c.fill.new.cells ≡ needed = c.fill.auto.cells ∙ length-take-le _ _ (rw c.len-n.ensures room.cells_room) in
+    let long : length c.fill.new.cells ≡ needed = c.fill.auto.cells ∙ length-take-le needed c.args.cells.now (rw c.len-n.ensures room.cells_room) in
     rw (front_part c.fill.new.cells c.args.cells.now needed long, add-sub_cancel) at c.trace_back-left.ensures
 
 pub overflow_add-needed : goal.overflow_add-needed
@@ -112,6 +112,7 @@ returns c =
     let counted : needed ≡ (length a.weights.now + 1) * (a.budget + 1) = ap (λ (n : ℕ). (n + 1) * (a.budget + 1)) n in
     let long : length c.fill.new.cells ≡ needed = c.fill.auto.cells ∙ length-take-le _ _ (rw n room.cells_room) in
     let place = length a.weights.now * (a.budget + 1) + a.budget in
-    let last = front_last c.fill.new.cells a.cells.now needed long place (omega (arith, counted, one_row_more (length a.weights.now) (a.budget + 1))) in
+    let inside = one_row_more (length a.weights.now) (a.budget + 1) in
+    let last = front_last c.fill.new.cells a.cells.now needed long place (omega (arith, counted, inside)) in
     packs_full c.requires.let_in.knapsack _ a.cells.now a.picks.now c.fill.new.cells _ _ room.is c.requires.let_in.unrefused
     (long ∙ counted) (rw room.numbered at c.fill.ensures) (trace c) needed _ _ counted n last

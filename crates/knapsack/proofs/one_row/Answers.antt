@@ -34,7 +34,8 @@ pub fill_row-requires : goal.fill_row-requires
 fill_row-requires c = rw (length-take-le _ _ (free_ready c.requires).cells_room) (free_ready c.requires).bounds
 
 pub slice_bounds-trace_along-end : goal.slice_bounds-trace_along-end
-slice_bounds-trace_along-end c = front_room c.fill_row.new.row c.args.cells.now (c.args.budget + 1) (c.fill_row.auto.row ∙ length-take-le _ _ (free_ready c.requires).cells_room)
+slice_bounds-trace_along-end c =
+    front_room c.fill_row.new.row c.args.cells.now (c.args.budget + 1) (c.fill_row.auto.row ∙ length-take-le _ _ (free_ready c.requires).cells_room)
 
 pub slice_bounds-trace_along-end-2 : goal.slice_bounds-trace_along-end-2
 slice_bounds-trace_along-end-2 c =
