@@ -23,6 +23,8 @@ use Rattle.meaning.proofs.SolvedIn.{kept, holds_front, solved_in_cells}
 use Rattle.meaning.proofs.Totals.{total_none, empty_of}
 use Rattle.meaning.proofs.Trace.{picks_none, picks_worth}
 use Rattle.knapsack.specs.Tables.{limit_of, row_of, Filled, Climbed}
+use Rattle.rows.specs.Bounded.{Bounded}
+use Rattle.rows.proofs.Bounded.{bounded}
 use Rattle.rows.specs.Traces.{TraceBack}
 use Rattle.knapsack.specs.Traces.{TraceAlong}
 use Rattle.knapsack.specs.KnapsackDoor.{LetIn}
@@ -85,23 +87,38 @@ unfolding room_by once_room room_of
 full_room once_is j = refl
 full_room limited_is j = refl
 
--- so the lent cells hold the table of the labels that were counted
-pub table_held : (kind budget : ℕ) (weights values copies cells picks : List ℕ) (n : ℕ)
-    → LetIn (job_of kind (budget ∷ []) weights values copies) cells picks → kind < 3 → n ≡ length weights
-    → (n + 1) * (budget + 1) ≤ length cells
-unfolding cell_count job_of labels
-table_held kind budget weights values copies cells picks n asked few n-is =
-    let k = asked.knapsack in
-    let job = job_of kind (budget ∷ []) weights values copies in
-    let is : Rowed k = rowed k (rw (kind_number kind (packing k) asked.unrefused.of_kind) at few) in
-    let room : (length weights + 1) * (budget + 1) ≤ length cells = rw (full_room is job) at (ready k job cells picks asked.unrefused).cells_room in
-    rw n-is room
-
 -- kind 2 has a number of copies for each label
 pub copies_long : {k : Knapsack} → Rowed k → (j : Job) → Valid k j → ¬ (number_of (packing k) ≡ 1) → length j.copies ≡ labels j
 unfolding number_of has_copies if
 copies_long once_is j ok other = absurd (other refl)
 copies_long limited_is j ok other = ok.copied
+
+-- what a job of kind 1 or 2 keeps that is let in, in the numbers and lists that it is made of
+pub record FullReady (kind budget : ℕ) (ws vs cs cells picks : List ℕ) (k : Knapsack) : Type 0 where
+  pub is : Rowed k
+  pub numbered : kind ≡ number_of (packing k)
+  pub bounds : Bounded (budget + 1) ws vs
+  pub copied : ¬ (kind ≡ 1) → length cs ≡ length ws
+  pub cells_room : (length ws + 1) * (budget + 1) ≤ length cells
+  pub picks_room : length ws ≤ length picks
+
+pub full_ready : {kind budget : ℕ} {ws vs cs cells picks : List ℕ} (asked : LetIn (job_of kind (budget ∷ []) ws vs cs) cells picks) → kind < 3
+    → FullReady kind budget ws vs cs cells picks asked.knapsack
+unfolding cell_count job_of labels
+full_ready {kind} {budget} {ws} {vs} {cs} {cells} {picks} asked few =
+    let k = asked.knapsack in
+    let job = job_of kind (budget ∷ []) ws vs cs in
+    let numbered = kind_number kind (packing k) asked.unrefused.of_kind in
+    let is : Rowed k = rowed k (rw numbered at few) in
+    let keeps = ready k job cells picks asked.unrefused in
+    record {
+      is = is;
+      numbered = numbered;
+      bounds = bounded k job keeps.valid;
+      copied = λ other. copies_long is job keeps.valid (rw numbered at other);
+      cells_room = rw (full_room is job) at keeps.cells_room;
+      picks_room = keeps.picks_room;
+    }
 
 order_back : {k : Knapsack} → Rowed k → order_of k ≡ last_least
 unfolding order_of
@@ -112,6 +129,22 @@ full_value : {k : Knapsack} → Rowed k → (j : Job) (table : List ℕ) → Ful
 unfolding ValueTable
 full_value once_is j table t = t
 full_value limited_is j table t = t
+
+-- ---- kind 3
+
+-- what a job of kind 3 keeps that is let in
+pub record FreeReady (budget : ℕ) (ws vs cells picks : List ℕ) : Type 0 where
+  pub bounds : Bounded (budget + 1) ws vs
+  pub cells_room : budget + 1 ≤ length cells
+  pub picks_room : length ws ≤ length picks
+
+pub free_ready : {budget : ℕ} {ws vs cells picks : List ℕ}
+    → UnrefusedBy Full (packing free) (job_of 3 (budget ∷ []) ws vs []) (lent_of cells [] picks) → FreeReady budget ws vs cells picks
+unfolding job_of labels room_by room_of
+free_ready {budget} {ws} {vs} {cells} {picks} a =
+    let job = job_of 3 (budget ∷ []) ws vs [] in
+    let keeps = ready free job cells picks a in
+    record { bounds = bounded free job keeps.valid; cells_room = keeps.cells_room; picks_room = keeps.picks_room }
 
 -- ---- what an answer comes to
 

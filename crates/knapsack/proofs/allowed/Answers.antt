@@ -9,9 +9,6 @@ pub returns-then-kind-eq1 : goal.returns-then-kind-eq1
 unfolding if limit_of
 returns-then-kind-eq1 c = rw (eq-eqb c.args.kind 1 c.if-kind-eq1.true)
 
-pub at-requires : goal.at-requires
-at-requires c = c.requires c.if-kind-eq1.false
-
 pub returns : goal.returns
 unfolding if limit_of
 returns c = c.at.ensures ∙ rw (ne_eqb c.args.kind 1 c.if-kind-eq1.false)

@@ -23,7 +23,8 @@ overflow_mul-c c = omega (arith, c.least_count-x.ensures.made.spent, c.requires.
 pub loop-i-preserved : goal.loop-i-preserved
 loop-i-preserved c =
     let w = c.at-w.ensures in
+    let least = rw (w, c.at-v.ensures) at c.least_count-x.ensures in
     let l = c.loop-i in (
       omega arith,
-      rw w (trace_more _ _ _ _ _ l.i l.c _ l.picks (omega arith) (omega arith) l.invariant.1 (rw suc-mul (rw (w, c.at-v.ensures) at c.least_count-x.ensures))),
+      rw w (trace_more _ _ _ _ _ l.i l.c _ l.picks (omega arith) (omega arith) l.invariant.1 (rw suc-mul least)),
     )

@@ -16,12 +16,14 @@ raise_label-requires-clause-le_w c =
     let w = c.at-w.ensures in (
       omega (arith, w, c.requires.bounded.heavy l.i (omega arith)),
       λ k h.
-          omega (arith, w, c.at-v.ensures, l.invariant.cells k (omega arith), row_fits _ _ _ c.requires.bounded l.i (omega arith) k (omega (arith, w))),
+          let fits = row_fits _ _ _ c.requires.bounded l.i (omega arith) k (omega (arith, w)) in
+          omega (arith, w, c.at-v.ensures, l.invariant.cells k (omega arith), fits),
     )
 
 pub loop-i-preserved : goal.loop-i-preserved
 loop-i-preserved c =
     let l = c.loop-i in
     let up = c.raise_label in
-    lit_more _ _ _ _ (length c.args.weights.now) l.i l.row _ l.words _ (omega arith) (omega arith) (omega (arith, c.requires.per_value.1)) l.invariant up.auto.words
+    lit_more _ _ _ _ (length c.args.weights.now) l.i l.row _ l.words _ (omega arith) (omega arith) (omega (arith, c.requires.per_value.1))
+    l.invariant up.auto.words
     (rw (l.auto.row, c.fill.auto.self, c.at-w.ensures, c.at-v.ensures) at up.ensures)

@@ -19,7 +19,7 @@ loop-end-preserved c =
     let l = c.loop-end in
     let a = c.args in
     let word = c.raise_word-bits in
-    blocks_more c.args.row.now a.w a.v ((length c.args.row.now - 1) % 64 + 1) (length a.words.now) l.row word.new.row l.words l.m l.end l.above word.result
+    blocks_more a.row.now a.w a.v ((length c.args.row.now - 1) % 64 + 1) (length a.words.now) l.row word.new.row l.words l.m l.end l.above word.result
     c.joined.result (omega arith) (omega arith) c.loop-end.invariant (omega arith) word.ensures word.auto.row c.joined.ensures
 
 pub returns : goal.returns
@@ -27,6 +27,6 @@ returns c =
     let l = c.loop-end in
     let a = c.args in
     let b = c.loop-end.invariant in
-    blocks_all c.args.row.now a.w a.v ((length c.args.row.now - 1) % 64 + 1) (length a.words.now) l.row c.raise_last-bits.new.row l.words l.m l.end l.above
+    blocks_all a.row.now a.w a.v ((length c.args.row.now - 1) % 64 + 1) (length a.words.now) l.row c.raise_last-bits.new.row l.words l.m l.end l.above
     c.raise_last-bits.result c.joined-2.result (omega arith) (omega arith) b c.lower_words.new.words (omega arith)
     (omega (arith, b.place)) c.raise_last-bits.ensures c.joined-2.ensures c.lower_words.ensures (omega (arith, c.requires.in_bounds))

@@ -10,7 +10,8 @@ use Rattle.light.proofs.raise_word.Goals as goal
 pub loop-i-preserved : goal.loop-i-preserved
 loop-i-preserved c =
     let l = c.loop-i in
-    raising_more _ _ _ _ l.i _ _ _ l.row l.bits (omega arith) (omega arith) l.invariant (c.loop-k.invariant.1 l.i (omega arith)) c.rise.ensures c.max.ensures
+    let sum = c.loop-k.invariant.1 l.i (omega arith) in
+    raising_more _ _ _ _ l.i _ _ _ l.row l.bits (omega arith) (omega arith) l.invariant sum c.rise.ensures c.max.ensures
 
 pub word-requires : goal.word-requires
 unfolding Few

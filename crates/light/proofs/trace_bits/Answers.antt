@@ -14,7 +14,8 @@ pub overflow_mul-c : goal.overflow_mul-c
 unfolding most_budget
 overflow_mul-c c =
     let l = c.loop-i in
-    let fits : c.at-w.result * c.bit_at-x.result ≤ l.c = rw (c.at-w.ensures, c.bit_at-x.ensures) (c.requires.by_index (l.i - 1) l.c (omega arith) (omega arith)) in
+    let set = c.requires.by_index (l.i - 1) l.c (omega arith) (omega arith) in
+    let fits : c.at-w.result * c.bit_at-x.result ≤ l.c = rw (c.at-w.ensures, c.bit_at-x.ensures) set in
     omega (arith, fits)
 
 pub loop-i-preserved : goal.loop-i-preserved
