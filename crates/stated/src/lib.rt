@@ -101,6 +101,7 @@ struct Measures {
 }
 
 // The measures of a job, by three goes over its labels. How many cells there are may pass 32 bits; all before it fits them.
+#[tactic(auto, using(crate::proofs::Fitting::cells_fit))]
 fn measure(budget: u32, q: u32, weights: &Numbers, values: &Numbers) -> Measures
     requires { (q ≤ most_q) × Valued weights.now values.now }
     ensures { (result.divisor
@@ -124,6 +125,7 @@ fn measure(budget: u32, q: u32, weights: &Numbers, values: &Numbers) -> Measures
 // ---- a row made of the row before it
 
 // The lesser of `without` and of `less` with a label of weight w, which leaves `room` of the budget. What is no more than the room isn't the mark.
+#[tactic(auto, using(crate::proofs::Lightening::lighter_past, crate::proofs::Lightening::lighter_lesser), unfolding(meaning::specs::Bounds::most_budget))]
 fn lesser_weight(without: u32, less: u32, w: u32, room: u32) -> u32
     requires { w + room ≤ most_budget }
     ensures { result ≡ lighter (w + room) w without less }
@@ -153,6 +155,7 @@ fn lighten(cells: &mut [u32], from: usize, to: usize, width: usize, a: usize, w:
 }
 
 // The row after the one at `from`, with a label of weight w, within the budget, and cut value a.
+#[tactic(auto, using(crate::proofs::Lightening::next_made))]
 fn next_weights(cells: &mut [u32], from: usize, width: usize, budget: u32, w: u32, a: usize)
     requires { (a ≤ width) × ((from + width + width ≤ length cells.old) × ((w ≤ budget) × (budget ≤ most_budget))) }
     ensures { NextWeights cells.old cells.new from width budget w a }
@@ -165,6 +168,7 @@ fn next_weights(cells: &mut [u32], from: usize, width: usize, budget: u32, w: u3
 // ---- the table
 
 // A label of weight w and cut value a: gives where the last row starts then. A label heavier than the budget is left aside.
+#[tactic(auto, using(crate::specs::LeastWeights::aside, crate::specs::LeastWeights::row_made))]
 fn add_label(cells: &mut [u32], from: usize, width: usize, budget: u32, w: u32, a: usize) -> usize
     requires { (budget ≤ most_budget) × (w ≤ budget → (a ≤ width) × (from + width + width ≤ length cells.old)) }
     ensures { LabelAdded cells.old cells.new from width budget w a result }
@@ -203,6 +207,7 @@ fn row_before(row: usize, width: usize, budget: u32, w: u32) -> usize
 }
 
 // 1 where two cells differ, and 0 where they are the same.
+#[tactic(auto, using(crate::proofs::Filling::apart_same, crate::proofs::Filling::apart_other))]
 fn differ(x: u32, y: u32) -> u32
     ensures { result ≡ apart x y }
 {
@@ -318,6 +323,7 @@ pub fn cells_needed(budget: u32, q: u32, weights: &Numbers, values: &Numbers) ->
 }
 
 // Kind 9: the table, and the picks that it leads to.
+#[tactic(auto, using(crate::proofs::StatedDoor::keeps, crate::proofs::StatedDoor::divisor_positive), unfolding(meaning::specs::Job::job_of, meaning::specs::Job::labels, meaning::specs::Job::has_q))]
 pub fn solve(
     budget: u32,
     q: u32,
