@@ -188,7 +188,7 @@ fn highest(row: &[u32]) -> usize
     ensures { Highest (at row.now) (length row.now) result }
 {
     let mut t = row.len() - 1;
-    // no range: total 0 is reached, so that the search ends before it has none left
+    // no range: the search goes by what the cells hold, and ends at total 0 at the latest, which is reached
     while rows::is_marked(row[t]) {
         t -= 1;
     }
