@@ -303,6 +303,7 @@ fn share(budget: u32, weights: &Numbers, shares: &mut [u32]) -> u32
 }
 
 // Kind 7: the shares and the spare of a job that no refusal meets.
+#[tactic(auto, using(crate::proofs::SharesDoor::ready, crate::proofs::SharesDoor::shared), unfolding(meaning::specs::Job::job_of, meaning::specs::Job::labels))]
 pub fn solve(budget: u32, weights: &Numbers, picks: &mut [u32]) -> Answer
     requires { Unrefused sharing (weights_from 7 (budget ∷ []) weights.now) (lent_of [] [] picks.old) }
     ensures { SolvedInPicks (weights_from 7 (budget ∷ []) weights.now) picks.old result

@@ -33,7 +33,7 @@ fn if_light(x: u32, w: u32, budget: u32) -> u32
 }
 
 // How many labels remain.
-#[tactic(auto, using(crate::proofs::Filling::row_none, crate::proofs::Filling::row_count, crate::proofs::Fitting::count_fits))]
+#[tactic(auto, using(crate::proofs::Filling::row_none, crate::proofs::Filling::row_count))]
 fn count_remaining(budget: u32, weights: &Numbers) -> u32
     requires { length weights.now ≤ most_labels }
     ensures { (result ≡ row_of budget weights.now
@@ -48,7 +48,7 @@ fn count_remaining(budget: u32, weights: &Numbers) -> u32
 }
 
 // The greatest value of those that remain.
-#[tactic(auto, using(crate::proofs::Measuring::none_on, crate::proofs::Measuring::greatest_on), unfolding(meaning::specs::Cuts::greatest_of))]
+#[tactic(auto, using(crate::proofs::Measuring::none_on), unfolding(meaning::specs::Cuts::greatest_of))]
 fn greatest_value(budget: u32, weights: &Numbers, values: &Numbers) -> u32
     requires { length values.now ≡ length weights.now }
     ensures { result ≡ greatest_of (that_fit budget weights.now
@@ -77,7 +77,7 @@ fn divisor_of(p: u32, m: u32, q: u32) -> u32
 }
 
 // The sum of the cut values that remain.
-#[tactic(auto, using(crate::proofs::Fitting::sum_fits, crate::proofs::Measuring::cut_at, crate::proofs::Measuring::cut_long, crate::proofs::Measuring::none_on, crate::proofs::Measuring::sum_on), unfolding(meaning::specs::Lists::sum))]
+#[tactic(auto, using(crate::proofs::Measuring::cut_long, crate::proofs::Measuring::none_on), unfolding(meaning::specs::Lists::sum))]
 fn cut_sum(budget: u32, divisor: u32, weights: &Numbers, values: &Numbers) -> u32
     requires { (0 < divisor) × Valued weights.now values.now }
     ensures { result ≡ sum (that_fit budget weights.now
@@ -215,7 +215,7 @@ fn differ(x: u32, y: u32) -> u32
 }
 
 // What picks are worth, in the uncut values.
-#[tactic(auto, using(meaning::proofs::Totals::total_none, meaning::proofs::EachLabel::total_next, meaning::proofs::EachLabel::product_one, crate::proofs::Fitting::sum_fits))]
+#[tactic(auto, using(meaning::proofs::Totals::total_none, meaning::proofs::EachLabel::total_next, meaning::proofs::EachLabel::product_one))]
 fn value_of(values: &Numbers, picks: &[u32]) -> u32
     requires valued { Valued picks.now values.now }
     requires by_index { (i : ℕ) → i < length picks.now → at picks.now i ≤ 1 }
