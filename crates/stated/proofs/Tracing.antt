@@ -47,7 +47,8 @@ module _ {c : ℕ} {weights cuts : List ℕ} {width : ℕ} (cells : List ℕ) (r
       (omega (arith, end_long cells (length cells - width) width wide, roomy.wide), λ marked. omega (arith, marked, last_at 0 roomy.wide, none))
 
   -- its highest total is that of all labels
-  pub last_highest : {top : ℕ} → Highest (at (last_of cells width)) (length (last_of cells width)) top → Highest (cell_of c weights width cells (length weights)) width top
+  pub last_highest : {top : ℕ} → Highest (at (last_of cells width)) (length (last_of cells width)) top
+      → Highest (cell_of c weights width cells (length weights)) width top
   last_highest {top} h =
       let long = end_long cells (length cells - width) width wide in
       let inside : top < width = omega (arith, h.inside, long) in

@@ -15,7 +15,8 @@ returns c =
     let weights : List ℕ = c.args.weights.now in
     let job : Job = job_of 9 (c.args.budget ∷ c.args.q ∷ []) weights values [] in
     let count_is : c.count_remaining-m.result ≡ remain job = c.count_remaining-m.ensures.0 in
-    let divisor_is : c.divisor_of-divisor.result ≡ divisor job = measured_divisor job c.greatest_value-p.result c.count_remaining-m.result c.divisor_of-divisor.result
+    let divisor_is : c.divisor_of-divisor.result ≡ divisor job =
+    measured_divisor job c.greatest_value-p.result c.count_remaining-m.result c.divisor_of-divisor.result
     c.greatest_value-p.ensures count_is c.divisor_of-divisor.ensures in
     let sum_is : c.cut_sum-sum.result ≡ cut_sum job = rw divisor_is at c.cut_sum-sum.ensures in (
       divisor_is,

@@ -28,7 +28,8 @@ loop-found-preserved-then-close c =
     let j = c.args.self.now in
     let l = c.loop-found in
     let reach = c.reach_between-reach.result in
-    let near : Reaches j (labels j) l.low l.high reach.least reach.greatest = rw c.requires.leaves.0.started.long at c.reach_between-reach.ensures in (
+    let near : Reaches j (labels j) l.low l.high reach.least reach.greatest =
+    rw c.requires.leaves.0.started.long at c.reach_between-reach.ensures in (
       still_some j l.low l.high reach.least reach.greatest near (omega (arith, l.invariant.2, c.requires.leaves.0.units)) l.invariant.4,
       omega (arith, near.within),
       l.invariant.2 ∙ high_down j l.low l.high reach.least reach.greatest near,

@@ -37,7 +37,12 @@ add_label-from-requires c =
       c.requires.budget_le_most_budget.0,
       λ w-light.
           let light : at weights l.i ≤ s.budget = rw c.at-w.ensures at w-light in (
-            omega (arith, ap (λ (v : ℕ). v / s.divisor) c.at-v.ensures, cut_at s.divisor s.values.now l.i, c.requires.roomy.within l.i (omega arith) light),
+            omega (
+              arith,
+              ap (λ (v : ℕ). v / s.divisor) c.at-v.ensures,
+              cut_at s.divisor s.values.now l.i,
+              c.requires.roomy.within l.i (omega arith) light,
+            ),
             omega (arith, long, l.auto.cells, l.invariant.0, next_within s.budget weights s.width c.requires.roomy l.i (omega arith) light),
           ),
     )

@@ -12,13 +12,15 @@ use Rattle.stated.proofs.Cutting.pack.Goals as goal
 pub highest-top-requires : goal.highest-top-requires
 highest-top-requires c =
     let s = c.args.self.now in
-    let roomy : Roomy s.budget s.weights.now (cut_by s.divisor s.values.now) s.width (length c.fill.new.cells) = rw c.fill.auto.cells c.requires.roomy.0 in
+    let roomy : Roomy s.budget s.weights.now (cut_by s.divisor s.values.now) s.width (length c.fill.new.cells) =
+    rw c.fill.auto.cells c.requires.roomy.0 in
     last_some c.fill.new.cells roomy c.fill.ensures
 
 pub returns : goal.returns
 returns c =
     let s = c.args.self.now in
-    let roomy : Roomy s.budget s.weights.now (cut_by s.divisor s.values.now) s.width (length c.fill.new.cells) = rw c.fill.auto.cells c.requires.roomy.0 in
+    let roomy : Roomy s.budget s.weights.now (cut_by s.divisor s.values.now) s.width (length c.fill.new.cells) =
+    rw c.fill.auto.cells c.requires.roomy.0 in
     record {
       top = c.highest-top.result;
       filled = c.fill.ensures;

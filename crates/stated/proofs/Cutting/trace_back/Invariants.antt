@@ -13,4 +13,5 @@ invariant-loop-i l =
     (l.row ≡ row_of s.budget s.weights.now l.i * s.width)
     × (l.row + s.width ≤ length l.cells)
     × (l.t < s.width)
-    × TraceBack (cell_of s.budget s.weights.now s.width l.cells) (cut_by s.divisor s.values.now) (length s.weights.now) l.top l.i l.t (drop l.i l.picks)
+    × TraceBack (cell_of s.budget s.weights.now s.width l.cells) (cut_by s.divisor s.values.now)
+    (length s.weights.now) l.top l.i l.t (drop l.i l.picks)
