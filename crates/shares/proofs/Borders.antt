@@ -13,13 +13,13 @@ use mir.Val.{bool_byte}
 use borrow.Author.Tests.{eq-eqb, ne_eqb, lt-ltb, le-ltb, le-leb, lt-leb}
 use Rattle.meaning.specs.Lists.{sum, up_to, if, tally}
 use Rattle.meaning.specs.Job.{Job, labels}
-use Rattle.meaning.specs.Shares.{remainder_of, spare_of, precedes, rank_of}
+use Rattle.meaning.specs.Shares.{start_of, share_of, remainder_of, spare_of, precedes, rank_of}
 use Rattle.meaning.proofs.UpTo.{up_to_in}
 use Rattle.meaning.proofs.Tally.{tally_le, tally_lt, tally_all, tally_none, tally_each, tally_step, tally_more, tally_most}
 use Rattle.meaning.proofs.Ranks.{precedes_out, precedes_in, not_self}
 use Rattle.meaning.proofs.SharesSum.{sum_over, spare_few}
 use Rattle.rows.proofs.Stores.{by}
-use Rattle.shares.proofs.Starts.{remainder_within}
+use Rattle.shares.proofs.Starts.{remainder_within, share_given}
 use Rattle.shares.specs.Borders.{ahead_of, ahead_in, behind_in, Reaches, count_of, behind_of, gets_of, NoLower, RunOut}
 
 module _ (j : Job) where
@@ -169,6 +169,12 @@ module _ (j : Job) where
           same_test (rem i + 0) border (rank_of j i) (spare_of j)
           (λ l. high (omega arith))
           (λ l. by (rem i + 1) border low (λ le. omega (arith, next (omega arith), out.whole)))
+
+  -- a start, and the unit that its label gets or not
+  pub unit_given : (border left : ℕ) → RunOut j border left → (i seen start rest : ℕ) (b : Bool) → i < n → seen ≡ behind_of j border i
+      → start ≡ start_of j i → rest ≡ rem i → b ≡ gets_of rest border seen left → start + bool_byte b ≡ share_of j i
+  unit_given border left out i seen start rest b h counted begun is got =
+      share_given j i start b begun (got ∙ ap (λ (r : ℕ). gets_of r border seen left) is ∙ gets_served border left out i seen h counted)
 
   -- ---- where the units run out
 

@@ -2,32 +2,27 @@
 -- Assumes nothing.
 use mathlib.Core.Path.{◌≡◌, refl, sym, ap, ◌∙◌}
 use Prim.Native.Nat.{ℕ, zero, suc, ◌+◌, ◌-◌, ◌*◌, ◌/◌, ◌%◌, ◌≤◌, ◌<◌, max, min}
-use native.Mathlib.Nat.{div-add-mod', div-le_of_le-mul, mul-le-mul_left, mul_comm, mod-lt}
+use native.Mathlib.Nat.{div-le_of_le-mul, mul-le-mul_left, mul_comm, mod-lt}
 use native.Mathlib.Numerals.{add-one}
 use native.Mathlib.Omega.{arith}
 use mathlib.Core.List.{List, [], ◌∷◌, map}
-use mathlib.Core.Bool.{Bool, true, false}
+use mathlib.Core.Bool.{Bool}
 use lib.Dec.{ltb}
 use mir.Val.{bool_byte}
 use lib.ListN.{length, take}
 use lib.Seq.{ext_get_or}
 use borrow.Author.Tests.{lt-ltb, le-ltb}
 use Rattle.meaning.specs.Lists.{at, sum, up_to, if}
-use Rattle.meaning.specs.Job.{Job, labels}
+use Rattle.meaning.specs.Job.{Job, job_of, labels}
 use Rattle.meaning.specs.Shares.{start_of, remainder_of, spare_of, rank_of, share_of, shares_of}
 use Rattle.meaning.proofs.UpTo.{made_at, made_length}
 use Rattle.meaning.proofs.Loops.{sum_more, sum_done}
 use Rattle.meaning.proofs.SharesSum.{sum_over, starts_within, shares_sum}
 use Rattle.meaning.proofs.Tally.{one_or_none}
 use Rattle.rows.proofs.Stores.{by}
-use Rattle.shares.specs.Borders.{Started, Reaches}
+use Rattle.shares.specs.Borders.{claims_job, Started, Reaches}
 
 -- ---- tests and lists
-
--- a test counts for one at most
-pub one_at_most : (b : Bool) → bool_byte b ≤ 1
-one_at_most true = omega arith
-one_at_most false = omega arith
 
 -- the first members sum to no more than all
 front_within : (xs : List ℕ) (i : ℕ) → sum (take i xs) ≤ sum xs
@@ -51,20 +46,32 @@ made_of f n xs long each =
 pub start_within : (budget claim claimed : ℕ) → claim ≤ claimed → budget * claim / claimed ≤ budget
 start_within budget claim claimed h = div-le_of_le-mul claimed (omega (arith, mul-le-mul_left budget h, mul_comm budget claimed))
 
--- the division by the start that is kept: what is left is the remainder
-pub whole : (product start claimed : ℕ) → start ≡ product / claimed → start * claimed + product % claimed ≡ product
-whole product start claimed e = ap (λ (x : ℕ). x * claimed + product % claimed) e ∙ div-add-mod' product claimed
+-- what is kept of a job of kind 7: its budget, its claims and S
+pub record Holds (j : Job) (budget : ℕ) (claims : List ℕ) (claimed : ℕ) : Type 0 where
+  pub budget_is : budget ≡ j.budget
+  pub claims_are : claims ≡ j.weights
+  pub summed : claimed ≡ sum j.weights
+  pub positive : 0 < sum j.weights
+
+pub holds : (j : Job) {budget : ℕ} {claims : List ℕ} {claimed : ℕ} → claims_job budget claims ≡ j → (claimed ≡ sum claims) × (0 < claimed)
+    → Holds j budget claims claimed
+unfolding job_of
+holds j {budget} {claims} {claimed} is (summed, positive) =
+    let kept : claims ≡ j.weights = ap (λ (k : Job). k.weights) is in
+    let all : claimed ≡ sum j.weights = summed ∙ ap sum kept in
+    record { budget_is = ap (λ (k : Job). k.budget) is; claims_are = kept; summed = all; positive = omega arith }
 
 -- the product of C and claim i over S: its whole part, and what it leaves
-pub over_claimed : (j : Job) (i product claim claimed : ℕ) → product ≡ j.budget * claim → claim ≡ at j.weights i → claimed ≡ sum j.weights
-    → (product / claimed ≡ start_of j i) × (product % claimed ≡ remainder_of j i)
+pub over_claimed : (j : Job) {budget : ℕ} {claims : List ℕ} {claimed : ℕ} → Holds j budget claims claimed → (i product claim : ℕ)
+    → product ≡ budget * claim → claim ≡ at claims i → (product / claimed ≡ start_of j i) × (product % claimed ≡ remainder_of j i)
 unfolding start_of remainder_of
-over_claimed j i product claim claimed made read summed = (rw (made, read, summed), rw (made, read, summed))
+over_claimed j h i product claim made read =
+    (rw (made, read, h.budget_is, h.claims_are, h.summed), rw (made, read, h.budget_is, h.claims_are, h.summed))
 
--- what `remainder_at` asks of a label whose start is kept
-pub start_kept : (j : Job) (claimed : ℕ) (starts : List ℕ) (i : ℕ) → Started j claimed starts → i < length starts
-    → ((claimed ≡ sum j.weights) × (i < labels j)) × (at starts i ≡ start_of j i)
-start_kept j claimed starts i s h = let inside : i < labels j = omega (arith, s.long) in ((s.summed, inside), s.each i inside)
+-- a remainder is below S
+pub remainder_within : (j : Job) (i : ℕ) → 0 < sum j.weights → remainder_of j i < sum j.weights
+unfolding remainder_of
+remainder_within j i pos = mod-lt (j.budget * at j.weights i) pos
 
 module _ (j : Job) where
   -- every start
@@ -80,6 +87,28 @@ module _ (j : Job) where
       rw add-one (sum_more starts i (omega (arith, made_length (start_of j) (labels j))) ∙ omega (arith, made_at (start_of j) (labels j) i h)) in
       let fits : start ≤ spare = omega (arith, front_within starts (i + 1), starts_within j pos) in
       (fits, omega arith)
+
+  -- what one start makes of the spare, and what the division leaves
+  pub record Begun (i start rest spare : ℕ) : Type 0 where
+    pub start_is : start ≡ start_of j i
+    pub fits : start ≤ spare
+    pub less : spare - start + sum (take (i + 1) starts) ≡ j.budget
+    pub rest_is : rest ≡ remainder_of j i
+    pub below : rest < sum j.weights
+
+  pub begun : {budget : ℕ} {claims : List ℕ} {claimed : ℕ} → Holds j budget claims claimed → (i product claim start rest spare : ℕ) → i < labels j
+      → product ≡ budget * claim → claim ≡ at claims i → start ≡ product / claimed → rest ≡ product % claimed
+      → spare + sum (take i starts) ≡ j.budget → Begun i start rest spare
+  begun h i product claim start rest spare inside made read whole_part left_over less =
+      let (whole_is, left_is) = over_claimed j h i product claim made read in
+      let (fits, after) = spare_step h.positive i start spare inside (whole_part ∙ whole_is) less in
+      record {
+        start_is = whole_part ∙ whole_is;
+        fits = fits;
+        less = after;
+        rest_is = left_over ∙ left_is;
+        below = rw (left_over, left_is) (remainder_within j i h.positive);
+      }
 
   -- every start less
   pub spare_done : (i spare : ℕ) → labels j ≤ i → spare + sum (take i starts) ≡ j.budget → spare ≡ spare_of j
@@ -109,13 +138,6 @@ module _ (j : Job) where
   pub share_given : (i start : ℕ) (b : Bool) → start ≡ start_of j i → b ≡ ltb (rank_of j i) (spare_of j) → start + bool_byte b ≡ share_of j i
   unfolding share_of
   share_given i start b e f = rw (one_or_none b, f, e)
-
--- ---- remainders
-
--- a remainder is below S
-pub remainder_within : (j : Job) (i : ℕ) → 0 < sum j.weights → remainder_of j i < sum j.weights
-unfolding remainder_of
-remainder_within j i pos = mod-lt (j.budget * at j.weights i) pos
 
 -- ---- how far the remainders between two numbers reach
 

@@ -80,25 +80,23 @@ module _ (c : ℕ) (weights : List ℕ) where
       pub row_within : (i : ℕ) → i ≤ length weights → row_of c weights i * width + width ≤ size
       row_within i h = omega (arith, last_row, start_up i (length weights) h (le_refl (length weights)))
 
-      -- and so is each cell of it
-      pub cell_there : (i row t : ℕ) → i ≤ length weights → row ≡ row_of c weights i * width → t < width → row + t < size
-      cell_there i row t h here less = omega (arith, row_within i h, here)
-
       pub next_within : (i : ℕ) → i < length weights → at weights i ≤ c → row_of c weights i * width + width + width ≤ size
       next_within i h light = omega (arith, row_within (suc i) h, start_more i h light)
 
-    -- the row before that of label i, by how far back it is said to start
-    pub row_back : (i row before : ℕ) → i < length weights → row ≡ row_of c weights (suc i) * width → before + if (leb (at weights i) c) width 0 ≡ row
-        → before ≡ row_of c weights i * width
-    unfolding if
-    row_back i row before h here e =
-        by c (at weights i)
-        (λ heavy. omega (arith, start_same i h heavy, rw (lt-leb (at weights i) c heavy) at e))
-        (λ light. omega (arith, start_more i h light, rw (le-leb (at weights i) c light) at e))
+    -- as a loop goes back, with label n - 1 the next: a label that remains has a row before its own, and where that starts is told by how far back
+    module _ (n row w : ℕ) (pos : 0 < n) (few : n ≤ length weights) (weighs : w ≡ at weights (n - 1)) (here : row ≡ row_of c weights n * width) where
+      pub row_here : row ≡ row_of c weights (suc (n - 1)) * width
+      row_here = let e : n ≡ suc (n - 1) = omega arith in rw (← e) here
 
-    -- a label that remains has one
-    pub row_past : (i row : ℕ) → i < length weights → row ≡ row_of c weights (suc i) * width → at weights i ≤ c → width ≤ row
-    row_past i row h here light = omega (arith, start_more i h light)
+      pub row_past : w ≤ c → width ≤ row
+      row_past light = omega (arith, start_more (n - 1) (omega arith) (rw weighs at light), row_here)
+
+      pub row_back : (before : ℕ) → before + if (leb w c) width 0 ≡ row → before ≡ row_of c weights (n - 1) * width
+      unfolding if
+      row_back before e =
+          by c w
+          (λ heavy. omega (arith, start_same (n - 1) (omega arith) (rw weighs at heavy), row_here, rw (lt-leb w c heavy) at e))
+          (λ light. omega (arith, start_more (n - 1) (omega arith) (rw weighs at light), row_here, rw (le-leb w c light) at e))
 
 -- ---- label by label
 

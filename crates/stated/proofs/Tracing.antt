@@ -1,47 +1,95 @@
 -- The trace back through a filled table: where it begins, how its loop goes, and the picks that it finds.
 -- Assumes nothing.
-use mathlib.Core.Path.{◌≡◌, sym, ap, ◌∙◌, subst}
-use Prim.Native.Nat.{ℕ, zero, suc, ◌-◌, ◌*◌, ◌≤◌, ◌<◌, zero-le}
-use native.Mathlib.Nat.{mul-one, mul-zero}
+use mathlib.Core.Path.{◌≡◌, sym, ap, ap₂, ◌∙◌, subst}
+use Prim.Native.Nat.{ℕ, zero, suc, ◌+◌, ◌-◌, ◌*◌, ◌≤◌, ◌<◌, zero-le}
+use native.Mathlib.Nat.{le_refl, mul-one, mul-zero}
 use native.Mathlib.Decide.{ℕ_discrete}
 use native.Mathlib.Omega.{arith}
 use mathlib.Core.List.{List, [], ◌∷◌, ◌++◌, append-nil}
+use lib.Dec.{leb}
 use lib.ListN.{length, drop, set}
 use lib.Seq.{append_snoc}
-use Rattle.meaning.specs.Lists.{at}
+use Rattle.meaning.specs.Lists.{at, if}
 use Rattle.meaning.specs.Cells.{LeastShown, no_way}
 use Rattle.meaning.specs.Job.{Job, labels}
 use Rattle.meaning.specs.Bounds.{most_budget}
 use Rattle.meaning.specs.Stated.{CutWeight}
 use Rattle.meaning.proofs.Shown.{shown_by, shown_some}
 use Rattle.meaning.proofs.CutCells.{none_of_none}
+use Rattle.rows.proofs.Parts.{end_of, end_long, end_at}
 use Rattle.rows.proofs.Stores.{stored_first}
+use Rattle.stated.specs.LeastWeights.{row_of, cell_of, Roomy, Filled}
 use Rattle.stated.specs.ReadOff.{Highest, apart, TraceBack, begin, back, TracedBack}
-use Rattle.stated.proofs.Filling.{apart_same, apart_other, apart_few}
+use Rattle.stated.proofs.Filling.{apart_same, apart_other, apart_few, first_within, last_row, total_0_reached, pick_within, row_here, row_back}
 use Rattle.stated.proofs.Lightest.{ChosenFor, chosen_none, chosen_without, chosen_with, PickedAt, picked_at}
 
 -- ---- from the highest total
 
--- of cells that are the same
-pub highest_same : (f g : ℕ → ℕ) (width long top : ℕ) → long ≡ width → ((t : ℕ) → t < width → f t ≡ g t) → Highest f long top → Highest g width top
-highest_same f g width long top e same h =
-    let inside : top < width = omega (arith, h.inside) in
-    record {
-      inside = inside;
-      reached = λ marked. h.reached (same top inside ∙ marked);
-      above = λ t more l. sym (same t l) ∙ h.above t more (omega arith);
-    }
+-- the last row as it is lent, the end of the table
+abbrev pub last_of : List ℕ → ℕ → List ℕ
+last_of cells width = end_of cells (length cells - width)
+
+module _ {c : ℕ} {weights cuts : List ℕ} {width : ℕ} (cells : List ℕ) (roomy : Roomy c weights cuts width (length cells)) where
+  wide : length cells - width + width ≡ length cells
+  wide = omega (arith, first_within c weights width roomy)
+
+  pub last_is : length cells - width ≡ row_of c weights (length weights) * width
+  last_is = omega (arith, wide, last_row c weights width roomy)
+
+  last_at : (t : ℕ) → t < width → at (last_of cells width) t ≡ cell_of c weights width cells (length weights) t
+  last_at t h = end_at cells (length cells - width) width wide t h ∙ ap (λ (from : ℕ). at cells (from + t)) last_is
+
+  -- total 0 is reached
+  pub last_some : Filled c weights cuts width (length weights) cells → (0 < length (last_of cells width)) × ¬ (at (last_of cells width) 0 ≡ no_way)
+  unfolding no_way
+  last_some filled =
+      let none = total_0_reached c weights cuts width cells filled roomy.wide (length weights) (le_refl (length weights)) in
+      (omega (arith, end_long cells (length cells - width) width wide, roomy.wide), λ marked. omega (arith, marked, last_at 0 roomy.wide, none))
+
+  -- its highest total is that of all labels
+  pub last_highest : {top : ℕ} → Highest (at (last_of cells width)) (length (last_of cells width)) top
+      → Highest (cell_of c weights width cells (length weights)) width top
+  last_highest {top} h =
+      let long = end_long cells (length cells - width) width wide in
+      let inside : top < width = omega (arith, h.inside, long) in
+      record {
+        inside = inside;
+        reached = λ marked. h.reached (last_at top inside ∙ marked);
+        above = λ t more l. sym (last_at t l) ∙ h.above t more (omega (arith, long));
+      }
 
 -- ---- as the loop goes
 
 -- one label more
-pub trace_more : (cell : ℕ → ℕ → ℕ) (cuts : List ℕ) (n top i t a x : ℕ) (picks : List ℕ) → 0 < i → i ≤ length picks
+trace_more : (cell : ℕ → ℕ → ℕ) (cuts : List ℕ) (n top i t a x : ℕ) (picks : List ℕ) → 0 < i → i ≤ length picks
     → TraceBack cell cuts n top i t (drop i picks) → a ≡ at cuts (i - 1) → x ≡ apart (cell (i - 1) t) (cell (suc (i - 1)) t)
     → TraceBack cell cuts n top (i - 1) (t - a * x) (drop (i - 1) (set picks (i - 1) x))
 trace_more cell cuts n top i t a x picks pos inside trace ea ex =
     let here : i ≡ suc (i - 1) = omega arith in
     let before = subst (λ (m : ℕ). TraceBack cell cuts n top m t (drop m picks)) here trace in
     rw (stored_first picks (i - 1) x (omega arith), ea, ex) (back before)
+
+module _ {c : ℕ} {weights cuts : List ℕ} {width : ℕ} {cells : List ℕ} (filled : Filled c weights cuts width (length weights) cells) where
+  -- what a turn leaves: the trace was at the first n labels, and has gone back over label n - 1
+  pub record Turned (top n t before a x : ℕ) (picks : List ℕ) : Type 0 where
+    pub before_is : before ≡ row_of c weights (n - 1) * width
+    pub within : a * x ≤ t
+    pub trace : TraceBack (cell_of c weights width cells) cuts (length weights) top (n - 1) (t - a * x) (drop (n - 1) (set picks (n - 1) x))
+
+  pub turned : {top n row t w a before x : ℕ} {picks : List ℕ} → 0 < n → n ≤ length weights → n ≤ length picks → t < width
+      → row ≡ row_of c weights n * width → TraceBack (cell_of c weights width cells) cuts (length weights) top n t (drop n picks)
+      → w ≡ at weights (n - 1) → a ≡ at cuts (n - 1) → before + if (leb w c) width 0 ≡ row → x ≡ apart (at cells (before + t)) (at cells (row + t))
+      → Turned top n t before a x picks
+  turned {top} {n} {row} {t} {w} {a} {before} {x} {picks} pos few room low here trace ew ea back_is ex =
+      let from : before ≡ row_of c weights (n - 1) * width = row_back c weights width n row w pos few ew here before back_is in
+      let cell = cell_of c weights width cells in
+      let pick : x ≡ apart (cell (n - 1) t) (cell (suc (n - 1)) t) =
+      ex ∙ ap₂ (λ (f r : ℕ). apart (at cells (f + t)) (at cells (r + t))) from (row_here c weights width n row w pos few ew here) in
+      record {
+        before_is = from;
+        within = rw (ea, pick) (pick_within c weights cuts width cells filled (n - 1) t (omega arith) low);
+        trace = trace_more cell cuts (length weights) top n t a x picks pos room trace ea pick;
+      }
 
 -- each label is picked once at most
 pub trace_ones : {cell : ℕ → ℕ → ℕ} {cuts : List ℕ} {n top i t : ℕ} {found : List ℕ} → TraceBack cell cuts n top i t found

@@ -23,13 +23,6 @@ use numbers::Numbers;
 
 // ---- the divisor, and what it leaves of the values
 
-// The greater of two numbers.
-fn greater(x: u32, y: u32) -> u32
-    ensures { result ≡ max x y }
-{
-    if x < y { y } else { x }
-}
-
 // A number of a label that remains; 0 for one that is left aside, since it is heavier than the budget.
 fn if_light(x: u32, w: u32, budget: u32) -> u32
     ensures { (result ≡ if (leb w budget) x 0) × (result ≤ x) }
@@ -41,41 +34,38 @@ fn if_light(x: u32, w: u32, budget: u32) -> u32
 }
 
 // How many labels remain.
+#[tactic(auto, using(crate::proofs::Filling::row_none, crate::proofs::Filling::row_count))]
 fn count_remaining(budget: u32, weights: &Numbers) -> u32
     requires { length weights.now ≤ most_labels }
     ensures { (result ≡ row_of budget weights.now
         (length weights.now)) × (result ≤ most_labels) }
 {
-    let n = weights.len();
     let mut m = 0;
-    let mut i = 0;
-    while i < n {
+    for i in 0..weights.len() {
         let w = weights.at(i);
         m += if_light(1, w, budget);
-        i += 1;
     }
     m
 }
 
 // The greatest value of those that remain.
+#[tactic(auto, using(crate::proofs::Measuring::none_on), unfolding(meaning::specs::Cuts::greatest_of))]
 fn greatest_value(budget: u32, weights: &Numbers, values: &Numbers) -> u32
     requires { length values.now ≡ length weights.now }
     ensures { result ≡ greatest_of (that_fit budget weights.now
         values.now) }
 {
-    let n = weights.len();
     let mut p = 0;
-    let mut i = 0;
-    while i < n {
+    for i in 0..weights.len() {
         let w = weights.at(i);
         let v = values.at(i);
-        p = greater(p, if_light(v, w, budget));
-        i += 1;
+        p = u32::max(p, if_light(v, w, budget));
     }
     p
 }
 
 // The whole part of p divided by the product of m and q, but at least 1. Where none remain there is nothing to divide by.
+#[tactic(auto, using(crate::proofs::Fitting::parts_fit))]
 fn divisor_of(p: u32, m: u32, q: u32) -> u32
     requires { (m ≤ most_labels) × (q ≤ most_q) }
     ensures { result ≡ max 1 (p / (m * q)) }
@@ -84,28 +74,21 @@ fn divisor_of(p: u32, m: u32, q: u32) -> u32
     if parts == 0 {
         return 1;
     }
-    greater(1, p / parts)
+    u32::max(1, p / parts)
 }
 
 // The sum of the cut values that remain.
-fn cut_sum(
-    budget: u32,
-    divisor: u32,
-    weights: &Numbers,
-    values: &Numbers,
-) -> u32
+#[tactic(auto, using(crate::proofs::Measuring::cut_long, crate::proofs::Measuring::none_on), unfolding(meaning::specs::Lists::sum))]
+fn cut_sum(budget: u32, divisor: u32, weights: &Numbers, values: &Numbers) -> u32
     requires { (0 < divisor) × Valued weights.now values.now }
     ensures { result ≡ sum (that_fit budget weights.now
         (cut_by divisor values.now)) }
 {
-    let n = weights.len();
     let mut sum = 0;
-    let mut i = 0;
-    while i < n {
+    for i in 0..weights.len() {
         let w = weights.at(i);
         let v = values.at(i);
         sum += if_light(v / divisor, w, budget);
-        i += 1;
     }
     sum
 }
@@ -119,12 +102,8 @@ struct Measures {
 }
 
 // The measures of a job, by three goes over its labels. How many cells there are may pass 32 bits; all before it fits them.
-fn measure(
-    budget: u32,
-    q: u32,
-    weights: &Numbers,
-    values: &Numbers,
-) -> Measures
+#[tactic(auto, using(crate::proofs::Fitting::cells_fit))]
+fn measure(budget: u32, q: u32, weights: &Numbers, values: &Numbers) -> Measures
     requires { (q ≤ most_q) × Valued weights.now values.now }
     ensures { (result.divisor
         ≡ divisor (stated_from budget q weights.now values.now))
@@ -147,6 +126,7 @@ fn measure(
 // ---- a row made of the row before it
 
 // The lesser of `without` and of `less` with a label of weight w, which leaves `room` of the budget. What is no more than the room isn't the mark.
+#[tactic(auto, using(crate::proofs::Lightening::lighter_past, crate::proofs::Lightening::lighter_lesser), unfolding(meaning::specs::Bounds::most_budget))]
 fn lesser_weight(without: u32, less: u32, w: u32, room: u32) -> u32
     requires { w + room ≤ most_budget }
     ensures { result ≡ lighter (w + room) w without less }
@@ -168,16 +148,15 @@ fn lighten(cells: &mut [u32], from: usize, to: usize, width: usize, a: usize, w:
     ensures { Stored cells.old cells.new to a width
         (λ t. lighter (w + room) w (at cells.old (from + t)) (at cells.old (from + (t - a)))) }
 {
-    let mut t = a;
-    while t < width {
+    for t in a..width {
         let without = cells[from + t];
-        let less = cells[from + t - a];
+        let less = cells[from + (t - a)];
         cells[to + t] = lesser_weight(without, less, w, room);
-        t += 1;
     }
 }
 
 // The row after the one at `from`, with a label of weight w, within the budget, and cut value a.
+#[tactic(auto, using(crate::proofs::Lightening::next_made))]
 fn next_weights(cells: &mut [u32], from: usize, width: usize, budget: u32, w: u32, a: usize)
     requires { (a ≤ width) × ((from + width + width ≤ length cells.old) × ((w ≤ budget) × (budget ≤ most_budget))) }
     ensures { NextWeights cells.old cells.new from width budget w a }
@@ -190,6 +169,7 @@ fn next_weights(cells: &mut [u32], from: usize, width: usize, budget: u32, w: u3
 // ---- the table
 
 // A label of weight w and cut value a: gives where the last row starts then. A label heavier than the budget is left aside.
+#[tactic(auto, using(crate::specs::LeastWeights::aside, crate::specs::LeastWeights::row_made))]
 fn add_label(cells: &mut [u32], from: usize, width: usize, budget: u32, w: u32, a: usize) -> usize
     requires { (budget ≤ most_budget) × (w ≤ budget → (a ≤ width) × (from + width + width ≤ length cells.old)) }
     ensures { LabelAdded cells.old cells.new from width budget w a result }
@@ -201,35 +181,6 @@ fn add_label(cells: &mut [u32], from: usize, width: usize, budget: u32, w: u32, 
     from + width
 }
 
-// The table, label by label.
-fn fill(
-    budget: u32,
-    divisor: u32,
-    width: usize,
-    weights: &Numbers,
-    values: &Numbers,
-    cells: &mut [u32],
-)
-    requires budget_le_most_budget { (budget ≤ most_budget) × ((0 < divisor)
-        × (length values.now ≡ length weights.now)) }
-    requires roomy { Roomy budget weights.now (cut_by divisor values.now)
-        width (length cells.old) }
-    ensures { Filled budget weights.now
-        (cut_by divisor values.now) width
-        (length weights.now) cells.new }
-{
-    rows::mark_rest(&mut cells[..width]);
-    let n = weights.len();
-    let mut i = 0;
-    let mut from = 0;
-    while i < n {
-        let w = weights.at(i);
-        let v = values.at(i);
-        from = add_label(cells, from, width, budget, w, (v / divisor) as usize);
-        i += 1;
-    }
-}
-
 // ---- the picks
 
 // The highest total of a row that is reached.
@@ -238,6 +189,7 @@ fn highest(row: &[u32]) -> usize
     ensures { Highest (at row.now) (length row.now) result }
 {
     let mut t = row.len() - 1;
+    // no range: the search goes by what the cells hold, and ends at total 0 at the latest, which is reached
     while rows::is_marked(row[t]) {
         t -= 1;
     }
@@ -256,100 +208,114 @@ fn row_before(row: usize, width: usize, budget: u32, w: u32) -> usize
 }
 
 // 1 where two cells differ, and 0 where they are the same.
+#[tactic(auto, using(crate::proofs::Filling::apart_same, crate::proofs::Filling::apart_other))]
 fn differ(x: u32, y: u32) -> u32
     ensures { result ≡ apart x y }
 {
     if x == y { 0 } else { 1 }
 }
 
-// The picks for a total of the last row, by the trace back through the rows.
-fn trace_back(
-    budget: u32,
-    divisor: u32,
-    width: usize,
-    weights: &Numbers,
-    values: &Numbers,
-    cells: &[u32],
-    top: usize,
-    picks: &mut [u32],
-)
-    requires divisor_nonzero { (0 < divisor) × ((length values.now ≡ length weights.now)
-        × ((length weights.now ≡ length picks.old) × (top < width))) }
-    requires roomy { Roomy budget weights.now (cut_by divisor values.now) width (length cells.now)
-        × Filled budget weights.now (cut_by divisor values.now) width
-        (length weights.now) cells.now }
-    ensures { TracedBack (cell_of budget weights.now width cells.now)
-        (cut_by divisor values.now)
-        (length weights.now) top picks.new }
-{
-    let mut i = picks.len();
-    let mut row = cells.len() - width;
-    let mut t = top;
-    while 0 < i {
-        i -= 1;
-        let w = weights.at(i);
-        let v = values.at(i);
-        let before = row_before(row, width, budget, w);
-        let x = differ(cells[before + t], cells[row + t]);
-        picks[i] = x;
-        t -= (v / divisor * x) as usize;
-        row = before;
-    }
-}
-
 // What picks are worth, in the uncut values.
+#[tactic(auto, using(meaning::proofs::Totals::total_none, meaning::proofs::EachLabel::total_next, meaning::proofs::EachLabel::product_one))]
 fn value_of(values: &Numbers, picks: &[u32]) -> u32
     requires valued { Valued picks.now values.now }
     requires by_index { (i : ℕ) → i < length picks.now → at picks.now i ≤ 1 }
     ensures { result ≡ total values.now picks.now }
 {
     let mut value = 0;
-    let mut i = 0;
-    while i < picks.len() {
+    for i in 0..picks.len() {
         value += values.at(i) * picks[i];
-        i += 1;
     }
     value
 }
 
-// The table, the picks, and what they are worth and weigh, on just the cells and the picks that are needed.
-fn pack(
+// What a job's table is made by: its budget and lists, their divisor, and the width of a row.
+#[derive(Clone, Copy)]
+struct Cutting<'a> {
     budget: u32,
+    weights: &'a Numbers<'a>,
+    values: &'a Numbers<'a>,
     divisor: u32,
     width: usize,
-    weights: &Numbers,
-    values: &Numbers,
-    cells: &mut [u32],
-    picks: &mut [u32],
-) -> Answer
-    requires budget_le_most_budget { (budget ≤ most_budget) × ((0 < divisor) × Valued weights.now values.now) }
-    requires roomy { Roomy budget weights.now (cut_by divisor values.now) width (length cells.old)
-        × (length weights.now ≡ length picks.old) }
-    ensures { ReadOff budget weights.now values.now
-        (cut_by divisor values.now) width cells.new picks.new (given result) }
-{
-    fill(
-        budget, divisor, width, weights, values, cells,
-    );
-    let last = cells.len() - width;
-    let top = highest(&cells[last..]);
-    trace_back(
-        budget, divisor, width, weights, values, cells, top, picks,
-    );
-    let value = value_of(values, picks);
-    let weight = cells[last + top];
-    Answer::Knapsack { value, weight }
+}
+
+impl<'a> Cutting<'a> {
+    // The table, label by label.
+    #[tactic(auto, using(crate::proofs::Filling::first_within))]
+    fn fill(&self, cells: &mut [u32])
+        requires budget_le_most_budget { (self.now.budget ≤ most_budget) × ((0 < self.now.divisor)
+            × (length self.now.values.now ≡ length self.now.weights.now)) }
+        requires roomy { Roomy self.now.budget self.now.weights.now (cut_by self.now.divisor self.now.values.now)
+            self.now.width (length cells.old) }
+        ensures { Filled self.now.budget self.now.weights.now
+            (cut_by self.now.divisor self.now.values.now) self.now.width
+            (length self.now.weights.now) cells.new }
+    {
+        rows::mark_rest(&mut cells[..self.width]);
+        let mut from = 0;
+        for i in 0..self.weights.len() {
+            let w = self.weights.at(i);
+            let v = self.values.at(i);
+            from = add_label(
+                cells,
+                from,
+                self.width,
+                self.budget,
+                w,
+                (v / self.divisor) as usize,
+            );
+        }
+    }
+
+    // The picks for a total of the last row, by the trace back through the rows.
+    #[tactic(auto, using(crate::proofs::Filling::apart_few, meaning::proofs::EachLabel::product_one))]
+    fn trace_back(&self, cells: &[u32], top: usize, picks: &mut [u32])
+        requires divisor_nonzero { (0 < self.now.divisor) × ((length self.now.values.now ≡ length self.now.weights.now)
+            × ((length self.now.weights.now ≡ length picks.old) × (top < self.now.width))) }
+        requires roomy { Roomy self.now.budget self.now.weights.now (cut_by self.now.divisor self.now.values.now) self.now.width (length cells.now)
+            × Filled self.now.budget self.now.weights.now (cut_by self.now.divisor self.now.values.now) self.now.width
+            (length self.now.weights.now) cells.now }
+        ensures { TracedBack (cell_of self.now.budget self.now.weights.now self.now.width cells.now)
+            (cut_by self.now.divisor self.now.values.now)
+            (length self.now.weights.now) top picks.new }
+    {
+        let mut row = cells.len() - self.width;
+        let mut t = top;
+        for i in (0..picks.len()).rev() {
+            let w = self.weights.at(i);
+            let v = self.values.at(i);
+            let before = row_before(row, self.width, self.budget, w);
+            let x = differ(cells[before + t], cells[row + t]);
+            picks[i] = x;
+            t -= (v / self.divisor * x) as usize;
+            row = before;
+        }
+    }
+
+    // The table, the picks, and what they are worth and weigh, on just the cells and the picks that are needed.
+    #[tactic(auto, using(crate::proofs::Filling::last_row, crate::proofs::Filling::first_within, crate::proofs::Tracing::trace_ones))]
+    fn pack(&self, cells: &mut [u32], picks: &mut [u32]) -> Answer
+        requires budget_le_most_budget { (self.now.budget ≤ most_budget)
+            × ((0 < self.now.divisor) × Valued self.now.weights.now self.now.values.now) }
+        requires roomy { Roomy self.now.budget self.now.weights.now (cut_by self.now.divisor self.now.values.now) self.now.width (length cells.old)
+            × (length self.now.weights.now ≡ length picks.old) }
+        ensures { ReadOff self.now.budget self.now.weights.now self.now.values.now
+            (cut_by self.now.divisor self.now.values.now) self.now.width cells.new picks.new (given result) }
+    {
+        self.fill(cells);
+        let last = cells.len() - self.width;
+        let top = highest(&cells[last..]);
+        self.trace_back(cells, top, picks);
+        let value = value_of(self.values, picks);
+        let weight = cells[last + top];
+        Answer::Knapsack { value, weight }
+    }
 }
 
 // ---- the doors
 
 // How many cells a job needs.
-pub fn cells_needed(
-    budget: u32,
-    q: u32,
-    weights: &Numbers,
-    values: &Numbers,
-) -> usize
+pub fn cells_needed(budget: u32, q: u32, weights: &Numbers, values: &Numbers) -> usize
     requires { job_refusal (rules_of stated_share) (stated_from budget q weights.now values.now) 0 ≡ 0 }
     ensures { result
         ≡ stated_cells (stated_from budget q weights.now values.now) }
@@ -358,6 +324,7 @@ pub fn cells_needed(
 }
 
 // Kind 9: the table, and the picks that it leads to.
+#[tactic(auto, using(crate::proofs::StatedDoor::keeps, crate::proofs::StatedDoor::divisor_positive), unfolding(meaning::specs::Job::job_of, meaning::specs::Job::labels, meaning::specs::Job::has_q))]
 pub fn solve(
     budget: u32,
     q: u32,
@@ -373,13 +340,12 @@ pub fn solve(
 {
     let n = weights.len();
     let measures = measure(budget, q, weights, values);
-    pack(
+    let cutting = Cutting {
         budget,
-        measures.divisor,
-        measures.width,
         weights,
         values,
-        &mut cells[..measures.cells],
-        &mut picks[..n],
-    )
+        divisor: measures.divisor,
+        width: measures.width,
+    };
+    cutting.pack(&mut cells[..measures.cells], &mut picks[..n])
 }

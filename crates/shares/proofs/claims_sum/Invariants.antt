@@ -1,12 +1,9 @@
 -- `claims_sum` gives S, the sum of the claims.
 use mathlib.Core.Path.{◌≡◌}
-use Prim.Native.Nat.{◌*◌, ◌-◌, ◌≤◌}
+use Prim.Native.Nat.{◌*◌, ◌≤◌}
 use lib.ListN.{take}
 use Rattle.meaning.specs.Lists.{sum}
 use Rattle.shares.proofs.claims_sum.Given as goal
 
 abbrev pub invariant-loop-i : goal.invariant-loop-i
-invariant-loop-i l = (l.i ≤ l.n) × (l.sum ≡ sum (take l.i l.weights)) × (l.sum ≤ l.i * 4_294_967_295)
-
-abbrev pub decreases-loop-i : goal.decreases-loop-i
-decreases-loop-i l = l.n - l.i
+invariant-loop-i l = (l.sum ≡ sum (take l.i l.weights)) × (l.sum ≤ l.i * 4_294_967_295)

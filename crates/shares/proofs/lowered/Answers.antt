@@ -10,4 +10,4 @@ returns-then-rest-low c = let a = c.args in rw (lt-ltb a.rest a.low (omega arith
 
 pub returns-else-rest-low : goal.returns-else-rest-low
 unfolding if
-returns-else-rest-low c = let a = c.args in rw (le-ltb a.rest a.low (omega arith)) c.lesser.ensures
+returns-else-rest-low c = let a = c.args in rw (le-ltb a.rest a.low (omega arith)) c.min.ensures

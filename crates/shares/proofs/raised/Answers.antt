@@ -6,7 +6,7 @@ use Rattle.shares.proofs.raised.Goals as goal
 
 pub returns-then-rest-high : goal.returns-then-rest-high
 unfolding if
-returns-then-rest-high c = let a = c.args in rw (lt-ltb a.rest a.high (omega arith)) c.greater.ensures
+returns-then-rest-high c = let a = c.args in rw (lt-ltb a.rest a.high (omega arith)) c.max.ensures
 
 pub returns-else-rest-high : goal.returns-else-rest-high
 unfolding if

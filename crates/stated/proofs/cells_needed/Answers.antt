@@ -12,6 +12,3 @@ measure-requires c =
     c.args.values.now []) = asked_keeps (job_of 9 (c.args.budget ∷ c.args.q ∷ []) c.args.weights.now
     c.args.values.now []) c.requires in
     (ok.few_parts, ok.valued)
-
-pub returns : goal.returns
-returns c = c.measure.ensures.1.1

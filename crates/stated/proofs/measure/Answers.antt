@@ -1,39 +1,12 @@
 -- `stated::measure` meets its contract: the definitions' numbers one after another.
 use mathlib.Core.Path.{◌≡◌, ap, ap₂}
 use Prim.Native.Nat.{ℕ, ◌+◌, ◌*◌}
-use native.Mathlib.Omega.{arith}
 use mathlib.Core.List.{List, [], ◌∷◌}
 use Rattle.meaning.specs.Job.{Job, job_of, labels, has_q}
 use Rattle.meaning.specs.Lists.{if}
 use Rattle.meaning.specs.Cuts.{remain_of, remain, divisor, cut_values, cut_sum, stated_cells}
-use Rattle.stated.proofs.Fitting.{cells_fit}
-use Rattle.stated.proofs.StatedDoor.{measured_divisor, divisor_positive}
+use Rattle.stated.proofs.StatedDoor.{measured_divisor}
 use Rattle.stated.proofs.measure.Goals as goal
-
-pub count_remaining-m-requires : goal.count_remaining-m-requires
-count_remaining-m-requires c = c.requires.1.few
-
-pub greatest_value-p-requires : goal.greatest_value-p-requires
-greatest_value-p-requires c = c.requires.1.one_each
-
-pub divisor_of-divisor-requires : goal.divisor_of-divisor-requires
-divisor_of-divisor-requires c = (c.count_remaining-m.ensures.1, c.requires.0)
-
-pub cut_sum-sum-requires : goal.cut_sum-sum-requires
-unfolding has_q if job_of labels remain remain_of
-cut_sum-sum-requires c =
-    let values : List ℕ = c.args.values.now in
-    let weights : List ℕ = c.args.weights.now in
-    let job : Job = job_of 9 (c.args.budget ∷ c.args.q ∷ []) weights values [] in
-    let count_is : c.count_remaining-m.result ≡ remain job = c.count_remaining-m.ensures.0 in
-    let divisor_is : c.divisor_of-divisor.result ≡ divisor job = measured_divisor job c.greatest_value-p.result c.count_remaining-m.result c.divisor_of-divisor.result
-    c.greatest_value-p.ensures count_is c.divisor_of-divisor.ensures in
-    (omega (arith, divisor_is, divisor_positive job), c.requires.1)
-
-pub overflow_mul-cells : goal.overflow_mul-cells
-overflow_mul-cells c =
-    let m = c.count_remaining-m in
-    omega (arith, cells_fit m.result (c.cut_sum-sum.result + 1) m.ensures.1 (omega arith))
 
 pub returns : goal.returns
 unfolding cut_sum cut_values has_q if job_of labels remain remain_of stated_cells
@@ -42,7 +15,8 @@ returns c =
     let weights : List ℕ = c.args.weights.now in
     let job : Job = job_of 9 (c.args.budget ∷ c.args.q ∷ []) weights values [] in
     let count_is : c.count_remaining-m.result ≡ remain job = c.count_remaining-m.ensures.0 in
-    let divisor_is : c.divisor_of-divisor.result ≡ divisor job = measured_divisor job c.greatest_value-p.result c.count_remaining-m.result c.divisor_of-divisor.result
+    let divisor_is : c.divisor_of-divisor.result ≡ divisor job =
+    measured_divisor job c.greatest_value-p.result c.count_remaining-m.result c.divisor_of-divisor.result
     c.greatest_value-p.ensures count_is c.divisor_of-divisor.ensures in
     let sum_is : c.cut_sum-sum.result ≡ cut_sum job = rw divisor_is at c.cut_sum-sum.ensures in (
       divisor_is,

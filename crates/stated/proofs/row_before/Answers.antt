@@ -8,9 +8,6 @@ pub returns-then-budget-w : goal.returns-then-budget-w
 unfolding if
 returns-then-budget-w c = let a = c.args in rw (lt-leb a.w a.budget c.if-budget-w.true) (omega arith)
 
-pub overflow_sub-result : goal.overflow_sub-result
-overflow_sub-result c = c.requires (omega arith)
-
 pub returns : goal.returns
 unfolding if
 returns c =
