@@ -2,7 +2,7 @@
 use mathlib.Core.Path.{ap, ap₂}
 use Prim.Native.Nat.{ℕ, ◌+◌}
 use lib.ListN.{length}
-use Rattle.meaning.specs.declared.Answer.TheVariants as Says
+use Rattle.meaning.specs.Says as Says
 use Rattle.meaning.specs.Lists.{at}
 use Rattle.meaning.specs.Cuts.{cut_by}
 use Rattle.stated.specs.LeastWeights.{Roomy}
