@@ -9,6 +9,7 @@ ghost use Rattle.meaning.specs.Lent.{lent_of};
 ghost use Rattle.meaning.specs.Says.{given};
 ghost use Rattle.meaning.specs.Solved.{UnrefusedBy};
 ghost use Rattle.meaning.specs.SolvedIn.{SolvedInCellsBy};
+ghost use Rattle.numbers.specs.Lists.{job_as};
 ghost use Rattle.rows.specs.Rows.{SomeCount, Capped};
 ghost use Rattle.rows.specs.Bounded.{Bounded};
 ghost use Rattle.knapsack.specs.Tables.{limit_of, row_of, Filled, Climbed};
@@ -17,42 +18,33 @@ ghost use Rattle.knapsack.specs.Traces.{TraceAlong};
 ghost use Rattle.knapsack.specs.KnapsackDoor.{LetIn};
 
 use meaning::Answer;
-use numbers::Numbers;
+use numbers::{Job, Numbers};
 
 // ---- kinds 1 and 2: a row for each label
 
 // How often label i may be picked.
-fn allowed(kind: u32, copies: &Numbers, i: usize) -> u32
-    requires { ¬ (kind ≡ 1) → i < length copies.now }
-    ensures { result ≡ limit_of kind copies.now i }
+fn allowed(job: &Job, i: usize) -> u32
+    requires { ¬ (job.now.kind ≡ 1) → i < length job.now.copies }
+    ensures { result ≡ limit_of job.now.kind job.now.copies i }
 {
-    if kind == 1 {
+    if job.kind == 1 {
         return 1;
     }
-    copies.at(i)
+    job.copies.at(i)
 }
 
 // The table of kinds 1 and 2, row by row.
-fn fill(
-    kind: u32,
-    weights: &Numbers,
-    values: &Numbers,
-    copies: &Numbers,
-    width: usize,
-    cells: &mut [u32],
-)
-    requires bounded { Bounded width weights.now values.now }
-    requires copies_len { ¬ (kind ≡ 1) → length copies.now ≡ length weights.now }
-    requires width_value { (length weights.now + 1) * width ≡ length cells.old }
-    ensures { Filled weights.now values.now
-        (limit_of kind copies.now) width
-        (length weights.now) cells.new }
+fn fill(job: &Job, width: usize, cells: &mut [u32])
+    requires bounded { Bounded width job.now.weights job.now.values }
+    requires copies_len { ¬ (job.now.kind ≡ 1) → length job.now.copies ≡ length job.now.weights }
+    requires width_value { (length job.now.weights + 1) * width ≡ length cells.old }
+    ensures { Filled job.now.weights job.now.values (limit_of job.now.kind job.now.copies) width (length job.now.weights) cells.new }
 {
     rows::set_all(cells, width, 0);
-    for i in 0..weights.len() {
-        let w = weights.at(i);
-        let v = values.at(i);
-        let limit = allowed(kind, copies, i);
+    for i in 0..job.weights.len() {
+        let w = job.weights.at(i);
+        let v = job.values.at(i);
+        let limit = allowed(job, i);
         rows::next_row(cells, i * width, width, w, v, limit);
     }
 }
@@ -131,30 +123,25 @@ fn trace_along(weights: &Numbers, values: &Numbers, row: &[u32], picks: &mut [u3
 // ---- the doors
 
 // Kinds 1 and 2: the full table, and the trace back through it.
-fn full_table(
-    kind: u32,
-    budget: u32,
-    weights: &Numbers,
-    values: &Numbers,
-    copies: &Numbers,
-    cells: &mut [u32],
-    picks: &mut [u32],
-) -> Answer
-    requires let_in { LetIn (job_of kind (budget ∷ []) weights.now values.now copies.now)
-        cells.old picks.old }
-    requires kind_bound { kind < 3 }
-    ensures { SolvedInCellsBy Full (job_of kind (budget ∷ []) weights.now
-        values.now copies.now)
-        cells.old picks.old (given result) cells.new picks.new }
+fn full_table(job: &Job, cells: &mut [u32], picks: &mut [u32]) -> Answer
+    requires let_in { LetIn (job_as job.now.kind job.now) cells.old picks.old }
+    requires kind_bound { job.now.kind < 3 }
+    ensures { SolvedInCellsBy Full (job_as job.now.kind job.now) cells.old picks.old (given result) cells.new picks.new }
 {
-    let n = weights.len();
-    let width = budget as usize + 1;
+    let n = job.weights.len();
+    let width = job.budget as usize + 1;
     let needed = (n + 1) * width;
-    fill(kind, weights, values, copies, width, &mut cells[..needed]);
-    let left = trace_back(weights, values, width, &cells[..needed], &mut picks[..n]);
+    fill(job, width, &mut cells[..needed]);
+    let left = trace_back(
+        &job.weights,
+        &job.values,
+        width,
+        &cells[..needed],
+        &mut picks[..n],
+    );
     Answer::Knapsack {
         value: cells[needed - 1],
-        weight: budget - left as u32,
+        weight: job.budget - left as u32,
     }
 }
 
@@ -183,23 +170,12 @@ fn one_row(
 }
 
 // Kinds 1 to 3: the table, the value, the weight and the picks of a job that no refusal meets.
-pub fn solve(
-    kind: u32,
-    budget: u32,
-    weights: &Numbers,
-    values: &Numbers,
-    copies: &Numbers,
-    cells: &mut [u32],
-    picks: &mut [u32],
-) -> Answer
-    requires { LetIn (job_of kind (budget ∷ []) weights.now values.now copies.now)
-        cells.old picks.old }
-    ensures { SolvedInCellsBy Full (job_of kind (budget ∷ []) weights.now
-        values.now copies.now)
-        cells.old picks.old (given result) cells.new picks.new }
+pub fn solve(job: &Job, cells: &mut [u32], picks: &mut [u32]) -> Answer
+    requires { LetIn (job_as job.now.kind job.now) cells.old picks.old }
+    ensures { SolvedInCellsBy Full (job_as job.now.kind job.now) cells.old picks.old (given result) cells.new picks.new }
 {
-    if kind == 3 {
-        return one_row(budget, weights, values, cells, picks);
+    if job.kind == 3 {
+        return one_row(job.budget, &job.weights, &job.values, cells, picks);
     }
-    full_table(kind, budget, weights, values, copies, cells, picks)
+    full_table(job, cells, picks)
 }

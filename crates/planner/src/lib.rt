@@ -53,15 +53,7 @@ fn pack_full(job: &Job, cells: &mut [u32], picks: &mut [u32]) -> Result<Answer, 
     let rules = rules::knapsack_rules(job.kind);
     let room = rules::knapsack_room(job.kind, n, job.budget);
     refusal(rules, room, job, cells.len(), 0, picks.len())?;
-    Ok(knapsack::solve(
-        job.kind,
-        job.budget,
-        &job.weights,
-        &job.values,
-        &job.copies,
-        cells,
-        picks,
-    ))
+    Ok(knapsack::solve(job, cells, picks))
 }
 
 // Kind 1 the light way.

@@ -5,10 +5,10 @@ use Rattle.meaning.specs.Lists.{if}
 use Rattle.knapsack.specs.Tables.{limit_of}
 use Rattle.knapsack.proofs.allowed.Goals as goal
 
-pub returns-then-kind-eq1 : goal.returns-then-kind-eq1
+pub returns-then-job-eq1 : goal.returns-then-job-eq1
 unfolding if limit_of
-returns-then-kind-eq1 c = rw (eq-eqb c.args.kind 1 c.if-kind-eq1.true)
+returns-then-job-eq1 c = rw (eq-eqb c.args.job.now.kind 1 c.if-job-eq1.true)
 
 pub returns : goal.returns
 unfolding if limit_of
-returns c = c.at.ensures ∙ rw (ne_eqb c.args.kind 1 c.if-kind-eq1.false)
+returns c = c.at.ensures ∙ rw (ne_eqb c.args.job.now.kind 1 c.if-job-eq1.false)

@@ -3,4 +3,4 @@ use Rattle.knapsack.specs.Tables.{limit_of, Filled}
 use Rattle.knapsack.proofs.fill.Given as goal
 
 abbrev pub invariant-loop-i : goal.invariant-loop-i
-invariant-loop-i l = Filled l.weights l.values (limit_of l.kind l.copies) l.width l.i l.cells
+invariant-loop-i l = Filled l.job.weights l.job.values (limit_of l.job.kind l.job.copies) l.width l.i l.cells

@@ -18,11 +18,11 @@ use Rattle.knapsack.proofs.KnapsackDoor.{full_ready, limit_few, limit_may, packs
 use Rattle.knapsack.proofs.full_table.Goals as goal
 
 trace : (c : goal.After-slice_known-5-1)
-    → TraceBack (row_of c.fill.new.cells (c.args.budget + 1)) c.args.weights.now c.args.values.now (length c.args.weights.now) c.args.budget 0
+    → TraceBack (row_of c.fill.new.cells (c.args.job.now.budget + 1)) c.args.job.now.weights c.args.job.now.values (length c.args.job.now.weights) c.args.job.now.budget 0
     c.trace_back-left.result c.trace_back-left.new.picks
 trace c =
     let room = full_ready c.requires.let_in c.requires.kind_bound in
-    let needed : ℕ = (c.len-n.result + 1) * (c.args.budget + 1) in
+    let needed : ℕ = (c.len-n.result + 1) * (c.args.job.now.budget + 1) in
     let long : length c.fill.new.cells ≡ needed = c.fill.auto.cells ∙ length-take-le needed c.args.cells.now (rw c.len-n.ensures room.cells_room) in
     rw (front_part c.fill.new.cells c.args.cells.now needed long, add-sub_cancel) at c.trace_back-left.ensures
 
@@ -31,7 +31,7 @@ overflow_add-needed c = omega (arith, (full_ready c.requires.let_in c.requires.k
 
 pub overflow_mul-needed : goal.overflow_mul-needed
 overflow_mul-needed c =
-    let room : (c.len-n.result + 1) * (c.args.budget + 1) ≤ length c.args.cells.now =
+    let room : (c.len-n.result + 1) * (c.args.job.now.budget + 1) ≤ length c.args.cells.now =
     rw c.len-n.ensures (full_ready c.requires.let_in c.requires.kind_bound).cells_room in
     omega (arith, room, c.well_formed)
 
@@ -45,7 +45,7 @@ pub fill-requires : goal.fill-requires
 fill-requires c =
     let room = full_ready c.requires.let_in c.requires.kind_bound in
     let n = c.len-n.ensures in
-    let counted = ap (λ (n : ℕ). (n + 1) * (c.args.budget + 1)) n in
+    let counted = ap (λ (n : ℕ). (n + 1) * (c.args.job.now.budget + 1)) n in
     record { bounded = room.bounds; copies_len = room.copied; width_value = sym counted ∙ sym (length-take-le _ _ (rw n room.cells_room)) }
 
 pub slice_bounds-trace_back-end : goal.slice_bounds-trace_back-end
@@ -56,7 +56,7 @@ slice_bounds-trace_back-end c =
 pub slice_bounds-trace_back-end-2 : goal.slice_bounds-trace_back-end-2
 slice_bounds-trace_back-end-2 c =
     let room = full_ready c.requires.let_in c.requires.kind_bound in
-    let needed : ℕ = (c.len-n.result + 1) * (c.args.budget + 1) in
+    let needed : ℕ = (c.len-n.result + 1) * (c.args.job.now.budget + 1) in
     let long : length c.fill.new.cells ≡ needed = c.fill.auto.cells ∙ length-take-le _ _ (rw c.len-n.ensures room.cells_room) in
     sym long ∙ ap length (sym (front_part c.fill.new.cells c.args.cells.now needed long))
 
@@ -71,10 +71,10 @@ unfolding job_of labels
 trace_back-left-requires c =
     let room = full_ready c.requires.let_in c.requires.kind_bound in
     let n = c.len-n.ensures in
-    let needed : ℕ = (c.len-n.result + 1) * (c.args.budget + 1) in
-    let counted = ap (λ (n : ℕ). (n + 1) * (c.args.budget + 1)) n in
+    let needed : ℕ = (c.len-n.result + 1) * (c.args.job.now.budget + 1) in
+    let counted = ap (λ (n : ℕ). (n + 1) * (c.args.job.now.budget + 1)) n in
     let long : length c.fill.new.cells ≡ needed = c.fill.auto.cells ∙ length-take-le _ _ (rw n room.cells_room) in
-    let job = job_of c.args.kind (c.args.budget ∷ []) c.args.weights.now c.args.values.now c.args.copies.now in
+    let job = job_of c.args.job.now.kind (c.args.job.now.budget ∷ []) c.args.job.now.weights c.args.job.now.values c.args.job.now.copies in
     rw (front_part c.fill.new.cells c.args.cells.now needed long) record {
       bounded = room.bounds;
       width_value = (sym counted ∙ sym long, sym (length-take-le _ _ (rw n room.picks_room) ∙ n));
@@ -84,16 +84,16 @@ trace_back-left-requires c =
 
 pub offset_bounds-cells-needed : goal.offset_bounds-cells-needed
 offset_bounds-cells-needed c =
-    let room : (c.len-n.result + 1) * (c.args.budget + 1) ≤ length c.args.cells.now =
+    let room : (c.len-n.result + 1) * (c.args.job.now.budget + 1) ≤ length c.args.cells.now =
     rw c.len-n.ensures (full_ready c.requires.let_in c.requires.kind_bound).cells_room in
     omega (arith, room, c.well_formed)
 
 pub bounds-cells-needed : goal.bounds-cells-needed
 bounds-cells-needed c =
     let room = full_ready c.requires.let_in c.requires.kind_bound in
-    let needed : ℕ = (c.len-n.result + 1) * (c.args.budget + 1) in
+    let needed : ℕ = (c.len-n.result + 1) * (c.args.job.now.budget + 1) in
     let long : length c.fill.new.cells ≡ needed = c.fill.auto.cells ∙ length-take-le _ _ (rw c.len-n.ensures room.cells_room) in
-    omega (arith, front_room c.fill.new.cells c.args.cells.now needed long, one_row_more c.len-n.result (c.args.budget + 1))
+    omega (arith, front_room c.fill.new.cells c.args.cells.now needed long, one_row_more c.len-n.result (c.args.job.now.budget + 1))
 
 pub overflow_cast-result : goal.overflow_cast-result
 unfolding most_budget
@@ -108,11 +108,11 @@ returns c =
     let a = c.args in
     let room = full_ready c.requires.let_in c.requires.kind_bound in
     let n = c.len-n.ensures in
-    let needed : ℕ = (c.len-n.result + 1) * (a.budget + 1) in
-    let counted : needed ≡ (length a.weights.now + 1) * (a.budget + 1) = ap (λ (n : ℕ). (n + 1) * (a.budget + 1)) n in
+    let needed : ℕ = (c.len-n.result + 1) * (a.job.now.budget + 1) in
+    let counted : needed ≡ (length a.job.now.weights + 1) * (a.job.now.budget + 1) = ap (λ (n : ℕ). (n + 1) * (a.job.now.budget + 1)) n in
     let long : length c.fill.new.cells ≡ needed = c.fill.auto.cells ∙ length-take-le _ _ (rw n room.cells_room) in
-    let place = length a.weights.now * (a.budget + 1) + a.budget in
-    let inside = one_row_more (length a.weights.now) (a.budget + 1) in
+    let place = length a.job.now.weights * (a.job.now.budget + 1) + a.job.now.budget in
+    let inside = one_row_more (length a.job.now.weights) (a.job.now.budget + 1) in
     let last = front_last c.fill.new.cells a.cells.now needed long place (omega (arith, counted, inside)) in
     packs_full c.requires.let_in.knapsack _ a.cells.now a.picks.now c.fill.new.cells _ _ room.is c.requires.let_in.unrefused
     (long ∙ counted) (rw room.numbered at c.fill.ensures) (trace c) needed _ _ counted n last
