@@ -109,7 +109,11 @@ pub extern "C" fn quabnester_solve(
     ensures { SolvedHost job.now (lent_of cells.old words.old picks.old)
         result first.new second.new (lent_of cells.new words.new picks.new) }
 {
-    give(planner::solve_bytes(job, cells, words, picks), first, second)
+    give(
+        planner::solve_bytes(job, cells, words, picks),
+        first,
+        second,
+    )
 }
 
 // The same, kind 1 with the full table.

@@ -50,10 +50,12 @@ pub struct Numbers<'a> {
 
 impl<'a> Model for Numbers<'a> {
     ghost use Rattle.std.specs.Prelude.{ℕ, List};
+
     ghost Value = { List ℕ };
 
     ghost use Rattle.std.specs.Prelude.{◌*◌, ◌^◌, ◌<◌, length};
     ghost use Rattle.numbers.specs.Kept.{numbers_of};
+
     ghost view = { λ s. numbers_of s.kept };
 
     ghost invariant = { λ s. 4 * length (numbers_of s.kept) < 2 ^ 64 };
@@ -150,11 +152,7 @@ pub fn read_section(
 }
 
 // The part of the bytes in which that section's numbers stand, and the place after it; or the place where reading broke.
-pub fn section(
-    bytes: &[u8],
-    place: usize,
-    needed: Option<u32>,
-) -> Result<(&[u8], usize), usize>
+pub fn section(bytes: &[u8], place: usize, needed: Option<u32>) -> Result<(&[u8], usize), usize>
     ensures { part_read result ≡ section_in needed bytes.now place }
 {
     let (start, _, next) = read_section(bytes, place, needed)?;

@@ -125,12 +125,7 @@ fn put_answer(out: &mut [u8], kind: u32, answer: Answer, picks: &[u32]) -> usize
 
 // Puts all lines of an answer to a job of this kind, or of its refusal, at the start of a slice, and gives how long they are: at most 128 bytes, and
 // 21 for each pick.
-pub fn text(
-    kind: u32,
-    answer: Result<Answer, Refusal>,
-    picks: &[u32],
-    out: &mut [u8],
-) -> usize
+pub fn text(kind: u32, answer: Result<Answer, Refusal>, picks: &[u32], out: &mut [u8]) -> usize
     requires { length (lines_of kind (said answer) picks.now) ≤ length out.old }
     ensures { PutFirst (lines_of kind (said answer) picks.now) out.old out.new result }
 {

@@ -107,11 +107,7 @@ fn is_low(job: &Job, cells: &[u8], from: usize, end: usize) -> bool
 }
 
 // From which cell on those up to `end` have to be searched: from the first, or from `end` on where they keep rule 14.
-fn search_from(
-    job: &Job, cells: &[u8],
-    from: usize,
-    end: usize,
-) -> usize
+fn search_from(job: &Job, cells: &[u8], from: usize, end: usize) -> usize
     requires cells_read { CellsRead (knapsack_in job.now.kind) (certified job.now) (numbers_in cells.now) }
     requires run { Run (knapsack_in job.now.kind) (certified job.now) from end }
     ensures { result ≡ if (some_of (λ (m : ℕ). too_low (knapsack_in job.now.kind) (certified job.now) (numbers_in cells.now) (from + m)) (end - from)) from end }
@@ -133,9 +129,7 @@ fn run_length(job: &Job) -> usize
 }
 
 // 14: the first cell at which its rule is broken. Rows that keep it are not searched, and one that doesn't is searched by halves.
-fn low_cell(
-    job: &Job, cells: &[u8],
-) -> Option<usize>
+fn low_cell(job: &Job, cells: &[u8]) -> Option<usize>
     requires { CellsRead (knapsack_in job.now.kind) (certified job.now) (numbers_in cells.now) }
     ensures { place_of result ≡ low_cell (knapsack_in job.now.kind) (certified job.now)
         (numbers_in cells.now) }
@@ -168,10 +162,7 @@ fn low_cell(
 // ---- the verdict
 
 // 12 to 15, in this order, or else the picks' value.
-pub fn judge_cells(
-    job: &Job, picks: &Numbers,
-    cells: &[u8],
-) -> Result<u32, Fault>
+pub fn judge_cells(job: &Job, picks: &Numbers, cells: &[u8]) -> Result<u32, Fault>
     requires cells_read { CellsRead (knapsack_in job.now.kind) (certified job.now) (numbers_in cells.now) }
     requires picks_len { length picks.now ≡ length job.now.weights }
     ensures { judged result ≡ verdict_on_cells (knapsack_in job.now.kind) (certified job.now)
