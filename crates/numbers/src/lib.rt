@@ -50,10 +50,12 @@ pub struct Numbers<'a> {
 
 impl<'a> Model for Numbers<'a> {
     ghost use Rattle.std.specs.Prelude.{ℕ, List};
+
     ghost Value = { List ℕ };
 
     ghost use Rattle.std.specs.Prelude.{◌*◌, ◌^◌, ◌<◌, length};
     ghost use Rattle.numbers.specs.Kept.{numbers_of};
+
     ghost view = { λ s. numbers_of s.kept };
 
     ghost invariant = { λ s. 4 * length (numbers_of s.kept) < 2 ^ 64 };
@@ -115,10 +117,7 @@ pub struct Job<'a> {
 fn is_needed(needed: Option<u32>, count: u32) -> bool
     ensures { result ≡ is_needed needed count }
 {
-    match needed {
-        None => true,
-        Some(n) => count == n,
-    }
+    needed.is_none_or(|n| count == n)
 }
 
 // The section whose count stands at a place, which may be any number: no sum is made before it is known to fit. Gives where its numbers start, how many
@@ -150,11 +149,7 @@ pub fn read_section(
 }
 
 // The part of the bytes in which that section's numbers stand, and the place after it; or the place where reading broke.
-pub fn section(
-    bytes: &[u8],
-    place: usize,
-    needed: Option<u32>,
-) -> Result<(&[u8], usize), usize>
+pub fn section(bytes: &[u8], place: usize, needed: Option<u32>) -> Result<(&[u8], usize), usize>
     ensures { part_read result ≡ section_in needed bytes.now place }
 {
     let (start, _, next) = read_section(bytes, place, needed)?;
@@ -176,8 +171,8 @@ pub fn write_section(out: &mut [u8], p: usize, numbers: &[u32]) -> usize
 {
     write_number(out, p, numbers.len() as u32);
     let start = p + 4;
-    for i in 0..numbers.len() {
-        write_number(out, start + 4 * i, numbers[i]);
+    for (i, x) in numbers.iter().enumerate() {
+        write_number(out, start + 4 * i, *x);
     }
     start + 4 * numbers.len()
 }
