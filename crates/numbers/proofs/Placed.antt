@@ -1,11 +1,11 @@
 -- What was written at a place: nothing, four bytes, one piece after another, and from place 0 on.
 -- Assumes nothing.
-use Prim.Native.Nat.{ℕ, suc, ◌+◌, ◌≤◌}
+use Prim.Native.Nat.{ℕ, ◌+◌, ◌≤◌}
 use mathlib.Core.Path.{◌≡◌, sym, ap, ◌∙◌}
-use mathlib.Core.List.{List, [], ◌∷◌, ◌++◌, append_assoc}
+use mathlib.Core.List.{List, [], ◌++◌, append_assoc}
 use native.Mathlib.Omega.{arith}
-use lib.ListN.{length, take, drop, set, length-append, take-append-drop}
-use lib.Seq.{length-take-le, take_at, drop_at, drop-drop, sets-eq}
+use lib.ListN.{length, take, drop, length-append, take-append-drop}
+use lib.Seq.{length-take-le, take_at, drop_at, drop-drop}
 use Rattle.meaning.specs.Slices.{Holds}
 use Rattle.numbers.specs.Placed.{HoldsAt}
 
@@ -13,17 +13,6 @@ use Rattle.numbers.specs.Placed.{HoldsAt}
 pub nothing : (p : ℕ) (l : List ℕ) → HoldsAt p [] l l
 unfolding HoldsAt
 nothing p l = sym (take-append-drop p l)
-
--- four stores in a row
-pub four_stores : (l : List ℕ) (p a b c d : ℕ) → p + 4 ≤ length l
-    → HoldsAt p (a ∷ b ∷ c ∷ d ∷ []) l (set (set (set (set l p a) (p + 1) b) (p + 2) c) (p + 3) d)
-unfolding HoldsAt
-four_stores l p a b c d fits =
-    let one : p + 1 ≡ suc p = omega arith in
-    let two : p + 2 ≡ suc (suc p) = omega arith in
-    let three : p + 3 ≡ suc (suc (suc p)) = omega arith in
-    rw (one, two, three, drop-drop 4 p l)
-    (sets-eq (a ∷ b ∷ c ∷ d ∷ []) l p fits ∙ append_assoc (take p l) (a ∷ b ∷ c ∷ d ∷ []) (drop (p + 4) l))
 
 module _ (p : ℕ) (a before mid : List ℕ) (fits : p + length a ≤ length before) (first : HoldsAt p a before mid) where
   front : length (take p before ++ a) ≡ p + length a

@@ -117,10 +117,7 @@ pub struct Job<'a> {
 fn is_needed(needed: Option<u32>, count: u32) -> bool
     ensures { result ≡ is_needed needed count }
 {
-    match needed {
-        None => true,
-        Some(n) => count == n,
-    }
+    needed.is_none_or(|n| count == n)
 }
 
 // The section whose count stands at a place, which may be any number: no sum is made before it is known to fit. Gives where its numbers start, how many
@@ -174,8 +171,8 @@ pub fn write_section(out: &mut [u8], p: usize, numbers: &[u32]) -> usize
 {
     write_number(out, p, numbers.len() as u32);
     let start = p + 4;
-    for i in 0..numbers.len() {
-        write_number(out, start + 4 * i, numbers[i]);
+    for (i, x) in numbers.iter().enumerate() {
+        write_number(out, start + 4 * i, *x);
     }
     start + 4 * numbers.len()
 }

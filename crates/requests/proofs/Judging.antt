@@ -6,17 +6,17 @@ use native.Mathlib.Numerals.{add-one}
 use native.Mathlib.Nat.{zero-add}
 use native.Mathlib.Omega.{arith}
 use mathlib.Core.Bool.{Bool, true, false, not, ◌&&◌}
-use mathlib.Core.List.{List, [], ◌∷◌, ◌++◌}
+use mathlib.Core.List.{List, [], ◌∷◌}
 use lib.Dec.{T, leb, ltb, eqb, leb-zero}
 use lib.ListN.{length, drop, drop_of_length-le, take}
-use lib.Seq.{drop-cons, take_all}
-use borrow.Author.Tests.{le-leb, lt-leb, lt-ltb, eq-eqb, ne_eqb}
+use lib.Seq.{drop-cons}
+use borrow.Author.Tests.{le-leb, lt-leb, lt-ltb}
 use Rattle.meaning.specs.Lists.{at, if, sum, every}
 use Rattle.meaning.specs.Job.{Job, Knapsack, job_of, labels}
 use Rattle.meaning.specs.Refusals as meaning
 use Rattle.meaning.specs.Bounds.{most_value, most_copies, least_copies, least_q, most_q}
 use Rattle.meaning.specs.Refusals.{ascending_from, bounds_fit, each_within, job_refusal, knapsack_rules, least_value, lists_fit, positive, numbers_fit, q_fits}
-use Rattle.meaning.proofs.Loops.{and_assoc, and_true, every_joined, every_step}
+use Rattle.meaning.proofs.Loops.{and_assoc, and_true, every_step}
 use Rattle.numbers.specs.declared.Job.{Job as Came}
 use Rattle.numbers.specs.Lists.{job_as}
 use Rattle.rules.specs.declared.Rules.{Rules}
@@ -47,18 +47,6 @@ module _ (low high : ℕ) where
     up_from = λ e. rw (every_step (leb low) xs i h, ← so_far.up_from e, le-leb (at xs i) high (omega arith)) (and_true (r && leb low (at xs i)));
   }
 
-  -- past the end all have been tested
-  pub all_tested : (xs : List ℕ) (i : ℕ) (r : Bool) → length xs ≤ i → EachWithin low high (take i xs) r → EachWithin low high xs r
-  all_tested xs i r h so_far = rw (take_all i xs h) at so_far
-
-  -- two lists, one after the other
-  pub joined : (xs ys : List ℕ) (r s : Bool) → EachWithin low high xs r → EachWithin low high ys s → EachWithin low high (xs ++ ys) (r && s)
-  unfolding each_within
-  joined xs ys r s a b = record {
-    within = rw (a.within, b.within) (sym (every_joined (λ x. leb low x && leb x high) xs ys));
-    up_from = λ e. rw (a.up_from e, b.up_from e) (sym (every_joined (leb low) xs ys));
-  }
-
 -- the test by bounds that are these
 pub within_as : {low high least most : ℕ} {xs : List ℕ} {r : Bool} → low ≡ least → high ≡ most → EachWithin low high xs r
     → r ≡ each_within least most xs
@@ -80,13 +68,6 @@ unfolding ascending_from
 all_ascend xs low i h = ap (ascending_from low) (drop_of_length-le xs h)
 
 -- ---- 3 and 4, by lengths
-
--- two tests of lengths, the second asked where the first has passed
-pub both_fit : (a b x y x-needed y-needed : ℕ) → x ≡ x-needed → y ≡ y-needed → a ≡ x → eqb b y ≡ (eqb a x-needed && eqb b y-needed)
-both_fit a b x y x-needed y-needed e f g = simp (sym e, sym f, eq-eqb a x g)
-
-pub first_fails : (a b x x-needed y-needed : ℕ) → x ≡ x-needed → ¬ (a ≡ x) → eqb a x ≡ (eqb a x-needed && eqb b y-needed)
-first_fails a b x x-needed y-needed e g = simp (sym e, ne_eqb a x g)
 
 -- the two tests, as the code makes them of a job by the lengths of its lists
 module _ (rules : Rules) (needs_sum : Bool) (kind : ℕ) (j : Came) (n : ℕ) (counted : n ≡ length j.weights) where

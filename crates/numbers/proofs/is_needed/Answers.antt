@@ -1,11 +1,8 @@
--- `numbers::is_needed` meets its contract: each arm is told which count is needed.
+-- `numbers::is_needed` meets its contract: any count, or just the needed one.
+use Rattle.std.proofs.Common.{rules}
 use Rattle.meaning.specs.Bytes.{is_needed}
 use Rattle.numbers.proofs.is_needed.Goals as goal
 
-pub returns-in-None : goal.returns-in-None
+pub returns : goal.returns
 unfolding is_needed
-returns-in-None c = rw c.in-None.is
-
-pub returns-in-Some : goal.returns-in-Some
-unfolding is_needed
-returns-in-Some c = rw c.in-Some.is
+returns c = search rules

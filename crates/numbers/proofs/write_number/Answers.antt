@@ -1,5 +1,5 @@
 -- `numbers::write_number` meets its contract: four bytes are written over four.
-use mathlib.Core.Path.{◌≡◌}
+use mathlib.Core.Path.{◌≡◌, refl}
 use Prim.Native.Nat.{◌+◌, ◌-◌}
 use native.Mathlib.Omega.{arith}
 use Rattle.meaning.specs.Bytes.{bytes_of}
@@ -10,4 +10,4 @@ pub returns : goal.returns
 unfolding bytes_of HoldsAt
 returns c =
     let four : c.args.p + 4 - c.args.p ≡ 4 = omega arith in
-    rw (four, c.copy_from_slice.ensures.after, c.to_le_bytes.ensures)
+    rw (four, c.copy_from_slice.ensures.after, c.to_le_bytes.ensures) refl

@@ -1,10 +1,9 @@
 -- `rules::knapsack_room` meets its contract: one row in kind 3, all rows in the others, and their cells can be counted.
 use mathlib.Core.Path.{sym, ◌∙◌}
-use native.Mathlib.Omega.{arith}
 use Rattle.meaning.specs.Job.{packing}
 use Rattle.meaning.specs.Bounds.{most_labels, most_budget}
 use Rattle.meaning.proofs.Laws.{kind_number}
-use Rattle.rules.proofs.Places.{one_row, all_rows, few_cells}
+use Rattle.rules.proofs.Places.{one_row, all_rows}
 use Rattle.rules.proofs.knapsack_room.Goals as goal
 
 pub returns-then-kind-eq3 : goal.returns-then-kind-eq3
@@ -12,13 +11,6 @@ unfolding most_budget most_labels
 returns-then-kind-eq3 c k e =
     one_row k _ _ _ _ c.lesser-labels.ensures c.lesser-width.ensures
     (sym (kind_number c.args.kind (packing k) e) ∙ c.if-kind-eq3.true)
-
-pub overflow_mul-result : goal.overflow_mul-result
-unfolding most_budget most_labels
-overflow_mul-result c =
-    let labels = c.lesser-labels in
-    let budget = c.lesser-width in
-    omega (arith, few_cells labels.result budget.result (omega (arith, labels.ensures)) (omega (arith, budget.ensures)))
 
 pub returns : goal.returns
 unfolding most_budget most_labels
