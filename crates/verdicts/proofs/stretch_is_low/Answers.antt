@@ -4,7 +4,6 @@ use Prim.Native.Nat.{◌<◌}
 use native.Mathlib.Omega.{arith}
 use lib.ListN.{length}
 use Rattle.meaning.specs.Bytes.{numbers_in}
-use Rattle.meaning.proofs.Numbers.{numbers_long}
 use Rattle.meaning.specs.Job.{job_of}
 use Rattle.verdicts.specs.Asked.{certified}
 use Rattle.verdicts.proofs.LowRows.{at_fault, labels_start, labels_next, label_told, stretch_low, stretch_kept}
