@@ -106,7 +106,7 @@ fn is_low(job: &Job, cells: &[u8], from: usize, end: usize) -> bool
     faults::row_breaks(cells, from, width, end - from, w, v, most)
 }
 
-// The first cell from `from` on at which rule 14 is broken, where some cell below `end` breaks it: none below `kept` does, and some below `low` does.
+// The first cell of a run at which rule 14 is broken, where some is: no cell below `kept` breaks it, and some cell below `low` does.
 fn first_low(job: &Job, cells: &[u8], from: usize, end: usize) -> usize
     requires cells_read { CellsRead (knapsack_in job.now.kind) (certified job.now) (numbers_in cells.now) }
     requires run { Run (knapsack_in job.now.kind) (certified job.now) from end }
