@@ -32,14 +32,8 @@ module _ (k : Knapsack) (j : Job) (cells : List ℕ) where
     pub some_low : low_between from low ≡ true
     pub none_low : (m : ℕ) → from ≤ m → m < kept → too_low k j cells m ≡ false
 
-  pub narrow_start : (from end : ℕ) → from < end → low_between from end ≡ true → Narrowed from end from end
-  narrow_start from end filled low = record { inside = omega arith; some_low = low; none_low = λ m above below. absurd (omega arith) }
-
   module _ {from end kept low : ℕ} (n : Narrowed from end kept low) where
-    -- the half up to a cell in the middle breaks the rule, or keeps it
-    pub half_low : (middle : ℕ) → kept < middle → middle < low → low_between from middle ≡ true → Narrowed from end kept middle
-    half_low middle above below half = record { inside = omega (arith, n.inside); some_low = half; none_low = n.none_low }
-
+    -- the half up to a cell in the middle keeps the rule
     pub half_kept : (middle : ℕ) → kept < middle → middle < low → low_between from middle ≡ false → Narrowed from end middle low
     half_kept middle above below half =
         record { inside = omega (arith, n.inside); some_low = n.some_low; none_low = kept_between from middle half }

@@ -110,7 +110,8 @@ fn is_low(job: &Job, cells: &[u8], from: usize, end: usize) -> bool
 fn first_low(job: &Job, cells: &[u8], from: usize, end: usize) -> usize
     requires cells_read { CellsRead (knapsack_in job.now.kind) (certified job.now) (numbers_in cells.now) }
     requires run { Run (knapsack_in job.now.kind) (certified job.now) from end }
-    requires some_low { some_of (λ (m : ℕ). too_low (knapsack_in job.now.kind) (certified job.now) (numbers_in cells.now) (from + m)) (end - from) ≡ true }
+    requires some_low { some_of (λ (m : ℕ). too_low (knapsack_in job.now.kind) (certified job.now) (numbers_in cells.now) (from + m)) (end - from)
+        ≡ true }
     ensures { FirstFrom (too_low (knapsack_in job.now.kind) (certified job.now) (numbers_in cells.now)) from end result }
 {
     let mut kept = from;

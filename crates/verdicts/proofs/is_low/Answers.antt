@@ -47,10 +47,6 @@ returns-then-from-width c =
     let read = table (goal.at.returns-then-from-width c).Else-job-eq3 in
     row_0_low _ read (numbers_in c.args.cells.now) _ _ (read.in_row _ _ c.requires.run.together) c.if-from-width.true
 
-pub overflow_sub-i : goal.overflow_sub-i
-unfolding job_of
-overflow_sub-i c = (row c).not_first
-
 pub at-w-requires : goal.at-w-requires
 unfolding job_of labels
 at-w-requires c = (row (goal.at.at-w-requires c).Else-from-width).label

@@ -68,7 +68,8 @@ unfolding job_of place_of
 returns-in-Some-low_cell c =
     let here = goal.at.returns-in-Some-low_cell c in
     let fault = c.fault_at-in-Some-low_cell.ensures in
-    rw (fault.0, fault.1) (low_14 _ _ _ _ (none_over here.In_default) (light here.Else-job-picked) _ (sym c.low_cell.ensures ∙ ap place_of c.in-Some-low_cell.is))
+    let low = sym c.low_cell.ensures ∙ ap place_of c.in-Some-low_cell.is in
+    rw (fault.0, fault.1) (low_14 _ _ _ _ (none_over here.In_default) (light here.Else-job-picked) _ low)
 
 pub overflow_sub-cells : goal.overflow_sub-cells
 overflow_sub-cells c = omega (arith, numbers_long c.args.cells.now, some_claim c)
@@ -87,13 +88,15 @@ unfolding job_of
 returns-then-value-picked c =
     let here = goal.at.returns-then-value-picked c in
     let fault = c.fault_at-then-value-picked.ensures in
+    let last = last_read here.After-number_in-value in
     rw (fault.0, fault.1)
-    (other_15 _ _ _ _ (none_over here.In_default) (light here.Else-job-picked) (none_low here.In_default-low_cell) _ (last_read here.After-number_in-value)
+    (other_15 _ _ _ _ (none_over here.In_default) (light here.Else-job-picked) (none_low here.In_default-low_cell) _ last
     (λ e. c.if-value-picked.true (e ∙ sym c.picked-2.ensures)))
 
 pub returns : goal.returns
 unfolding job_of
 returns c =
     let here = goal.at.returns c in
-    accepts _ _ _ _ (none_over here.In_default) (light here.Else-job-picked) (none_low here.In_default-low_cell) _ (last_read here.After-number_in-value)
+    let last = last_read here.After-number_in-value in
+    accepts _ _ _ _ (none_over here.In_default) (light here.Else-job-picked) (none_low here.In_default-low_cell) _ last
     (c.if-value-picked.false ∙ c.picked-2.ensures)
