@@ -132,12 +132,7 @@ pub fn write(
 }
 
 // Writes a certificate for job bytes.
-pub fn write_bytes(
-    job: &[u8],
-    picks: &[u32],
-    cells: &[u32],
-    out: &mut [u8],
-) -> Result<u64, Refusal>
+pub fn write_bytes(job: &[u8], picks: &[u32], cells: &[u32], out: &mut [u8]) -> Result<u64, Refusal>
     ensures { WritesBytes job.now picks.now cells.now out.old (reported result) out.new }
 {
     match requests::read_job(job) {

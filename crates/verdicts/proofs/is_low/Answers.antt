@@ -26,7 +26,7 @@ row c =
     let job = c.args.job.now in
     let read = table_of (tabled job.kind c.if-job-eq3.false) (certified job) in
     let run = c.requires.run in
-    row_read (certified job) read _ _ _ c.requires.cells_read.long (read.in_row _ _ run.together) run.some run.inside c.if-from-width.false
+    row_read (certified job) read _ _ _ c.requires.cells_read.long (read.in_row _ _ run.together) run.some run.inside (omega arith)
 
 pub stretch_is_low-requires : goal.stretch_is_low-requires
 unfolding certificate_cells job_of labels most_budget

@@ -20,7 +20,7 @@ asked c =
     let l = c.loop-from in
     let r = c.run_length-run.ensures in
     let here : min l.from (length c.args.cells.now / 4) ≡ l.from = omega arith in
-    run_there (certified c.args.job.now) _ _ (λ t. r.0 (tabled_not_3 _ t)) _ _ _ r.1.0 c.loop-from-test.true
+    run_there (certified c.args.job.now) _ _ (λ t. r.0 (tabled_not_3 _ t)) _ _ _ r.1.0 (omega arith)
     (sym (counted c.args.cells.now c.requires)) c.min-end.ensures (rw here at l.invariant.0)
 
 -- one that keeps the rule
