@@ -16,7 +16,8 @@ use Rattle.meaning.specs.Job.{Job, Knapsack, labels, once, limited, free}
 use Rattle.meaning.specs.Bounds.{most_budget, most_value}
 use Rattle.meaning.specs.Lent.{cell_count}
 use Rattle.meaning.specs.Knapsacks.{cell_number}
-use Rattle.meaning.specs.Certificates.{below_with, cell_at, certificate_cell, certificate_cells, low_for_one, low_in_row, most_picks, some_of, too_low}
+use Rattle.meaning.specs.Certificates.{below_with, cell_at, certificate_cell, certificate_cells}
+use Rattle.meaning.specs.Certificates.{low_for_one, low_in_row, most_picks, some_of, too_low}
 use Rattle.meaning.proofs.CellNumbers.{CellOf, cell_of}
 use Rattle.meaning.proofs.Searches.{none_pass, none_passes, passing, some_passes, some_same}
 use Rattle.meaning.proofs.Valid.{Valid, value_rule, weight_rule}
@@ -223,7 +224,8 @@ module _ (j : Job) where
 
     -- its cells are told of by the label that was read
     pub row_low : {from end i : ℕ} → RowRead from end i → (w v most : ℕ) → w ≡ at j.weights i → v ≡ at j.values i → most ≡ most_picks k j i
-        → (r : Bool) → r ≡ some_of (low_in cells from width w v most) (end - from) → r ≡ some_of (λ (m : ℕ). too_low k j cells (from + m)) (end - from)
+        → (r : Bool) → r ≡ some_of (low_in cells from width w v most) (end - from)
+        → r ≡ some_of (λ (m : ℕ). too_low k j cells (from + m)) (end - from)
     row_low {from} {end} {i} row w v most w-is v-is most-is r told =
         let at_row : low_in cells from width w v most ≡ low_in cells ((i + 1) * width) width (at j.weights i) (at j.values i) (most_picks k j i) =
         ap₂ (λ (f x : ℕ). low_in cells f width x v most) row.starts w-is
