@@ -1,4 +1,4 @@
--- How many picks and cells a certificate has, as the code counts them: by the list of weights, and by the room that the job needs, kind 1 the full way.
+-- How many picks and cells a certificate has, as the code counts them: by the list of weights, and by the job's room, kind 1 the full way.
 -- Assumes nothing.
 use mathlib.Core.Path.{◌≡◌, refl, sym, ap, ◌∙◌}
 use mathlib.Core.Option.{some}

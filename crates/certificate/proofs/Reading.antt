@@ -9,7 +9,7 @@ use Rattle.std.specs.Prelude.{Result, Some, Ok, Err}
 use Rattle.meaning.specs.Judges.{Verdict, Refused}
 use Rattle.meaning.specs.Lists.{if}
 use Rattle.meaning.specs.Job.{Job, Knapsack, labels}
-use Rattle.meaning.specs.Bytes.{at_end, between, numbers_in, read_section, with_section}
+use Rattle.meaning.specs.Bytes.{at_end, numbers_in, read_section, with_section}
 use Rattle.meaning.specs.Certificates.{certificate_broken, certificate_cells, verdict_on_cells, verdict_on_certificate}
 use Rattle.numbers.specs.Sections.{section_in}
 use Rattle.numbers.proofs.Parts.{reads_on, reads_no_more}

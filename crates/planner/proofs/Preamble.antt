@@ -62,7 +62,8 @@ pub unneeded : (needed a b : ℕ) → needed ≡ 0 → leb needed a ≡ leb need
 unneeded needed a b none = rw (none, leb-zero a, leb-zero b)
 
 -- the rules of the job's kind; the room that it needs, where its bounds are kept; and lengths that pass the same tests as those of the lent slices
-pub record AskedBy (way : Way) (k : Kind) (j : Job) (lent : Lent) (rules : Rules) (needs_sum : Bool) (room : Room) (cells words picks : ℕ) : Type 0 where
+pub record AskedBy (way : Way) (k : Kind) (j : Job) (lent : Lent) (rules : Rules) (needs_sum : Bool) (room : Room)
+    (cells words picks : ℕ) : Type 0 where
   pub of_kind : kind_of j.kind_number ≡ some k
   pub its_rules : rules_from rules needs_sum ≡ rules_of k
   pub its_room : labels j ≤ (rules_of k).label_bound → j.budget ≤ (rules_of k).budget_bound → NeededFor way k (labels j) j.budget room

@@ -17,7 +17,8 @@ use Rattle.meaning.specs.Told.{ToldBy, kind_read, labels_read}
 use Rattle.meaning.proofs.Laws.{solved_bytes, solved_unreadable}
 
 -- bytes that can't be read tell nothing
-pub told_unread : {way : Way} (b : List ℕ) (before : Lent) {place : ℕ} → read_job b ≡ unreadable place → ToldBy way b before 0 0 (Says.Refused 1) before
+pub told_unread : {way : Way} (b : List ℕ) (before : Lent) {place : ℕ} → read_job b ≡ unreadable place
+    → ToldBy way b before 0 0 (Says.Refused 1) before
 unfolding kind_read labels_read
 told_unread b before {place} e = record { solved = solved_unreadable b place before e; kind_told = rw e; labels_told = rw e }
 

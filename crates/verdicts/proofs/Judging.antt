@@ -15,8 +15,8 @@ use Rattle.meaning.specs.Job.{Job, Knapsack, labels, once, limited, free}
 use Rattle.meaning.specs.Lent.{cell_count}
 use Rattle.meaning.specs.Bounds.{most_copies, most_of_one}
 use Rattle.meaning.specs.Knapsacks.{cell_number}
-use Rattle.meaning.specs.Certificates.{cell_at, certificate_cell, certificate_cells, low_cell, misvalued, most_picks, over_picked, overweight, unless_found}
-use Rattle.meaning.specs.Certificates.{verdict_on_cells}
+use Rattle.meaning.specs.Certificates.{cell_at, certificate_cell, certificate_cells, low_cell, misvalued, most_picks, over_picked}
+use Rattle.meaning.specs.Certificates.{overweight, unless_found, verdict_on_cells}
 use Rattle.meaning.proofs.Valid.{Valid, copies_rule}
 use Rattle.meaning.proofs.Searches.{first_none}
 use Rattle.verdicts.specs.Asked.{FewPicks}

@@ -16,7 +16,8 @@ use Rattle.meaning.specs.Job.{Job, Knapsack, labels, once, limited, free}
 use Rattle.meaning.specs.Bounds.{most_budget, most_value}
 use Rattle.meaning.specs.Lent.{cell_count}
 use Rattle.meaning.specs.Knapsacks.{cell_number}
-use Rattle.meaning.specs.Certificates.{below_with, cell_at, certificate_cell, certificate_cells, low_for_one, low_in_row, most_picks, some_of, too_low}
+use Rattle.meaning.specs.Certificates.{below_with, cell_at, certificate_cell, certificate_cells}
+use Rattle.meaning.specs.Certificates.{low_for_one, low_in_row, most_picks, some_of, too_low}
 use Rattle.meaning.proofs.CellNumbers.{CellOf, cell_of}
 use Rattle.meaning.proofs.Searches.{none_pass, none_passes, passing, some_passes, some_same}
 use Rattle.meaning.proofs.Valid.{Valid, value_rule, weight_rule}
@@ -223,7 +224,8 @@ module _ (j : Job) where
 
     -- its cells are told of by the label that was read
     pub row_low : {from end i : ℕ} → RowRead from end i → (w v most : ℕ) → w ≡ at j.weights i → v ≡ at j.values i → most ≡ most_picks k j i
-        → (r : Bool) → r ≡ some_of (low_in cells from width w v most) (end - from) → r ≡ some_of (λ (m : ℕ). too_low k j cells (from + m)) (end - from)
+        → (r : Bool) → r ≡ some_of (low_in cells from width w v most) (end - from)
+        → r ≡ some_of (λ (m : ℕ). too_low k j cells (from + m)) (end - from)
     row_low {from} {end} {i} row w v most w-is v-is most-is r told =
         let at_row : low_in cells from width w v most ≡ low_in cells ((i + 1) * width) width (at j.weights i) (at j.values i) (most_picks k j i) =
         ap₂ (λ (f x : ℕ). low_in cells f width x v most) row.starts w-is
@@ -248,46 +250,28 @@ module _ (cells : List ℕ) (from end : ℕ) where
   pub record LabelsKept (weights values : List ℕ) (i : ℕ) : Type 0 where
     pub kept : (l : ℕ) → l < i → at_fault weights values l ≡ false
 
-  pub labels_start : (weights values : List ℕ) → LabelsKept weights values 0
-  labels_start weights values = record { kept = λ l h. absurd (omega arith) }
-
-  module _ (weights values : List ℕ) (i w v : ℕ) (w-is : w ≡ at weights i) (v-is : v ≡ at values i) (r : Bool)
-      (told : r ≡ some_of (λ (m : ℕ). below_one cells w v (from + m)) (end - from)) where
-    pub label_told : r ≡ at_fault weights values i
-    label_told = told ∙ ap₂ (λ (x y : ℕ). some_of (λ (m : ℕ). below_one cells x y (from + m)) (end - from)) w-is v-is
-
-  pub labels_next : (weights values : List ℕ) (i : ℕ) → LabelsKept weights values i → at_fault weights values i ≡ false
-      → LabelsKept weights values (i + 1)
-  labels_next weights values i k here = record {
-    kept = λ l h. elim (dec_lt l i) [
-      | yes earlier ↦ k.kept l earlier
-      | no last ↦ let same : l ≡ i = omega arith in ap (at_fault weights values) same ∙ here
-    ];
-  }
-
-  module _ (j : Job) (weights values : List ℕ) (weights-are : j.weights ≡ weights) (values-are : j.values ≡ values) where
-    one_is : (i c : ℕ) → below_with free j cells i c 1 ≡ below_one cells (at weights i) (at values i) c
-    unfolding below_one
-    one_is i c = rule_14_free j cells i c ∙ ap₂ (λ (w v : List ℕ). below_one cells (at w i) (at v i) c) weights-are values-are
+  module _ (j : Job) where
+    -- what is told of a label
+    pub label_told : (i w v : ℕ) → w ≡ at j.weights i → v ≡ at j.values i → (r : Bool)
+        → r ≡ some_of (λ (m : ℕ). below_one cells w v (from + m)) (end - from) → r ≡ at_fault j.weights j.values i
+    label_told i w v w-is v-is r told = told ∙ ap₂ (λ (x y : ℕ). some_of (λ (m : ℕ). below_one cells x y (from + m)) (end - from)) w-is v-is
 
     -- some label is at fault
-    pub stretch_low : (i : ℕ) → i < length weights → at_fault weights values i ≡ true
+    pub stretch_low : (i : ℕ) → i < labels j → at_fault j.weights j.values i ≡ true
         → true ≡ some_of (λ (m : ℕ). low_for_one j cells (from + m)) (end - from)
-    unfolding low_for_one labels
-    stretch_low i h fault =
-        let p = passing (λ (m : ℕ). below_one cells (at weights i) (at values i) (from + m)) (end - from) fault in
-        let here : i < labels j = omega (arith, ap length weights-are) in
+    unfolding low_for_one below_one
+    stretch_low i here fault =
+        let p = passing (λ (m : ℕ). below_one cells (at j.weights i) (at j.values i) (from + m)) (end - from) fault in
         sym (some_passes (λ (m : ℕ). low_for_one j cells (from + m)) (end - from) p.place p.inside
-        (some_passes (λ i. below_with free j cells i (from + p.place) 1) (labels j) i here (one_is i (from + p.place) ∙ p.passes)))
+        (some_passes (λ i. below_with free j cells i (from + p.place) 1) (labels j) i here (rule_14_free j cells i (from + p.place) ∙ p.passes)))
 
     -- none is
-    pub stretch_kept : (n : ℕ) → length weights ≤ n → LabelsKept weights values n
+    pub stretch_kept : (n : ℕ) → labels j ≤ n → LabelsKept j.weights j.values n
         → false ≡ some_of (λ (m : ℕ). low_for_one j cells (from + m)) (end - from)
-    unfolding low_for_one labels
+    unfolding low_for_one below_one
     stretch_kept n all k =
         sym (none_pass (λ (m : ℕ). low_for_one j cells (from + m)) (end - from)
         (λ m inside. none_pass (λ i. below_with free j cells i (from + m) 1) (labels j)
         (λ i h.
-        let here : i < n = omega (arith, ap length weights-are) in
-        one_is i (from + m)
-        ∙ none_passes (λ (m : ℕ). below_one cells (at weights i) (at values i) (from + m)) (end - from) (k.kept i here) m inside)))
+        rule_14_free j cells i (from + m)
+        ∙ none_passes (λ (m : ℕ). below_one cells (at j.weights i) (at j.values i) (from + m)) (end - from) (k.kept i (omega arith)) m inside)))

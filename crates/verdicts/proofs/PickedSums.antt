@@ -7,7 +7,7 @@ use native.Mathlib.Numerals.{add-one}
 use native.Mathlib.Omega.{arith}
 use mathlib.Core.List.{List}
 use lib.ListN.{length, take}
-use lib.Seq.{length-take-le, take_all, take-suc}
+use lib.Seq.{length-take-le, take-suc}
 use Rattle.meaning.specs.Lists.{at, total}
 use Rattle.meaning.specs.Bounds.{most_labels}
 use Rattle.meaning.proofs.Totals.{total_none, total_with}
@@ -26,12 +26,8 @@ module _ (each picks : List ℕ) where
   pub sum_none : SumSoFar each picks 0 0
   sum_none = record { is = sym (total_none each); bounded = zero-le }
 
-  pub sum_all : (i sum : ℕ) → length picks ≤ i → SumSoFar each picks i sum → sum ≡ total each picks
-  sum_all i sum past s = s.is ∙ ap (total each) (take_all i picks past)
-
-  -- what label i adds stays within 64 bits, alone and in the sum, which is then that of i+1 labels
+  -- with what label i adds the sum stays within 64 bits, and is that of i+1 labels
   pub record NextSum (i sum part : ℕ) : Type 0 where
-    pub part_fits : part < 18_446_744_073_709_551_616
     pub sum_fits : sum + part < 18_446_744_073_709_551_616
     pub next : SumSoFar each picks (i + 1) (sum + part)
 
@@ -42,7 +38,6 @@ module _ (each picks : List ℕ) where
       let few : count ≤ 65_535 = omega (arith, ok.small i h) in
       let bounded : x * count ≤ most = mul-le-mul x_Fits few in
       record {
-        part_fits = omega arith;
         sum_fits = omega (arith, s.bounded, ok.few);
         next = record {
           is =

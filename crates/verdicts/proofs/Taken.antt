@@ -1,16 +1,18 @@
 -- The knapsack that a kind number is taken for, and what a job of it keeps that none of refusals 3 to 5 meets.
 -- Assumes nothing.
-use mathlib.Core.Path.{◌≡◌, refl, subst, ◌∙◌}
+use mathlib.Core.Path.{◌≡◌, refl, sym, subst, ◌∙◌}
 use mathlib.Core.Option.{some, some-injective}
-use Prim.Native.Nat.{ℕ, zero, suc}
+use Prim.Native.Nat.{ℕ, zero, suc, ◌/◌}
 use native.Mathlib.Omega.{arith}
 use borrow.Author.Tests.{eq-eqb, ne_eqb}
 use mathlib.Core.List.{List}
 use lib.ListN.{length}
+use Rattle.meaning.specs.Bytes.{numbers_in}
 use Rattle.meaning.specs.Lists.{if}
 use Rattle.meaning.specs.Job.{Job, Knapsack, labels, once, limited, free}
 use Rattle.meaning.specs.Refusals.{has_copies}
-use Rattle.meaning.specs.Certificates.{certified_knapsack}
+use Rattle.meaning.specs.Certificates.{certificate_cells, certified_knapsack}
+use Rattle.meaning.proofs.Numbers.{numbers_long}
 use Rattle.meaning.proofs.Valid.{Valid}
 use Rattle.meaning.proofs.Certified.{certified_valid}
 use Rattle.verdicts.specs.Asked.{CellsRead, knapsack_in}
@@ -48,3 +50,8 @@ valid_read r = certified_valid r.has_certificates
 pub copied : {k : Knapsack} {j : Job} → Valid k j → k ≡ limited → length j.copies ≡ labels j
 unfolding has_copies if
 copied {k} {j} v e = subst (λ (s : Knapsack). length j.copies ≡ if (has_copies s) (labels j) 0) e v.copied
+
+-- ---- the cells that were read are as many as there are to be
+
+pub counted : {k : Knapsack} {j : Job} (cells : List ℕ) → CellsRead k j (numbers_in cells) → length cells / 4 ≡ certificate_cells k j
+counted cells r = sym (numbers_long cells) ∙ r.long

@@ -1,5 +1,5 @@
 -- `certificate::job_refusal` meets its contract: 2 for another kind, and kinds 1 to 3 by their rules.
-use mathlib.Core.Path.{◌≡◌, sym, ap, ◌∙◌}
+use mathlib.Core.Path.{sym, ap, ◌∙◌}
 use mathlib.Core.Bool.{false}
 use native.Mathlib.Omega.{arith}
 use Rattle.meaning.specs.Job.{job_of}

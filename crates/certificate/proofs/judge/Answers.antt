@@ -1,12 +1,21 @@
 -- `certificate::judge` meets its contract: where a section breaks or bytes are left over it is 11, and else the cells are judged.
-use mathlib.Core.Path.{sym, ap, ◌∙◌}
+use mathlib.Core.Path.{◌≡◌, sym, ap, ◌∙◌}
 use native.Mathlib.Omega.{arith}
 use lib.ListN.{length}
 use Rattle.meaning.specs.Job.{job_of, labels}
+use Rattle.meaning.specs.Certificates.{certificate_cells}
+use Rattle.verdicts.specs.Asked.{certified, knapsack_in}
 use Rattle.numbers.proofs.Parts.{part_long}
 use Rattle.certificate.proofs.Counting.{room_asked, few_labels, cells_needed, few_cells}
 use Rattle.certificate.proofs.Reading.{asked_as, picks_broken, cells_broken, left_over, all_read}
 use Rattle.certificate.proofs.judge.Goals as goal
+use Rattle.certificate.proofs.judge.Goals.{After-knapsack_room-needed}
+
+-- there are as many cells as the room has
+needed : (c : After-knapsack_room-needed) →
+    certificate_cells (knapsack_in c.args.job.now.kind) (certified c.args.job.now) ≡ c.knapsack_room-needed.result.cells
+unfolding job_of labels
+needed c = cells_needed c.requires _ (sym c.len-n.ensures) c.knapsack_room-needed.result c.knapsack_room-needed.ensures
 
 pub knapsack_room-needed-requires : goal.knapsack_room-needed-requires
 unfolding job_of
@@ -30,21 +39,21 @@ unfolding job_of labels
 returns-in_default-section c =
     rw (c.placeless-in_default-section.ensures.0, c.placeless-in_default-section.ensures.1)
     (cells_broken _ _ _ (asked_as _ _ _ _ (sym c.len-n.ensures) c.in-Ok.ensures)
-    (asked_as _ _ _ _ (cells_needed c.requires _ (sym c.len-n.ensures) c.knapsack_room-needed.result c.knapsack_room-needed.ensures) c.in_default-section.ensures))
+    (asked_as _ _ _ _ (needed (goal.at.returns-in_default-section c).After-knapsack_room-needed) c.in_default-section.ensures))
 
 pub returns-then-cells_end-certificate : goal.returns-then-cells_end-certificate
 unfolding job_of labels
 returns-then-cells_end-certificate c =
     rw (c.placeless-then-cells_end-certificate.ensures.0, c.placeless-then-cells_end-certificate.ensures.1)
     (left_over _ _ _ (asked_as _ _ _ _ (sym c.len-n.ensures) c.in-Ok.ensures)
-    (asked_as _ _ _ _ (cells_needed c.requires _ (sym c.len-n.ensures) c.knapsack_room-needed.result c.knapsack_room-needed.ensures) c.in-Ok-section.ensures)
+    (asked_as _ _ _ _ (needed (goal.at.returns-then-cells_end-certificate c).After-knapsack_room-needed) c.in-Ok-section.ensures)
     c.if-cells_end-certificate.true)
 
 pub judge_cells-requires-clause-cells_read : goal.judge_cells-requires-clause-cells_read
 unfolding job_of labels
 judge_cells-requires-clause-cells_read c = record {
   has_certificates = c.requires;
-  long = part_long _ _ (sym c.in-Ok-section.ensures) ∙ sym (cells_needed c.requires _ (sym c.len-n.ensures) c.knapsack_room-needed.result c.knapsack_room-needed.ensures);
+  long = part_long _ _ (sym c.in-Ok-section.ensures) ∙ sym (needed (goal.at.judge_cells-requires-clause-cells_read c).After-knapsack_room-needed);
 }
 
 pub judge_cells-requires-clause-picks_len : goal.judge_cells-requires-clause-picks_len
@@ -56,5 +65,5 @@ returns c =
     c.judge_cells.ensures
     ∙ rw c.packed.ensures
     (all_read _ _ _ (asked_as _ _ _ _ (sym c.len-n.ensures) c.in-Ok.ensures)
-    (asked_as _ _ _ _ (cells_needed c.requires _ (sym c.len-n.ensures) c.knapsack_room-needed.result c.knapsack_room-needed.ensures) c.in-Ok-section.ensures)
+    (asked_as _ _ _ _ (needed (goal.at.returns c).After-knapsack_room-needed) c.in-Ok-section.ensures)
     (omega arith))

@@ -4,11 +4,6 @@ use Rattle.meaning.specs.SolvedIn.{SolvedInCellsBy}
 use Rattle.meaning.proofs.Ways.{from_full}
 use Rattle.planner.proofs.pack.Goals as goal
 
-pub returns-then-goes_light : goal.returns-then-goes_light
-returns-then-goes_light c =
-    let (way-is, kind-is) = c.goes_light.ensures.0 c.if-goes_light.true in
-    rw (way-is, kind-is) c.pack_light.ensures
-
 pub returns : goal.returns
 unfolding SolvedInCellsBy job_of
 returns c =

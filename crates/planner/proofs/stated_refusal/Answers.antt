@@ -19,7 +19,8 @@ returns-then-not-q_fits c =
 
 pub cells_needed-needed-requires : goal.cells_needed-needed-requires
 cells_needed-needed-requires c =
-    let_to_measure c.args.job.now _ 0 0 0 c.knapsack_rules-rules.ensures c.in_ok-job_refusal.ensures refl (sym c.q_fits.ensures ∙ c.if-not-q_fits.false)
+    let within = sym c.q_fits.ensures ∙ c.if-not-q_fits.false in
+    let_to_measure c.args.job.now _ 0 0 0 c.knapsack_rules-rules.ensures c.in_ok-job_refusal.ensures refl within
 
 pub returns-then-cells-needed : goal.returns-then-cells-needed
 returns-then-cells-needed c =

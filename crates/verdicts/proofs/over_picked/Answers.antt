@@ -13,9 +13,6 @@ use Rattle.verdicts.proofs.over_picked.Goals as goal
 pub loop-i-init : goal.loop-i-init
 loop-i-init c = first_start _
 
-pub most_picks-requires : goal.most_picks-requires
-most_picks-requires c is-limited = omega (arith, c.len-i-end.ensures, c.requires.0 is-limited)
-
 pub returns-then-most_picks-at : goal.returns-then-most_picks-at
 unfolding over_picked place_of job_of labels
 returns-then-most_picks-at c =

@@ -2,7 +2,7 @@
 use Prim.Native.Nat.{◌<◌, ◌*◌}
 use native.Mathlib.Omega.{arith}
 use lib.ListN.{length}
-use Rattle.verdicts.proofs.PickedSums.{sum_none, sum_all, NextSum, sum_next}
+use Rattle.verdicts.proofs.PickedSums.{sum_none, NextSum, sum_next}
 use Rattle.verdicts.proofs.picked.Goals as goal
 
 -- both numbers are read
@@ -15,21 +15,8 @@ grown c =
 pub loop-i-init : goal.loop-i-init
 loop-i-init c = sum_none _ _
 
-pub at-x-requires : goal.at-x-requires
-at-x-requires c = omega (arith, c.len-i-end.ensures, c.requires.one_each)
-
-pub at-count-requires : goal.at-count-requires
-at-count-requires c = omega (arith, c.len-i-end.ensures)
-
-pub overflow_mul-sum : goal.overflow_mul-sum
-overflow_mul-sum c = omega (arith, (grown c).part_fits)
-
 pub overflow_add-sum : goal.overflow_add-sum
 overflow_add-sum c = omega (arith, (grown c).sum_fits)
 
 pub loop-i-preserved : goal.loop-i-preserved
 loop-i-preserved c = (grown c).next
-
-pub returns : goal.returns
-returns c =
-    sum_all _ _ _ _ (omega (arith, c.len-i-end.ensures)) c.loop-i.invariant

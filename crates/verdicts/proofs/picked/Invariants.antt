@@ -1,6 +1,4 @@
 -- `verdicts::picked` meets its contract: the sum over the labels so far grows by the next, and stays within 64 bits.
-use Prim.Native.Nat.{◌≤◌, ◌-◌}
-use Rattle.meaning.specs.Bytes.{numbers_in}
 use Rattle.verdicts.proofs.PickedSums.{SumSoFar}
 use Rattle.verdicts.proofs.picked.Given as goal
 

@@ -1,5 +1,4 @@
 -- `verdicts::stretch_is_low` meets its contract: the labels before are at fault nowhere.
-use Prim.Native.Nat.{◌≤◌, ◌-◌}
 use Rattle.meaning.specs.Bytes.{numbers_in}
 use Rattle.verdicts.proofs.LowRows.{LabelsKept}
 use Rattle.verdicts.proofs.stretch_is_low.Given as goal
