@@ -169,21 +169,14 @@ pub struct Room {
     pub picks: usize,
 }
 
-// The lesser of two numbers.
-fn lesser(a: usize, b: usize) -> usize
-    ensures { result ≡ min a b }
-{
-    if a <= b { a } else { b }
-}
-
 // Kinds 1 to 3, kind 1 the full way: a row for each label and one before them, or one row in kind 3. It is asked for before 4 is, so n and C
 // are counted up to their bounds, and the product fits; where 4 doesn't apply, it is the job's own.
 pub fn knapsack_room(kind: u32, n: usize, budget: u32) -> Room
     requires { (1 ≤ kind) × (kind ≤ 3) }
     ensures { (k : Knapsack) → kind_of kind ≡ some (packing k) → NeededFor Full (packing k) (min n most_labels) (min budget most_budget) result }
 {
-    let labels = lesser(n, MOST_LABELS);
-    let width = lesser(budget as usize, MOST_BUDGET as usize) + 1;
+    let labels = usize::min(n, MOST_LABELS);
+    let width = usize::min(budget as usize, MOST_BUDGET as usize) + 1;
     if kind == 3 {
         return Room {
             cells: width,
@@ -202,8 +195,8 @@ pub fn knapsack_room(kind: u32, n: usize, budget: u32) -> Room
 pub fn light_room(n: usize, budget: u32) -> Room
     ensures { NeededBy (packing once) (min n most_labels) (min budget most_budget) result }
 {
-    let labels = lesser(n, MOST_LABELS);
-    let top = lesser(budget as usize, MOST_BUDGET as usize);
+    let labels = usize::min(n, MOST_LABELS);
+    let top = usize::min(budget as usize, MOST_BUDGET as usize);
     Room {
         cells: top + 1,
         words: labels * (top / 64 + 1),

@@ -5,4 +5,4 @@ use Rattle.rules.proofs.light_room.Goals as goal
 
 pub returns : goal.returns
 unfolding most_budget most_labels
-returns c = light_needed _ _ _ _ c.lesser-labels.ensures c.lesser-top.ensures
+returns c = light_needed _ _ _ _ c.min-labels.ensures c.min-top.ensures
