@@ -66,7 +66,7 @@ module _ (needed : Needed) (b : List ℕ) (p : ℕ) where
       pub section_short : length b < p + 4 + 4 * number_at b p → read_section needed b p ≡ Err (p + 4)
       unfolding read_section if
       section_short h =
-          simp (le-ltb (length b) (p + 4) there, right, lt-ltb (length b) (p + 4 + 4 * number_at b p) h)
+          simp (le-ltb (length b) (p + 4) there, right, lt-ltb (length b) (p + 4 + 4 * number_at b p) h) refl
 
       -- all is there
       pub section_whole : p + 4 + 4 * number_at b p ≤ length b → read_section needed b p ≡ whole_section b p

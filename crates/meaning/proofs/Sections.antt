@@ -178,8 +178,8 @@ unfolding budgets_of budget_count job_of if
 budgets_back j s = go (has_q j.kind_number) refl
   where
     go : (b : Bool) → has_q j.kind_number ≡ b → BudgetsBack j
-    go true e = record { few = rw e (lit< tt); many = rw e; fit = rw e (two32 j.budget j.q s.budget s.q); made = rw e }
-    go false e = record { few = rw e (lit< tt); many = rw e; fit = rw e (one32 j.budget s.budget); made = rw (e, s.ignored e) }
+    go true e = record { few = rw e (lit< tt); many = rw e refl; fit = rw e (two32 j.budget j.q s.budget s.q); made = rw e }
+    go false e = record { few = rw e (lit< tt); many = rw e refl; fit = rw e (one32 j.budget s.budget); made = rw (e, s.ignored e) }
 
 -- a job's bytes are read as that job
 pub job_back : (j : Job) → Job32 j → read_job (job_bytes j) ≡ readable j
