@@ -177,7 +177,6 @@ module _ (j : Job) where
     -- the row of label i, as the code counts it
     pub record RowRead (from end i : ℕ) : Type 0 where
       pub label : i < labels j
-      pub not_first : 1 ≤ from / width
       pub starts : from ≡ (i + 1) * width
       pub there : RowThere cells from width
       pub ends : end - from ≤ width
@@ -197,7 +196,6 @@ module _ (j : Job) where
         let back : from / width - 1 + 1 ≡ r.row = omega arith in
         record {
           label = omega arith;
-          not_first = omega arith;
           starts = r.starts ∙ ap (λ (i : ℕ). i * width) (sym back);
           there = record {
             not_first = past;
