@@ -2,13 +2,13 @@
 // certificate, and refusals 1 to 11, come before, in `certificate`; whether a row of claims is at fault is told by `faults`.
 #![tactic(auto)]
 
-ghost use Rattle.std.specs.Prelude.{◌≡◌, ℕ, ◌+◌, ◌-◌, ◌<◌, ◌≤◌, true, length};
+ghost use Rattle.std.specs.Prelude.{◌≡◌, ℕ, ◌+◌, ◌-◌, ◌<◌, ◌≤◌, length};
 ghost use Rattle.meaning.specs.Judges.{judged};
-ghost use Rattle.meaning.specs.Lists.{total};
+ghost use Rattle.meaning.specs.Lists.{if, total};
 ghost use Rattle.meaning.specs.Job.{limited};
 ghost use Rattle.meaning.specs.Bytes.{numbers_in};
 ghost use Rattle.meaning.specs.Certificates.{low_cell, low_for_one, most_picks, over_picked, some_of, too_low, verdict_on_cells};
-ghost use Rattle.verdicts.specs.Searching.{place_of, FirstFrom};
+ghost use Rattle.verdicts.specs.Searching.{place_of};
 ghost use Rattle.verdicts.specs.Asked.{certified, knapsack_in, FewPicks, CellsRead, Run};
 
 use meaning::{Fault, Refusal};
@@ -106,26 +106,16 @@ fn is_low(job: &Job, cells: &[u8], from: usize, end: usize) -> bool
     faults::row_breaks(cells, from, width, end - from, w, v, most)
 }
 
-// The first cell of a run at which rule 14 is broken, where some is: no cell below `kept` breaks it, and some cell below `low` does.
-fn first_low(job: &Job, cells: &[u8], from: usize, end: usize) -> usize
+// From which cell on those up to `end` have to be searched: from the first, or from `end` on where they keep rule 14.
+fn search_from(job: &Job, cells: &[u8], from: usize, end: usize) -> usize
     requires cells_read { CellsRead (knapsack_in job.now.kind) (certified job.now) (numbers_in cells.now) }
     requires run { Run (knapsack_in job.now.kind) (certified job.now) from end }
-    requires some_low { some_of (λ (m : ℕ). too_low (knapsack_in job.now.kind) (certified job.now) (numbers_in cells.now) (from + m)) (end - from)
-        ≡ true }
-    ensures { FirstFrom (too_low (knapsack_in job.now.kind) (certified job.now) (numbers_in cells.now)) from end result }
+    ensures { result ≡ if (some_of (λ (m : ℕ). too_low (knapsack_in job.now.kind) (certified job.now) (numbers_in cells.now) (from + m)) (end - from)) from end }
 {
-    let mut kept = from;
-    let mut low = end;
-    // which half is left goes by what is told of the first, so this is no range
-    while low - kept > 1 {
-        let middle = kept + (low - kept) / 2;
-        if is_low(job, cells, from, middle) {
-            low = middle;
-        } else {
-            kept = middle;
-        }
+    if is_low(job, cells, from, end) {
+        return from;
     }
-    kept
+    end
 }
 
 // How many cells are passed at once: a row of a table, or a stretch of a single row.
@@ -138,20 +128,36 @@ fn run_length(job: &Job) -> usize
     job.budget as usize + 1
 }
 
-// 14: the first cell at which its rule is broken. Rows that keep it are not searched, and one that doesn't is searched by halves.
+// 14: the first cell at which its rule is broken. Rows that keep it are not searched, and one that doesn't is searched by halves. Nested loops, left by the
+// label of the outer one, are the form that document 01 names for this place; a step of either goes by what was found.
 fn low_cell(job: &Job, cells: &[u8]) -> Option<usize>
     requires { CellsRead (knapsack_in job.now.kind) (certified job.now) (numbers_in cells.now) }
-    ensures { place_of result ≡ low_cell (knapsack_in job.now.kind) (certified job.now) (numbers_in cells.now) }
+    ensures { place_of result ≡ low_cell (knapsack_in job.now.kind) (certified job.now)
+        (numbers_in cells.now) }
 {
     let count = cells.len() / 4;
     let run = run_length(job);
-    for from in (0..count).step_by(run) {
-        let end = usize::min(from + run, count);
-        if is_low(job, cells, from, end) {
-            return Some(first_low(job, cells, from, end));
+    let mut found = None;
+    let mut from = 0;
+    'rows: while from < count {
+        let last = usize::min(from + run, count);
+        let mut kept = search_from(job, cells, from, last);
+        let mut end = last;
+        'budgets: while kept < end {
+            if end - kept == 1 {
+                found = Some(kept);
+                break 'rows;
+            }
+            let middle = kept + (end - kept) / 2;
+            if is_low(job, cells, from, middle) {
+                end = middle;
+            } else {
+                kept = middle;
+            }
         }
+        from = last;
     }
-    None
+    found
 }
 
 // ---- the verdict

@@ -1,70 +1,164 @@
--- `verdicts::low_cell` meets its contract: rule 14 is kept at every cell before a run, which in a table is a row.
+-- `verdicts::low_cell` meets its contract: at every way out, rule 14 is kept at every cell before.
 use mathlib.Core.Path.{◌≡◌, sym, ◌∙◌}
-use Prim.Native.Nat.{◌+◌, ◌/◌, min}
+use Prim.Native.Nat.{ℕ, ◌≤◌, ◌<◌, ◌+◌, ◌-◌, ◌/◌}
 use native.Mathlib.Omega.{arith}
 use lib.ListN.{length}
-use Rattle.meaning.specs.Bytes.{numbers_in}
-use Rattle.meaning.specs.Job.{job_of}
+use Rattle.meaning.specs.Job.{Job, Knapsack, job_of}
 use Rattle.meaning.specs.Certificates.{certificate_cells}
+use Rattle.meaning.proofs.Numbers.{numbers_long}
 use Rattle.verdicts.specs.Asked.{certified, knapsack_in, Run}
-use Rattle.verdicts.proofs.Taken.{counted}
-use Rattle.verdicts.proofs.LowRows.{tabled_not_3, together_start, run_there, together_next}
-use Rattle.verdicts.proofs.LowCells.{KeptBelow, kept_start, kept_on, first_of_run, none_found}
+use Rattle.verdicts.proofs.LowRows.{Tabled, tabled_not_3, together_start, together_less, run_there, together_next}
+use Rattle.verdicts.proofs.LowCells.{kept_start, narrow_start, narrow_within, narrow_from, two_left}
+use Rattle.verdicts.proofs.LowCells.{half_low, half_kept, found_low, run_passed, none_found}
 use Rattle.verdicts.proofs.low_cell.Goals as goal
-use Rattle.verdicts.proofs.low_cell.Goals.{After-min-end, Else-is_low}
 
--- the run that is asked about
-asked : (c : After-min-end) → Run (knapsack_in c.args.job.now.kind) (certified c.args.job.now) c.loop-from.from c.min-end.result
+end_within : (c : goal.Else-end-kept-eq1) →
+    let job : Job = certified c.args.job.now in
+    let knapsack : Knapsack = knapsack_in c.args.job.now.kind in
+    c.budgets.end ≤ certificate_cells (knapsack) (job)
 unfolding job_of
-asked c =
-    let l = c.loop-from in
-    let r = c.run_length-run.ensures in
-    let here : min l.from (length c.args.cells.now / 4) ≡ l.from = omega arith in
-    run_there (certified c.args.job.now) _ _ (λ t. r.0 (tabled_not_3 _ t)) _ _ _ r.1.0 (omega arith)
-    (sym (counted c.args.cells.now c.requires)) c.min-end.ensures (rw here at l.invariant.0)
+end_within c =
+    let job : Job = certified c.args.job.now in
+    let knapsack : Knapsack = knapsack_in c.args.job.now.kind in
+    let counted : certificate_cells knapsack job ≡ length c.args.cells.now / 4 = sym c.requires.long ∙ numbers_long c.args.cells.now in
+    let run_is : Tabled (knapsack) → c.run_length-run.result ≡ c.args.job.now.budget + 1 = λ t. c.run_length-run.ensures.0 (tabled_not_3 c.args.job.now.kind t) in
+    let the_run : Run knapsack job c.rows.from c.min-last.result =
+    run_there job c.run_length-run.result knapsack run_is _ _ _ c.run_length-run.ensures.1.0 c.rows-test.true counted
+    c.min-last.ensures c.rows.invariant.1.0 in
+    omega (arith, narrow_within _ _ _ c.budgets.invariant, (the_run).inside)
 
--- one that keeps the rule
-kept : (c : Else-is_low) → KeptBelow (knapsack_in c.args.job.now.kind) (certified c.args.job.now) (numbers_in c.args.cells.now) c.min-end.result
-kept c =
-    let l = c.loop-from in
-    let here : min l.from (length c.args.cells.now / 4) ≡ l.from = omega arith in
-    kept_on _ _ _ l.from _ (rw here at l.invariant.1) (sym c.is_low.ensures ∙ c.if-is_low.false)
+pub rows-init : goal.rows-init
+rows-init c =
+    let job : Job = certified c.args.job.now in
+    let knapsack : Knapsack = knapsack_in c.args.job.now.kind in
+    (omega arith, (together_start job knapsack, kept_start _ _ _))
 
-pub loop-from-init : goal.loop-from-init
-loop-from-init c =
-    let none : min 0 (length c.args.cells.now / 4) ≡ 0 = omega arith in
-    rw none (together_start _ _, kept_start _ _ _)
-
-pub is_low-requires-clause-run : goal.is_low-requires-clause-run
-is_low-requires-clause-run c = asked c
-
-pub first_low-requires-clause-run : goal.first_low-requires-clause-run
-first_low-requires-clause-run c = asked (goal.at.first_low-requires-clause-run c).After-min-end
-
-pub returns-then-is_low : goal.returns-then-is_low
-returns-then-is_low c =
-    let here : min c.loop-from.from (length c.args.cells.now / 4) ≡ c.loop-from.from = omega arith in
-    let run = asked (goal.at.returns-then-is_low c).After-min-end in
-    first_of_run _ _ _ _ _ _ run.inside (rw here at c.loop-from.invariant.1) c.first_low.ensures
-
-pub loop-from-preserved : goal.loop-from-preserved
+pub search_from-kept-requires : goal.search_from-kept-requires
 unfolding job_of
-loop-from-preserved c =
-    let l = c.loop-from in
-    let r = c.run_length-run.ensures in
-    let end = c.min-end in
-    let start : min l.from (length c.args.cells.now / 4) ≡ l.from = omega arith in
-    let all = counted c.args.cells.now c.requires in
-    let last : end.result ≡ min (l.from + c.run_length-run.result) (certificate_cells (knapsack_in c.args.job.now.kind) (certified c.args.job.now)) =
-    rw all at end.ensures in
-    rw (sym end.ensures) (
-      together_next (certified c.args.job.now) _ _ (λ t. r.0 (tabled_not_3 _ t)) l.from _ last (omega (arith, all)) (rw start at l.invariant.0),
-      kept (goal.at.loop-from-preserved c).Else-is_low,
+search_from-kept-requires c =
+    let job : Job = certified c.args.job.now in
+    let knapsack : Knapsack = knapsack_in c.args.job.now.kind in
+    let counted : certificate_cells knapsack job ≡ length c.args.cells.now / 4 = sym c.requires.long ∙ numbers_long c.args.cells.now in
+    let run_is : Tabled knapsack → c.run_length-run.result ≡ c.args.job.now.budget + 1 = λ t. c.run_length-run.ensures.0 (tabled_not_3 c.args.job.now.kind t) in
+    let the_run : Run knapsack job c.rows.from c.min-last.result =
+    run_there job c.run_length-run.result knapsack run_is _ _ _ c.run_length-run.ensures.1.0 c.rows-test.true counted
+    c.min-last.ensures c.rows.invariant.1.0 in
+    record { cells_read = c.requires; run = the_run }
+
+pub budgets-init : goal.budgets-init
+unfolding job_of
+budgets-init c =
+    let job : Job = certified c.args.job.now in
+    let knapsack : Knapsack = knapsack_in c.args.job.now.kind in
+    let counted : certificate_cells knapsack job ≡ length c.args.cells.now / 4 = sym c.requires.long ∙ numbers_long c.args.cells.now in
+    let run_is : Tabled knapsack → c.run_length-run.result ≡ c.args.job.now.budget + 1 = λ t. c.run_length-run.ensures.0 (tabled_not_3 c.args.job.now.kind t) in
+    let the_run : Run knapsack job c.rows.from c.min-last.result =
+    run_there job c.run_length-run.result knapsack run_is _ _ _ c.run_length-run.ensures.1.0 c.rows-test.true counted
+    c.min-last.ensures c.rows.invariant.1.0 in
+    narrow_start _ _ _ _ _ _ the_run.some c.search_from-kept.ensures c.rows.invariant.1.1
+
+pub overflow_sub-middle : goal.overflow_sub-middle
+overflow_sub-middle c =
+    let some_left : c.budgets.kept + 1 < c.budgets.end = two_left c.budgets.kept c.budgets.end c.budgets-test.true c.if-end-kept-eq1.false in
+    omega (arith, some_left)
+
+pub overflow_add-middle : goal.overflow_add-middle
+overflow_add-middle c =
+    let job : Job = certified c.args.job.now in
+    let knapsack : Knapsack = knapsack_in c.args.job.now.kind in
+    let counted : certificate_cells knapsack job ≡ length c.args.cells.now / 4 = sym c.requires.long ∙ numbers_long c.args.cells.now in
+    let some_left : c.budgets.kept + 1 < c.budgets.end = two_left c.budgets.kept c.budgets.end c.budgets-test.true c.if-end-kept-eq1.false in
+    omega (arith, some_left, end_within c, counted)
+
+pub is_low-requires : goal.is_low-requires
+unfolding job_of
+is_low-requires c =
+    let job : Job = certified c.args.job.now in
+    let knapsack : Knapsack = knapsack_in c.args.job.now.kind in
+    let middle : ℕ = c.budgets.kept + (c.budgets.end - c.budgets.kept) / 2 in
+    let some_left : c.budgets.kept + 1 < c.budgets.end = two_left c.budgets.kept c.budgets.end c.budgets-test.true c.if-end-kept-eq1.false in
+    let counted : certificate_cells knapsack job ≡ length c.args.cells.now / 4 = sym c.requires.long ∙ numbers_long c.args.cells.now in
+    let run_is : Tabled knapsack → c.run_length-run.result ≡ c.args.job.now.budget + 1 = λ t. c.run_length-run.ensures.0 (tabled_not_3 c.args.job.now.kind t) in
+    let the_run : Run knapsack job c.rows.from c.min-last.result =
+    run_there job c.run_length-run.result knapsack run_is _ _ _ c.run_length-run.ensures.1.0 c.rows-test.true counted
+    c.min-last.ensures c.rows.invariant.1.0 in
+    let the_half : Run knapsack job c.rows.from middle = record {
+      some = omega (arith, some_left, narrow_from _ _ _ c.budgets-test.true c.budgets.invariant);
+      inside = omega (arith, some_left, (end_within c));
+      together =
+          together_less _ _ _ _ _ (omega (arith, some_left, narrow_within _ _ _ c.budgets.invariant)) the_run.together;
+    } in
+    record { cells_read = c.requires; run = the_half }
+
+pub budgets-smaller-then-is_low : goal.budgets-smaller-then-is_low
+budgets-smaller-then-is_low c =
+    let some_left : c.budgets.kept + 1 < c.budgets.end = two_left c.budgets.kept c.budgets.end c.budgets-test.true c.if-end-kept-eq1.false in
+    omega (arith, some_left)
+
+pub budgets-preserved-then-is_low : goal.budgets-preserved-then-is_low
+budgets-preserved-then-is_low c =
+    let middle : ℕ = c.budgets.kept + (c.budgets.end - c.budgets.kept) / 2 in
+    let some_left : c.budgets.kept + 1 < c.budgets.end = two_left c.budgets.kept c.budgets.end c.budgets-test.true c.if-end-kept-eq1.false in
+    half_low _ _ _ c.budgets-test.true middle (omega (arith, some_left)) (omega (arith, some_left))
+    (sym c.is_low.ensures ∙ c.if-is_low.true) c.budgets.invariant
+
+pub budgets-smaller : goal.budgets-smaller
+budgets-smaller c =
+    let some_left : c.budgets.kept + 1 < c.budgets.end = two_left c.budgets.kept c.budgets.end c.budgets-test.true c.if-end-kept-eq1.false in
+    omega (arith, some_left)
+
+pub budgets-preserved : goal.budgets-preserved
+budgets-preserved c =
+    let middle : ℕ = c.budgets.kept + (c.budgets.end - c.budgets.kept) / 2 in
+    let some_left : c.budgets.kept + 1 < c.budgets.end = two_left c.budgets.kept c.budgets.end c.budgets-test.true c.if-end-kept-eq1.false in
+    half_kept _ _ _ c.budgets-test.true middle (omega (arith, some_left)) (omega (arith, some_left))
+    (sym c.is_low.ensures ∙ c.if-is_low.false) c.budgets.invariant
+
+pub rows-smaller : goal.rows-smaller
+unfolding job_of
+rows-smaller c =
+    let job : Job = certified c.args.job.now in
+    let knapsack : Knapsack = knapsack_in c.args.job.now.kind in
+    let counted : certificate_cells knapsack job ≡ length c.args.cells.now / 4 = sym c.requires.long ∙ numbers_long c.args.cells.now in
+    let run_is : Tabled knapsack → c.run_length-run.result ≡ c.args.job.now.budget + 1 = λ t. c.run_length-run.ensures.0 (tabled_not_3 c.args.job.now.kind t) in
+    let the_run : Run knapsack job c.rows.from c.min-last.result =
+    run_there job c.run_length-run.result knapsack run_is _ _ _ c.run_length-run.ensures.1.0 c.rows-test.true counted
+    c.min-last.ensures c.rows.invariant.1.0 in
+    omega (arith, the_run.some, the_run.inside, counted)
+
+pub rows-preserved : goal.rows-preserved
+unfolding job_of
+rows-preserved c =
+    let job : Job = certified c.args.job.now in
+    let knapsack : Knapsack = knapsack_in c.args.job.now.kind in
+    let counted : certificate_cells knapsack job ≡ length c.args.cells.now / 4 = sym c.requires.long ∙ numbers_long c.args.cells.now in
+    let run_is : Tabled knapsack → c.run_length-run.result ≡ c.args.job.now.budget + 1 = λ t. c.run_length-run.ensures.0 (tabled_not_3 c.args.job.now.kind t) in
+    let the_run : Run knapsack job c.rows.from c.min-last.result =
+    run_there job c.run_length-run.result knapsack run_is _ _ _ c.run_length-run.ensures.1.0 c.rows-test.true counted
+    c.min-last.ensures c.rows.invariant.1.0 in (
+      omega (arith, the_run.inside, counted),
+      (
+        together_next job c.run_length-run.result knapsack run_is c.rows.from _
+            (omega (arith, c.min-last.ensures, counted)) (omega (arith, c.rows-test.true, counted)) c.rows.invariant.1.0,
+        run_passed _ _ _ c.budgets-test.false c.budgets.invariant,
+      ),
     )
 
-pub returns : goal.returns
-returns c = none_found _ _ _ _ (omega (arith, counted c.args.cells.now c.requires)) c.loop-from.invariant.1
+pub returns-after-rows : goal.returns-after-rows
+returns-after-rows c =
+    let job : Job = certified c.args.job.now in
+    let knapsack : Knapsack = knapsack_in c.args.job.now.kind in
+    let counted : certificate_cells knapsack job ≡ length c.args.cells.now / 4 = sym c.requires.long ∙ numbers_long c.args.cells.now in
+    none_found _ _ _ _ (omega (arith, c.rows-test.false, counted)) c.rows.invariant.1.1
 
-pub returns-else-is_low : goal.returns-else-is_low
-returns-else-is_low c =
-    none_found _ _ _ _ (omega (arith, counted c.args.cells.now c.requires)) (kept (goal.at.returns-else-is_low c).Else-is_low)
+pub returns-then-end-kept-eq1 : goal.returns-then-end-kept-eq1
+unfolding job_of
+returns-then-end-kept-eq1 c =
+    let job : Job = certified c.args.job.now in
+    let knapsack : Knapsack = knapsack_in c.args.job.now.kind in
+    let counted : certificate_cells knapsack job ≡ length c.args.cells.now / 4 = sym c.requires.long ∙ numbers_long c.args.cells.now in
+    let run_is : Tabled knapsack → c.run_length-run.result ≡ c.args.job.now.budget + 1 = λ t. c.run_length-run.ensures.0 (tabled_not_3 c.args.job.now.kind t) in
+    let the_run : Run knapsack job c.rows.from c.min-last.result =
+    run_there job c.run_length-run.result knapsack run_is _ _ _ c.run_length-run.ensures.1.0 c.rows-test.true counted
+    c.min-last.ensures c.rows.invariant.1.0 in
+    found_low _ _ _ c.budgets-test.true c.if-end-kept-eq1.true the_run.inside c.budgets.invariant

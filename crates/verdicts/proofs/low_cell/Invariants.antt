@@ -1,10 +1,20 @@
--- `verdicts::low_cell` meets its contract: rule 14 is kept at every cell before a run, which in a table is a row.
-use Prim.Native.Nat.{min}
+-- `verdicts::low_cell` meets its contract: at every way out, rule 14 is kept at every cell before.
+use Prim.Native.Nat.{◌≤◌, ◌-◌}
 use Rattle.meaning.specs.Bytes.{numbers_in}
 use Rattle.verdicts.specs.Asked.{certified, knapsack_in, Together}
-use Rattle.verdicts.proofs.LowCells.{KeptBelow}
+use Rattle.verdicts.proofs.LowCells.{KeptBelow, Narrowed}
 use Rattle.verdicts.proofs.low_cell.Given as goal
 
-abbrev pub invariant-loop-from : goal.invariant-loop-from
-invariant-loop-from l = let m = min l.from l.count in
-    Together (knapsack_in l.job.kind) (certified l.job) m m × KeptBelow (knapsack_in l.job.kind) (certified l.job) (numbers_in l.cells) m
+abbrev pub invariant-budgets : goal.invariant-budgets
+invariant-budgets l = Narrowed (knapsack_in l.job.kind) (certified l.job) (numbers_in l.cells) l.found l.from l.last l.kept l.end
+
+abbrev pub decreases-budgets : goal.decreases-budgets
+decreases-budgets l = l.end - l.kept
+
+abbrev pub invariant-rows : goal.invariant-rows
+invariant-rows l = (l.from ≤ l.count)
+    × (Together (knapsack_in l.job.kind) (certified l.job) l.from l.from
+    × KeptBelow (knapsack_in l.job.kind) (certified l.job) (numbers_in l.cells) l.found l.from)
+
+abbrev pub decreases-rows : goal.decreases-rows
+decreases-rows l = l.count - l.from
