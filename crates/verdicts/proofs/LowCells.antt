@@ -1,16 +1,17 @@
 -- The search for the first cell at fault: rule 14 is kept below a cell, and a run of cells that breaks it is narrowed by halves.
 -- Assumes nothing.
-use mathlib.Core.Path.{◌≡◌, sym, ap, ◌∙◌}
+use mathlib.Core.Path.{◌≡◌, refl, sym, ap, subst, ◌∙◌}
 use mathlib.Core.Option.{none}
 use Prim.Native.Nat.{ℕ, ◌+◌, ◌-◌, ◌≤◌, ◌<◌}
 use native.Mathlib.Decide.{dec_lt}
 use native.Mathlib.Omega.{arith}
 use mathlib.Core.Bool.{Bool, true, false}
 use mathlib.Core.List.{List}
+use Rattle.meaning.specs.Lists.{if}
 use Rattle.meaning.specs.Job.{Job, Knapsack}
 use Rattle.meaning.specs.Certificates.{certificate_cells, first, low_cell, some_of, too_low}
 use Rattle.meaning.proofs.Searches.{first_none, first_passes, first_start, none_first, none_passes, passing}
-use Rattle.std.specs.Prelude.{Some, None}
+use Rattle.std.specs.Prelude.{Option, Some, None}
 use Rattle.verdicts.specs.Searching.{place_of, FirstFrom}
 
 module _ (k : Knapsack) (j : Job) (cells : List ℕ) where
@@ -84,6 +85,40 @@ module _ (k : Knapsack) (j : Job) (cells : List ℕ) where
         | no above ↦ f.none_before m (omega arith) h
       ]) in
       sym (first_passes (too_low k j cells) place all_before f.passes (certificate_cells k j) (omega (arith, f.inside)))
+
+  -- ---- the same in one search, which has found a cell or not
+
+  -- nothing was found yet, and rule 14 is kept at every cell below m
+  pub record NoneFound (found : Option ℕ) (m : ℕ) : Type 0 where
+    pub nowhere : found ≡ None
+    pub kept : KeptBelow m
+
+  -- of the cells from `from` on and below `last`: they keep the rule; or some below `end` doesn't, and all below `kept` do
+  pub data Searched (found : Option ℕ) (from last kept end : ℕ) : Type 0 where
+    all_kept : kept ≡ last → end ≤ last → NoneFound found last → Searched found from last kept end
+    one_low : from ≤ kept → kept < end → end ≤ last → low_between from end ≡ true → NoneFound found kept → Searched found from last kept end
+
+  -- a run is searched from its start, or not at all
+  pub narrow_start : {found : Option ℕ} (from last start : ℕ) → from < last → start ≡ if (low_between from last) from last → NoneFound found from
+      → Searched found from last start last
+  unfolding if
+  narrow_start {found} from last start filled start_is b = by (low_between from last) refl start_is
+    where
+      by : (low : Bool) → low_between from last ≡ low → start ≡ if low from last → Searched found from last start last
+      by true e s = one_low (omega arith) (omega arith) (omega arith) e (subst (λ (m : ℕ). NoneFound found m) (sym s) b)
+      by false e s = all_kept s (omega arith) (record { nowhere = b.nowhere; kept = kept_on from last b.kept e })
+
+  module _ {found : Option ℕ} {from last kept end : ℕ} where
+    -- the half up to a cell in the middle breaks the rule
+    pub half_low : kept < end → (middle : ℕ) → kept < middle → middle < end → low_between from middle ≡ true → Searched found from last kept end
+        → Searched found from last kept middle
+    half_low more middle above below low (all_kept e h b) = absurd (omega arith)
+    half_low more middle above below low (one_low f l h one b) = one_low f above (omega arith) low b
+
+    -- none is left
+    pub run_passed : end ≤ kept → Searched found from last kept end → NoneFound found last
+    run_passed past (all_kept e h b) = b
+    run_passed past (one_low f l h one b) = absurd (omega arith)
 
   -- no cell is left
   pub none_found : (m : ℕ) → m ≡ certificate_cells k j → KeptBelow m → place_of None ≡ low_cell k j cells
