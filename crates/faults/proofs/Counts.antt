@@ -1,9 +1,9 @@
--- A count and the next in a pass.
+-- A count and the next in a pass, and all counts where none is left.
 -- Assumes nothing.
 use Rattle.std.proofs.Common.{◌≡◌, ℕ, ◌+◌, ◌-◌, ◌*◌, ◌<◌, List, ap, subst, mul-le-mul_right, suc-mul, arith}
 use native.Mathlib.Decide.{dec_lt}
 use Rattle.meaning.specs.Lists.{at}
-use Rattle.faults.specs.Columns.{Low, HighAt, LowEither, at_first, at_second, HighBoth}
+use Rattle.faults.specs.Columns.{Low, High, HighAt, LowEither, at_first, at_second, HighBoth}
 
 -- the count and the next fit, which is one of at most `copies`
 module _ (cells : List ℕ) (prior row width w v copies count : ℕ) (fit : copies * w < width) (two : count < copies) where
@@ -49,3 +49,18 @@ module _ (cells : List ℕ) (prior row width w v copies count : ℕ) (fit : copi
               subst Kept same (record { all = λ from inside. h.first.all from (omega (arith, room)) })
         ]
       ]
+
+-- what a count weighs, and is worth
+pub record CountOf (w v count far gain : ℕ) : Type 0 where
+  pub far_is : far ≡ count * w
+  pub gain_is : gain ≡ count * v
+
+module _ (cells : List ℕ) (prior row width w v : ℕ) where
+  -- the counts below this one are kept
+  pub record CountsPassed (count far gain : ℕ) : Type 0 where
+    pub this : CountOf w v count far gain
+    pub high : (k : ℕ) → k < count → HighAt cells prior row (width - k * w) (k * w) (k * v)
+
+  -- no count is left
+  pub counts_all : (copies count far gain : ℕ) → copies < count → CountsPassed count far gain → High cells prior row width w v copies
+  counts_all copies count far gain past c = record { all = λ from k few inside. (c.high k (omega arith)).all from (omega arith) }

@@ -1,12 +1,29 @@
 -- Two counts in one pass: the code's test of both, budget by budget, and the budgets where only the first fits.
 -- Assumes nothing.
-use Rattle.std.proofs.Common.{◌≡◌, ℕ, ◌+◌, ◌-◌, Bool, true, false, ◌||◌, ltb, List, sym, refl, ap, ◌∙◌, ap₂, arith}
+use Rattle.std.proofs.Common.{◌≡◌, ℕ, ◌+◌, ◌-◌, ◌%◌, ◌<◌, ◌≤◌, Bool, true, false, ◌||◌, ltb, List, sym, refl, ap, ◌∙◌, ap₂, arith, le-ltb, lt-ltb}
 use native.Mathlib.Decide.{dec_lt}
 use mathlib.Core.Bool.{or-true}
 use Rattle.meaning.specs.Lists.{at}
 use Rattle.faults.specs.Columns.{Finds, LowAt, HighAt, LowEither, at_first, at_second, HighBoth}
 use Rattle.faults.proofs.Finding.{finds_low, finds_high}
-use Rattle.faults.proofs.Passes.{FoundSoFar, pass_next}
+use Rattle.faults.proofs.Passes.{below_sum, FoundSoFar, pass_next}
+
+-- ---- the code's test without a sum
+
+-- a claim that is no less than the greater value wraps by neither
+pub below_either : (claim near gain other more rest less : ℕ) → gain ≤ more → claim < 4_294_967_296 → rest < 4_294_967_296 → less < 4_294_967_296
+    → (rest + gain) % 4_294_967_296 ≡ claim → (less + more) % 4_294_967_296 ≡ claim
+    → ((ltb claim more || ltb rest near) || ltb less other) ≡ (ltb claim (near + gain) || ltb claim (other + more))
+below_either claim near gain other more rest less order claim-fits rest-fits less-fits rest-is less-is =
+    elim (dec_lt claim more) [
+      | yes small ↦ rw (lt-ltb claim more small, lt-ltb claim (other + more) (omega arith)) (sym (or-true (ltb claim (near + gain))))
+      | no large ↦
+          let by-rest = below_sum claim near gain rest claim-fits rest-fits rest-is in
+          let by_less = below_sum claim other more less claim-fits less-fits less-is in
+          let first : ltb rest near ≡ ltb claim (near + gain) = rw (le-ltb claim gain (omega arith)) at by-rest in
+          let second : ltb less other ≡ ltb claim (other + more) = rw (le-ltb claim more (omega arith)) at by_less in
+          rw (le-ltb claim more (omega arith)) (ap₂ ◌||◌ first second)
+    ]
 
 -- ---- budget by budget
 

@@ -1,12 +1,28 @@
 -- One count over a whole row, budget by budget, and the code's test without a sum.
 -- Assumes nothing.
-use Rattle.std.proofs.Common.{◌≡◌, ℕ, ◌+◌, ◌≤◌, Bool, true, false, ◌||◌, ltb, List, sym, refl, ap, ◌∙◌, subst, ap₂, add-zero, arith, below_more, le-ltb, lt-ltb}
+use Rattle.std.proofs.Common.{◌≡◌, ℕ, ◌+◌, ◌%◌, ◌<◌, ◌≤◌, Bool, true, false, ◌||◌, ltb, List, sym, refl, ap, ◌∙◌, subst, ap₂, add-zero, arith, below_more, le-ltb, lt-ltb}
 use native.Mathlib.Decide.{dec_lt}
 use mathlib.Core.Bool.{or-true, or-false}
 use mir.Val.{bool_byte}
 use Rattle.meaning.specs.Lists.{at}
 use Rattle.faults.specs.Columns.{Finds, LowAt, HighAt}
 use Rattle.faults.proofs.Finding.{finds_low, finds_high}
+
+-- ---- the code's test without a sum
+
+-- a claim less a value wraps only where the claim is below the value
+pub below_sum : (claim other v rest : ℕ) → claim < 4_294_967_296 → rest < 4_294_967_296 → (rest + v) % 4_294_967_296 ≡ claim
+    → (ltb claim v || ltb rest other) ≡ ltb claim (other + v)
+below_sum claim other v rest claim-fits rest-fits wraps =
+    elim (dec_lt claim v) [
+      | yes small ↦ rw (lt-ltb claim v small, lt-ltb claim (other + v) (omega arith))
+      | no large ↦
+          let difference : rest + v ≡ claim = omega (arith, wraps) in
+          rw (le-ltb claim v (omega arith)) (elim (dec_lt rest other) [
+            | yes below ↦ rw (lt-ltb rest other below, lt-ltb claim (other + v) (omega arith))
+            | no above ↦ rw (le-ltb rest other (omega arith), le-ltb claim (other + v) (omega arith))
+          ])
+    ]
 
 -- ---- how many are too low, as the code counts them
 

@@ -1,6 +1,6 @@
 -- What the answer says of a row by the rule, at the budgets below `end`.
 -- Assumes nothing.
-use Rattle.std.proofs.Common.{◌≡◌, ℕ, suc, ◌+◌, ◌-◌, ◌*◌, ◌/◌, ◌<◌, ◌≤◌, min, max, Bool, true, false, ◌&&◌, ltb, leb, List, sym, ap, ap₂, suc-mul, mul_comm, lt_of_mul-lt-mul_right, zero-mul, arith, le-ltb, lt-ltb, le-leb}
+use Rattle.std.proofs.Common.{◌≡◌, ℕ, suc, ◌+◌, ◌-◌, ◌*◌, ◌/◌, ◌<◌, ◌≤◌, min, max, Bool, true, false, ◌&&◌, ltb, leb, List, sym, ap, ap₂, mul-le-mul_right, suc-mul, mul_comm, lt_of_mul-lt-mul_right, zero-mul, div-mul-le_self, arith, le-ltb, lt-ltb, le-leb}
 use native.Mathlib.Decide.{dec_lt}
 use native.Mathlib.Nat.{lt-div-mul-add}
 use borrow.Author.Tests.{lt-leb}
@@ -8,7 +8,7 @@ use Rattle.meaning.specs.Lists.{at}
 use Rattle.meaning.specs.Certificates.{some_of}
 use Rattle.meaning.proofs.Searches.{some_passes, none_pass}
 use Rattle.faults.specs.LowRows.{below_count, below_one, low_in}
-use Rattle.faults.specs.Columns.{Finds, Low, High, LowAt, HighAt}
+use Rattle.faults.specs.Columns.{Finds, CopiesFit, Low, High, LowAt, HighAt}
 use Rattle.faults.proofs.Finding.{finds_is}
 use Rattle.faults.proofs.Cells.{same_cell, same_times}
 
@@ -77,6 +77,17 @@ module _ (end w weight : ℕ) (weight_is : weight ≡ min w end) where
       ]
 
   module _ (copies fit : ℕ) (weighs : 1 ≤ w) (some : 1 ≤ end) (fit_is : fit ≡ min copies ((end - 1) / weight)) where
+    -- so many copies do fit
+    pub part_fits : end ≤ 65_536 → CopiesFit end weight fit
+    part_fits narrow =
+        let few : fit ≤ (end - 1) / weight = omega arith in
+        record {
+          weighs = omega arith;
+          light = omega arith;
+          narrow = narrow;
+          fit = omega (arith, mul-le-mul_right weight few, div-mul-le_self (end - 1) weight);
+        }
+
     module _ (cells : List ℕ) (prior row v : ℕ) where
       -- a break for them is one for the label's own, and so is none
       own_low : Low cells prior row end weight v fit → Low cells prior row end w v copies

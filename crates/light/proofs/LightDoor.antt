@@ -24,7 +24,7 @@ use Rattle.rows.proofs.Bounded.{bounded}
 use Rattle.light.specs.Packed.{PackedLight}
 
 -- words for so few labels can be counted
-few_words : (n budget : ℕ) → n ≤ most_labels → budget ≤ most_budget → n * (budget / 64 + 1) < 18_446_744_073_709_551_616
+pub few_words : (n budget : ℕ) → n ≤ most_labels → budget ≤ most_budget → n * (budget / 64 + 1) < 18_446_744_073_709_551_616
 unfolding most_labels most_budget
 few_words n budget h l =
     let per : budget / 64 + 1 ≤ 1_024 = omega arith in

@@ -8,8 +8,8 @@ use lib.ListN.{length, set, length-set}
 use Rattle.meaning.specs.Lists.{at}
 use Rattle.rows.specs.Rows.{Stored}
 use Rattle.rows.proofs.Stores.{by, at_same, at_other, stored_none, stored_up, stored_down}
-use Rattle.light.specs.Bits.{rose, binary}
-use Rattle.light.proofs.Binary.{one_more}
+use Rattle.light.specs.Bits.{rose, binary, Risen}
+use Rattle.light.proofs.Binary.{binary_same, one_more}
 
 module _ (s : List ℕ) (c w v : ℕ) where
   -- what a cell becomes, and whether the label raises cell c + i
@@ -69,3 +69,9 @@ module _ (s : List ℕ) (c w v : ℕ) where
             (λ below. at_other bits i b m (omega arith) ∙ d.each m below)
             (λ b. let here : m ≡ i = omega arith in at_same bits i _ m (omega (arith, d.long)) here ∙ e ∙ rw (without, with, here));
       }
+
+  -- all of them
+  pub raising_all : (i r : ℕ) (t bits : List ℕ) → i ≡ 64 → Raising i t bits → r ≡ binary (at bits) 64 → Risen s t c 64 w v r
+  raising_all i r t bits all d e =
+      let last : c + i ≡ c + 64 = omega arith in
+      record { cells = rw last at d.cells; bits = e ∙ binary_same (at bits) rises 64 (λ m h. d.each m (omega arith)) }

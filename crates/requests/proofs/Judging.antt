@@ -6,7 +6,7 @@ use native.Mathlib.Numerals.{add-one}
 use native.Mathlib.Nat.{zero-add}
 use native.Mathlib.Omega.{arith}
 use mathlib.Core.Bool.{Bool, true, false, not, ◌&&◌}
-use mathlib.Core.List.{List, [], ◌∷◌}
+use mathlib.Core.List.{List, [], ◌∷◌, ◌++◌}
 use lib.Dec.{T, leb, ltb, eqb, leb-zero}
 use lib.ListN.{length, drop, drop_of_length-le, take}
 use lib.Seq.{drop-cons}
@@ -16,7 +16,7 @@ use Rattle.meaning.specs.Job.{Job, Knapsack, job_of, labels}
 use Rattle.meaning.specs.Refusals as meaning
 use Rattle.meaning.specs.Bounds.{most_value, most_copies, least_copies, least_q, most_q}
 use Rattle.meaning.specs.Refusals.{ascending_from, bounds_fit, each_within, job_refusal, knapsack_rules, least_value, lists_fit, positive, numbers_fit, q_fits}
-use Rattle.meaning.proofs.Loops.{and_assoc, and_true, every_step}
+use Rattle.meaning.proofs.Loops.{and_assoc, and_true, every_joined, every_step}
 use Rattle.numbers.specs.declared.Job.{Job as Came}
 use Rattle.numbers.specs.Lists.{job_as}
 use Rattle.rules.specs.declared.Rules.{Rules}
@@ -45,6 +45,14 @@ module _ (low high : ℕ) where
   one_tested xs i r h fits so_far = record {
     within = rw (every_step (λ x. leb low x && leb x high) xs i h, ← so_far.within) (sym (and_assoc r (leb low (at xs i)) (leb (at xs i) high)));
     up_from = λ e. rw (every_step (leb low) xs i h, ← so_far.up_from e, le-leb (at xs i) high (omega arith)) (and_true (r && leb low (at xs i)));
+  }
+
+  -- two lists, one after the other
+  pub joined : (xs ys : List ℕ) (r s : Bool) → EachWithin low high xs r → EachWithin low high ys s → EachWithin low high (xs ++ ys) (r && s)
+  unfolding each_within
+  joined xs ys r s a b = record {
+    within = rw (a.within, b.within) (sym (every_joined (λ x. leb low x && leb x high) xs ys));
+    up_from = λ e. rw (a.up_from e, b.up_from e) (sym (every_joined (leb low) xs ys));
   }
 
 -- the test by bounds that are these

@@ -38,6 +38,12 @@ pub light_needed : (n budget counted top : ℕ) → counted ≡ n → top ≡ bu
 unfolding NeededFor room_from once_room room_by room_of
 light_needed n budget counted top a b j e f = rw (e, f, a, b)
 
+-- the words can be counted
+pub few_words : (n budget : ℕ) → n ≤ most_labels → budget ≤ most_budget → n * (budget / 64 + 1) ≤ most_labels * (most_budget / 64 + 1)
+few_words n budget h l =
+    let per : budget / 64 + 1 ≤ most_budget / 64 + 1 = omega arith in
+    mul-le-mul h per
+
 -- within the bounds it is what a job of n labels and this budget needs
 pub needed_within : (way : Way) (k : Kind) (n budget : ℕ) (r : Room) → n ≤ most_labels → budget ≤ most_budget
     → NeededFor way k (min n most_labels) (min budget most_budget) r → NeededFor way k n budget r

@@ -1,11 +1,11 @@
 -- The words: those of no labels, one label more from the highest word down, and the last word cut off at the budget.
 -- Assumes nothing.
-use mathlib.Core.Path.{◌≡◌, ap, sym, ◌∙◌}
+use mathlib.Core.Path.{◌≡◌, refl, ap, sym, ◌∙◌}
 use Prim.Native.Nat.{ℕ, ◌+◌, ◌-◌, ◌*◌, ◌/◌, ◌%◌, ◌^◌, ◌≤◌, ◌<◌, max}
 use native.Mathlib.Omega.{arith}
 use mathlib.Core.List.{List}
 use lib.Bits.{bit_or}
-use lib.ListN.{length, set}
+use lib.ListN.{length, set, length-set}
 use Rattle.meaning.specs.Lists.{at}
 use Rattle.meaning.specs.Sums.{bit}
 use Rattle.rows.specs.Rows.{FirstAlone}
@@ -138,6 +138,26 @@ module _ (s t : List ℕ) (q len n : ℕ) where
         let w = 64 * q + r in
         added_all s w len _ q (omega arith)
         (added_more s w len t n q _ e inside d (rw (d.below q (omega arith), d.below 0 (omega arith)) (new_lowest s q r some few)))
+
+-- a loop from word m₀ - 1 down has come to word m. Of whatever words s the words t₀ were made, the words t are
+pub record AddingBits (t₀ : List ℕ) (q r m₀ : ℕ) (t : List ℕ) (m : ℕ) : Type 0 where
+  pub reached : q < m
+  pub within : m ≤ length t₀
+  pub long : length t ≡ length t₀
+  pub added : (s : List ℕ) (len : ℕ) → Added s t₀ (64 * q + r) m₀ len → Added s t (64 * q + r) m len
+
+module _ (t₀ : List ℕ) (q r m₀ : ℕ) (some : 0 < r) (few : r < 64) (t : List ℕ) (m : ℕ) (d : AddingBits t₀ q r m₀ t m) where
+  -- one word more
+  pub adding_more : q + 1 < m → at t (m - 1 - q - 1) < 2 ^ 64
+      → AddingBits t₀ q r m₀ (set t (m - 1) (bit_or (bit_or (at t (m - 1)) (up (at t (m - 1 - q)) r)) (over (at t (m - 1 - q - 1)) r))) (m - 1)
+  adding_more h narrow = record {
+    reached = omega arith;
+    within = omega (arith, d.within);
+    long = simp length-set d.long;
+    added = λ s len made.
+        bits_more s t q len m r some few (d.added s len made) (m - 1) (m - 1) _ refl (omega arith) (omega arith)
+        (omega (arith, d.long, d.within)) narrow refl;
+  }
 
 -- ---- the last word cut off
 

@@ -1,10 +1,7 @@
--- `light::raise_word` meets its contract: first the sums of the old row, then cell by cell what they raise (`raising_more`).
-use mathlib.Core.Path.{◌≡◌, ◌∙◌}
+-- `light::raise_word` meets its contract: first the sums of the old row, then cell by cell what they raise (`raising_more`, `raising_all`).
 use native.Mathlib.Omega.{arith}
-use Rattle.meaning.specs.Lists.{at}
 use Rattle.light.specs.Bits.{Few}
-use Rattle.light.proofs.Binary.{binary_same}
-use Rattle.light.proofs.Rising.{raising_more}
+use Rattle.light.proofs.Rising.{raising_more, raising_all}
 use Rattle.light.proofs.raise_word.Goals as goal
 
 pub loop-i-preserved : goal.loop-i-preserved
@@ -18,8 +15,4 @@ unfolding Few
 word-requires c = λ m h. omega (arith, c.loop-i.invariant.each m (omega arith))
 
 pub returns : goal.returns
-returns c =
-    let l = c.loop-i in
-    let last : l.i ≡ 64 = omega arith in
-    let d = rw last at l.invariant in
-    record { cells = d.cells; bits = c.word.ensures ∙ binary_same (at l.bits) _ 64 d.each }
+returns c = let l = c.loop-i in raising_all _ _ _ _ l.i _ l.row l.bits (omega arith) l.invariant c.word.ensures

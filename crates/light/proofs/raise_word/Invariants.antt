@@ -1,4 +1,4 @@
--- `light::raise_word` meets its contract: first the sums of the old row, then cell by cell what they raise (`raising_more`).
+-- `light::raise_word` meets its contract: first the sums of the old row, then cell by cell what they raise (`raising_more`, `raising_all`).
 use mathlib.Core.Path.{◌≡◌}
 use Prim.Native.Nat.{ℕ, ◌+◌, ◌-◌, ◌<◌}
 use lib.ListN.{length}
