@@ -65,219 +65,184 @@ fn is_below_either(claim: u32, near: u32, gain: u32, other: u32, more: u32) -> b
     (claim < more) | (rest < near) | (less < other)
 }
 
-// A count and the next in one pass: each claim is read once for the two. At the first w budgets only the one fits.
-#[tactic(auto, using(meaning::proofs::Numbers::numbers_long))]
-fn breaks_two(
-    cells: &[u8],
-    prior: usize,
-    row: usize,
-    left: usize,
-    far: usize,
-    w: usize,
-    gain: u32,
-    v: u32,
-) -> bool
-    requires w_bound { left + w ≤ 65_536 }
-    requires w_in_bounds { prior + (left + w) ≤ length (numbers_in cells.now) }
-    requires w_in_bounds_2 { row + (left + (far + w)) ≤ length (numbers_in cells.now) }
-    requires v_bound { gain + v ≤ 4_294_967_295 }
-    ensures { Finds result (LowEither (numbers_in cells.now) prior row left far w gain v)
-        (HighBoth (numbers_in cells.now) prior row left far w gain v) }
-{
-    if breaks_at(cells, prior, row, w, far, gain) {
-        return true;
-    }
-    let up = row + (far + w);
-    let beside = prior + w;
-    let more = gain + v;
-    let mut low: u32 = 0;
-    for c in 0..left {
-        let claim = numbers::number_in(cells, up + c);
-        let near = numbers::number_in(cells, beside + c);
-        let other = numbers::number_in(cells, prior + c);
-        low += u32::from(is_below_either(claim, near, gain, other, more));
-    }
-    0 < low
-}
-
-// Whether some cell of a column up to `end` is below one down the column in the row before, and the value of the count between.
-#[tactic(auto, using(meaning::proofs::Numbers::numbers_long))]
-fn breaks_within(
-    cells: &[u8],
-    prior: usize,
-    row: usize,
-    end: usize,
-    w: usize,
-    v: u32,
-    b: usize,
-) -> bool
-    requires two_rows { TwoRows (numbers_in cells.now) prior row end }
-    requires le_w { (1 ≤ w) × (w ≤ 65_536) }
-    ensures { Finds result (LowWithin (numbers_in cells.now) prior row end w v b)
-        (HighWithin (numbers_in cells.now) prior row end w v b) }
-{
-    let step = v as u64;
-    let mut carried: u64 = 0;
-    for c in (b..end).step_by(w) {
-        let best = cell(cells, prior + c).max(carried);
-        if cell(cells, row + c) < best {
-            return true;
-        }
-        carried = best + step;
-    }
-    false
-}
-
-// Whether some cell of a column from a+copies*w on is below one before it in the row before, at most all copies down.
-#[tactic(auto, using(meaning::proofs::Numbers::numbers_long))]
-fn breaks_across(
-    cells: &[u8],
+// A row of claims up to some budget, the row before it, and the label between them: the budgets up to `width` of the rows that start at
+// `prior` and at `row`, the label's weight and value, and how many copies of it are asked about.
+#[derive(Clone, Copy)]
+struct Rows<'a> {
+    cells: &'a [u8],
     prior: usize,
     row: usize,
     width: usize,
     w: usize,
     v: u32,
     copies: usize,
-    a: usize,
-) -> bool
-    requires two_rows { TwoRows (numbers_in cells.now) prior row width }
-    requires le_w { (1 ≤ w) × (w ≤ 65_536) }
-    requires width_bound { (width ≤ 65_536) × (a + copies * w < width) }
-    ensures { Finds result (Low (numbers_in cells.now) prior row width w v copies)
-        (HighAcross (numbers_in cells.now) prior row width w v copies a) }
-{
-    let step = v as u64;
-    let gain = copies as u64 * step;
-    let apart = copies * w;
-    let b = a + apart;
-    let mut least = cell(cells, row + b);
-    for x in (a..b).step_by(w) {
-        if least < cell(cells, prior + x) + gain {
-            return true;
-        }
-        let y = x + apart + w;
-        least += step;
-        if y < width {
-            least = cell(cells, row + y).min(least);
-        }
-    }
-    false
 }
 
-// Whether a cell of one column in the block from b on leads to a claim that is too low, there or in the next block.
-fn breaks_column(
-    cells: &[u8],
-    prior: usize,
-    row: usize,
-    width: usize,
-    w: usize,
-    v: u32,
-    copies: usize,
-    b: usize,
-) -> bool
-    requires two_rows { TwoRows (numbers_in cells.now) prior row width }
-    requires copies_fit { CopiesFit width w copies }
-    requires b_lt_width { b < width }
-    ensures { Finds result (Low (numbers_in cells.now) prior row width w v copies)
-        (HighColumn (numbers_in cells.now) prior row width w v copies b) }
-{
-    let next = b + (copies * w + w);
-    if breaks_within(cells, prior, row, next.min(width), w, v, b) {
-        return true;
-    }
-    if width <= next {
-        return false;
-    }
-    breaks_across(cells, prior, row, width, w, v, copies, b + w)
-}
-
-// The same for all columns of the block from `base` on.
-fn breaks_block(
-    cells: &[u8],
-    prior: usize,
-    row: usize,
-    width: usize,
-    w: usize,
-    v: u32,
-    copies: usize,
-    base: usize,
-) -> bool
-    requires two_rows { TwoRows (numbers_in cells.now) prior row width }
-    requires copies_fit { CopiesFit width w copies }
-    requires base_lt_width { base < width }
-    ensures { Finds result (Low (numbers_in cells.now) prior row width w v copies)
-        (HighBlock (numbers_in cells.now) prior row width w v copies base) }
-{
-    let stop = (base + w).min(width);
-    for b in base..stop {
-        if breaks_column(cells, prior, row, width, w, v, copies, b) {
+impl<'a> Rows<'a> {
+    // A count and the next in one pass: each claim is read once for the two. At the first w budgets only the one fits.
+    #[tactic(auto, using(meaning::proofs::Numbers::numbers_long))]
+    fn breaks_two(&self, left: usize, far: usize, gain: u32) -> bool
+        requires w_bound { left + self.now.w ≤ 65_536 }
+        requires w_in_bounds { self.now.prior + (left + self.now.w) ≤ length (numbers_in self.now.cells.now) }
+        requires w_in_bounds_2 { self.now.row + (left + (far + self.now.w)) ≤ length (numbers_in self.now.cells.now) }
+        requires v_bound { gain + self.now.v ≤ 4_294_967_295 }
+        ensures { Finds result (LowEither (numbers_in self.now.cells.now) self.now.prior self.now.row left far self.now.w gain self.now.v)
+            (HighBoth (numbers_in self.now.cells.now) self.now.prior self.now.row left far self.now.w gain self.now.v) }
+    {
+        let cells = self.cells;
+        let prior = self.prior;
+        if breaks_at(cells, prior, self.row, self.w, far, gain) {
             return true;
         }
+        let up = self.row + (far + self.w);
+        let beside = prior + self.w;
+        let more = gain + self.v;
+        let mut low: u32 = 0;
+        for c in 0..left {
+            let claim = numbers::number_in(cells, up + c);
+            let near = numbers::number_in(cells, beside + c);
+            let other = numbers::number_in(cells, prior + c);
+            low += u32::from(is_below_either(claim, near, gain, other, more));
+        }
+        0 < low
     }
-    false
-}
 
-// Whether a claim is too low for some count, block by block.
-fn breaks_many(
-    cells: &[u8],
-    prior: usize,
-    row: usize,
-    width: usize,
-    w: usize,
-    v: u32,
-    copies: usize,
-) -> bool
-    requires two_rows { TwoRows (numbers_in cells.now) prior row width }
-    requires copies_fit { CopiesFit width w copies }
-    ensures { Finds result (Low (numbers_in cells.now) prior row width w v copies)
-        (High (numbers_in cells.now) prior row width w v copies) }
-{
-    let span = copies * w + w;
-    for base in (0..width).step_by(span) {
-        if breaks_block(cells, prior, row, width, w, v, copies, base) {
+    // Whether some cell of a column up to `end` is below one down the column in the row before, and the value of the count between.
+    #[tactic(auto, using(meaning::proofs::Numbers::numbers_long))]
+    fn breaks_within(&self, end: usize, b: usize) -> bool
+        requires two_rows { TwoRows (numbers_in self.now.cells.now) self.now.prior self.now.row end }
+        requires le_w { (1 ≤ self.now.w) × (self.now.w ≤ 65_536) }
+        ensures { Finds result (LowWithin (numbers_in self.now.cells.now) self.now.prior self.now.row end self.now.w self.now.v b)
+            (HighWithin (numbers_in self.now.cells.now) self.now.prior self.now.row end self.now.w self.now.v b) }
+    {
+        let step = self.v as u64;
+        let mut carried: u64 = 0;
+        for c in (b..end).step_by(self.w) {
+            let best = cell(self.cells, self.prior + c).max(carried);
+            if cell(self.cells, self.row + c) < best {
+                return true;
+            }
+            carried = best + step;
+        }
+        false
+    }
+
+    // Whether some cell of a column from a+copies*w on is below one before it in the row before, at most all copies down.
+    #[tactic(auto, using(meaning::proofs::Numbers::numbers_long))]
+    fn breaks_across(&self, a: usize) -> bool
+        requires two_rows { TwoRows (numbers_in self.now.cells.now) self.now.prior self.now.row self.now.width }
+        requires le_w { (1 ≤ self.now.w) × (self.now.w ≤ 65_536) }
+        requires width_bound { (self.now.width ≤ 65_536) × (a + self.now.copies * self.now.w < self.now.width) }
+        ensures { Finds result (Low (numbers_in self.now.cells.now) self.now.prior self.now.row self.now.width self.now.w self.now.v self.now.copies)
+            (HighAcross (numbers_in self.now.cells.now) self.now.prior self.now.row self.now.width self.now.w self.now.v self.now.copies a) }
+    {
+        let step = self.v as u64;
+        let gain = self.copies as u64 * step;
+        let apart = self.copies * self.w;
+        let b = a + apart;
+        let mut least = cell(self.cells, self.row + b);
+        for x in (a..b).step_by(self.w) {
+            if least < cell(self.cells, self.prior + x) + gain {
+                return true;
+            }
+            let y = x + apart + self.w;
+            least += step;
+            if y < self.width {
+                least = cell(self.cells, self.row + y).min(least);
+            }
+        }
+        false
+    }
+
+    // Whether a cell of one column in the block from b on leads to a claim that is too low, there or in the next block.
+    fn breaks_column(&self, b: usize) -> bool
+        requires two_rows { TwoRows (numbers_in self.now.cells.now) self.now.prior self.now.row self.now.width }
+        requires copies_fit { CopiesFit self.now.width self.now.w self.now.copies }
+        requires b_lt_width { b < self.now.width }
+        ensures { Finds result (Low (numbers_in self.now.cells.now) self.now.prior self.now.row self.now.width self.now.w self.now.v self.now.copies)
+            (HighColumn (numbers_in self.now.cells.now) self.now.prior self.now.row self.now.width self.now.w self.now.v self.now.copies b) }
+    {
+        let next = b + (self.copies * self.w + self.w);
+        if self.breaks_within(next.min(self.width), b) {
             return true;
         }
+        if self.width <= next {
+            return false;
+        }
+        self.breaks_across(b + self.w)
     }
-    false
-}
 
-// The same count by count, two in a pass, and the last alone where their number is odd. None and one, which are all that kind 1 has, come
-// first and by themselves: nothing is taken off a claim for none.
-#[tactic(auto, using(crate::proofs::Cells::few_copies))]
-fn breaks_few(
-    cells: &[u8],
-    prior: usize,
-    row: usize,
-    width: usize,
-    w: usize,
-    v: u32,
-    copies: usize,
-) -> bool
-    requires two_rows { TwoRows (numbers_in cells.now) prior row width }
-    requires copies_fit { CopiesFit width w copies }
-    requires v_bound { v ≤ 65_535 }
-    ensures { Finds result (Low (numbers_in cells.now) prior row width w v copies)
-        (High (numbers_in cells.now) prior row width w v copies) }
-{
-    if copies == 0 {
-        return breaks_at(cells, prior, row, width, 0, 0);
+    // The same for all columns of the block from `base` on.
+    fn breaks_block(&self, base: usize) -> bool
+        requires two_rows { TwoRows (numbers_in self.now.cells.now) self.now.prior self.now.row self.now.width }
+        requires copies_fit { CopiesFit self.now.width self.now.w self.now.copies }
+        requires base_lt_width { base < self.now.width }
+        ensures { Finds result (Low (numbers_in self.now.cells.now) self.now.prior self.now.row self.now.width self.now.w self.now.v self.now.copies)
+            (HighBlock (numbers_in self.now.cells.now) self.now.prior self.now.row self.now.width self.now.w self.now.v self.now.copies base) }
+    {
+        let stop = (base + self.w).min(self.width);
+        for b in base..stop {
+            if self.breaks_column(b) {
+                return true;
+            }
+        }
+        false
     }
-    if breaks_two(cells, prior, row, width - w, 0, w, 0, v) {
-        return true;
+
+    // Whether a claim is too low for some count, block by block.
+    fn breaks_many(&self) -> bool
+        requires two_rows { TwoRows (numbers_in self.now.cells.now) self.now.prior self.now.row self.now.width }
+        requires copies_fit { CopiesFit self.now.width self.now.w self.now.copies }
+        ensures { Finds result (Low (numbers_in self.now.cells.now) self.now.prior self.now.row self.now.width self.now.w self.now.v self.now.copies)
+            (High (numbers_in self.now.cells.now) self.now.prior self.now.row self.now.width self.now.w self.now.v self.now.copies) }
+    {
+        let span = self.copies * self.w + self.w;
+        for base in (0..self.width).step_by(span) {
+            if self.breaks_block(base) {
+                return true;
+            }
+        }
+        false
     }
-    for pair in 1..(copies + 1) / 2 {
-        let count = 2 * pair;
-        let far = count * w;
-        let gain = count as u32 * v;
-        if breaks_two(cells, prior, row, width - far - w, far, w, gain, v) {
+
+    // The same count by count, two in a pass, and the last alone where their number is odd. None and one, which are all that kind 1 has, come
+    // first and by themselves: nothing is taken off a claim for none.
+    #[tactic(auto, using(crate::proofs::Cells::few_copies))]
+    fn breaks_few(&self) -> bool
+        requires two_rows { TwoRows (numbers_in self.now.cells.now) self.now.prior self.now.row self.now.width }
+        requires copies_fit { CopiesFit self.now.width self.now.w self.now.copies }
+        requires v_bound { self.now.v ≤ 65_535 }
+        ensures { Finds result (Low (numbers_in self.now.cells.now) self.now.prior self.now.row self.now.width self.now.w self.now.v self.now.copies)
+            (High (numbers_in self.now.cells.now) self.now.prior self.now.row self.now.width self.now.w self.now.v self.now.copies) }
+    {
+        let copies = self.copies;
+        if copies == 0 {
+            return breaks_at(self.cells, self.prior, self.row, self.width, 0, 0);
+        }
+        if self.breaks_two(self.width - self.w, 0, 0) {
             return true;
         }
+        for pair in 1..(copies + 1) / 2 {
+            let count = 2 * pair;
+            let far = count * self.w;
+            let gain = count as u32 * self.v;
+            if self.breaks_two(self.width - far - self.w, far, gain) {
+                return true;
+            }
+        }
+        if copies % 2 == 1 {
+            return false;
+        }
+        let far = copies * self.w;
+        breaks_at(
+            self.cells,
+            self.prior,
+            self.row,
+            self.width - far,
+            far,
+            copies as u32 * self.v,
+        )
     }
-    if copies % 2 == 1 {
-        return false;
-    }
-    let far = copies * w;
-    breaks_at(cells, prior, row, width - far, far, copies as u32 * v)
 }
 
 // Whether a row of claims breaks rule 14 at some budget below `end`, for some count of the label up to `most`.
@@ -294,13 +259,21 @@ pub fn row_breaks(
     requires budgets { Budgets width end w v }
     ensures { result ≡ some_of (low_in (numbers_in cells.now) row width w v most) end }
 {
-    let prior = row - width;
     let weight = (w as usize).min(end);
     let copies = (most as usize).min((end - 1) / weight);
+    let rows = Rows {
+        cells,
+        prior: row - width,
+        row,
+        width: end,
+        w: weight,
+        v,
+        copies,
+    };
     if copies <= FEW {
-        return breaks_few(cells, prior, row, end, weight, v, copies);
+        return rows.breaks_few();
     }
-    breaks_many(cells, prior, row, end, weight, v, copies)
+    rows.breaks_many()
 }
 
 // Whether a single row of claims breaks rule 14 for one of the label, at some budget from `from` on and below `end`.

@@ -1,8 +1,8 @@
--- `faults::breaks_within` meets its contract, cell by cell up the column.
+-- `Rows::breaks_within` meets its contract, cell by cell up the column.
 use Rattle.std.proofs.Common.{arith}
 use Rattle.faults.proofs.Finding.{finds_low, finds_high}
 use Rattle.faults.proofs.Within.{low_here, passed_next, all_passed}
-use Rattle.faults.proofs.breaks_within.Goals as goal
+use Rattle.faults.proofs.Rows.breaks_within.Goals as goal
 
 pub returns-then-cell-best : goal.returns-then-cell-best
 returns-then-cell-best c =

@@ -1,8 +1,8 @@
--- `faults::breaks_two` meets its contract: the budgets where one count fits, and then, budget by budget, those where both do.
+-- `Rows::breaks_two` meets its contract: the budgets where one count fits, and then, budget by budget, those where both do.
 use Rattle.std.proofs.Common.{◌≡◌, arith}
 use Rattle.faults.proofs.Passes.{count_next}
 use Rattle.faults.proofs.Pairs.{pair_next, two_found}
-use Rattle.faults.proofs.breaks_two.Goals as goal
+use Rattle.faults.proofs.Rows.breaks_two.Goals as goal
 
 pub loop-c-preserved : goal.loop-c-preserved
 loop-c-preserved c =

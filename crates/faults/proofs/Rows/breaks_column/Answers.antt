@@ -1,7 +1,7 @@
--- `faults::breaks_column` meets its contract: within the block, and into the next one where there is one.
+-- `Rows::breaks_column` meets its contract: within the block, and into the next one where there is one.
 use Rattle.faults.proofs.Finding.{finds_low}
 use Rattle.faults.proofs.Blocks.{column_low, column_found}
-use Rattle.faults.proofs.breaks_column.Goals as goal
+use Rattle.faults.proofs.Rows.breaks_column.Goals as goal
 
 pub returns-then-breaks_within : goal.returns-then-breaks_within
 returns-then-breaks_within c =

@@ -1,17 +1,17 @@
--- `faults::breaks_few` meets its contract, count by count.
+-- `Rows::breaks_few` meets its contract, count by count.
 use Rattle.std.proofs.Common.{◌*◌, ◌<◌, arith}
 use Rattle.faults.proofs.Finding.{finds_low, finds_high}
 use Rattle.faults.proofs.Counts.{two_low, two_next}
-use Rattle.faults.proofs.breaks_few.Goals as goal
+use Rattle.faults.proofs.Rows.breaks_few.Goals as goal
 
 pub returns-then-breaks_two-2 : goal.returns-then-breaks_two-2
 returns-then-breaks_two-2 c =
-    let two : 2 * c.loop-pair.pair < c.args.copies = omega arith in
+    let two : 2 * c.loop-pair.pair < c.args.self.now.copies = omega arith in
     finds_low (two_low _ _ _ _ _ _ _ _ c.requires.copies_fit.fit two (c.breaks_two-in-loop-pair.ensures.broken c.if-breaks_two-2.true))
 
 pub loop-pair-preserved : goal.loop-pair-preserved
 loop-pair-preserved c k under =
-    let two : 2 * c.loop-pair.pair < c.args.copies = omega arith in
+    let two : 2 * c.loop-pair.pair < c.args.self.now.copies = omega arith in
     two_next _ _ _ _ _ _ _ _ c.requires.copies_fit.fit two (c.breaks_two-in-loop-pair.ensures.kept c.if-breaks_two-2.false)
     c.loop-pair.invariant k (omega arith)
 

@@ -1,8 +1,0 @@
--- `faults::breaks_two` meets its contract: the budgets where one count fits, and then, budget by budget, those where both do.
-use Rattle.meaning.specs.Bytes.{numbers_in}
-use Rattle.faults.proofs.Passes.{CountedLow}
-use Rattle.faults.proofs.Pairs.{BothFound}
-use Rattle.faults.proofs.breaks_two.Given as goal
-
-abbrev pub invariant-loop-c : goal.invariant-loop-c
-invariant-loop-c l = CountedLow (λ b d. BothFound b (numbers_in l.cells) l.prior l.row d l.far l.w l.gain l.v) l.low l.c
