@@ -83,6 +83,7 @@ fn read_input<R: Read>(reader: &mut R, input: &mut [u8]) -> io::Result<usize>
     ensures whole { IfOk result (λ n. n < length input.new → IsAtEnd (R.remaining reader.new)) }
 {
     let mut filled = 0;
+    // no range: each turn goes on where the read before it came to
     while filled < input.len() {
         let count = reader.read(&mut input[filled..])?;
         if count == 0 {

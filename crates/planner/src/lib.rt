@@ -184,7 +184,7 @@ fn state(job: &Job, cells: &mut [u32], picks: &mut [u32]) -> Result<Answer, Refu
     Ok(stated::solve(job.budget, job.q, &job.weights, &job.values, cells, picks))
 }
 
-// The one place where the kind decides.
+// The one place where the kind decides. It stays the number that the job has: document 01 names this form for it, one match with ranges.
 fn decide(
     way: Way,
     job: &Job,

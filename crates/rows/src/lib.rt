@@ -17,7 +17,7 @@ pub fn set_all(cells: &mut [u32], width: usize, x: u32)
     cells[..width].fill(x);
 }
 
-// The first words, all 0.
+// The first words, all 0. Cells and words have a function each: either is one call of the library, and one over both would be no plainer.
 pub fn clear(words: &mut [u64], to: usize)
     requires { to ≤ length words.old }
     ensures { Stored words.old words.new 0 0 to (λ m. 0) }

@@ -235,6 +235,7 @@ impl<'a> Claims<'a> {
         let mut found: usize = 0;
         let mut more = starts.len();
         let mut close = false;
+        // no range: the ends move by what is counted between them
         while found < units && 1 < high - low {
             if close {
                 let reach = self.reach_between(starts, low, high);

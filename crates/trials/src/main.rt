@@ -89,11 +89,13 @@ fn run_lines(rt: &impl Print, text: &[u8]) -> io::Result<()> {
     Ok(())
 }
 
-// Reads until the slice is full or the input ends, in whatever pieces it comes, and gives how many bytes it put there.
+// Reads until the slice is full or the input ends, in whatever pieces it comes, and gives how many bytes it put there. `plan` promises more of its
+// own: a crate between the two for ten lines would be no plainer.
 fn read_input<R: Read>(reader: &mut R, input: &mut [u8]) -> io::Result<usize>
     ensures { ReadsAtMost result input.new }
 {
     let mut filled = 0;
+    // no range: each turn goes on where the read before it came to
     while filled < input.len() {
         let count = reader.read(&mut input[filled..])?;
         if count == 0 {
