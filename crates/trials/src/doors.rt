@@ -116,20 +116,19 @@ fn solve_lists(
     }
 }
 
-// Its answer to lists, or to job bytes.
+// Its answer to job bytes where there are some, or else to lists.
 fn solve(
     way: Way,
     numbers: &[u32],
-    job: &[u8],
-    as_bytes: bool,
+    job: Option<&[u8]>,
     cells: &mut [u32],
     words: &mut [u64],
     picks: &mut [u32],
 ) -> Result<Answer, Refusal> {
-    if as_bytes {
-        return solve_bytes(way, job, cells, words, picks);
+    match job {
+        Some(bytes) => solve_bytes(way, bytes, cells, words, picks),
+        None => solve_lists(way, numbers, cells, words, picks),
     }
-    solve_lists(way, numbers, cells, words, picks)
 }
 
 // Its answer on what is lent, which held something else before.
@@ -137,8 +136,7 @@ fn solve_and_show(
     rt: &impl Print,
     way: Way,
     numbers: &[u32],
-    job: &[u8],
-    as_bytes: bool,
+    job: Option<&[u8]>,
     whole: bool,
 ) -> io::Result<()> {
     let c = lent(numbers, 1, CELLS);
@@ -151,7 +149,6 @@ fn solve_and_show(
         way,
         numbers,
         job,
-        as_bytes,
         &mut cells[..c],
         &mut words[..w],
         &mut picks[..p],
@@ -175,7 +172,7 @@ fn by_bytes(rt: &impl Print, way: Way, numbers: &[u32], whole: bool) -> io::Resu
     let mut bytes = [0u8; BYTES];
     let size = put_bytes(&numbers[..end], &mut bytes);
     lines::size(rt, size)?;
-    solve_and_show(rt, way, numbers, &bytes[..size], true, whole)
+    solve_and_show(rt, way, numbers, Some(&bytes[..size]), whole)
 }
 
 // Its answer by one of the doors.
@@ -189,5 +186,5 @@ pub fn answer(
     if as_bytes {
         return by_bytes(rt, way, numbers, whole);
     }
-    solve_and_show(rt, way, numbers, b"", false, whole)
+    solve_and_show(rt, way, numbers, None, whole)
 }
