@@ -2,17 +2,20 @@
 -- Assumes nothing.
 use mathlib.Core.Path.{◌≡◌, refl, sym, ap, subst, ◌∙◌}
 use mathlib.Core.Option.{none}
-use Prim.Native.Nat.{ℕ, ◌+◌, ◌-◌, ◌≤◌, ◌<◌}
+use Prim.Native.Nat.{ℕ, ◌+◌, ◌-◌, ◌≤◌, ◌<◌, ◌/◌, min}
 use native.Mathlib.Decide.{dec_lt}
 use native.Mathlib.Omega.{arith}
 use mathlib.Core.Bool.{Bool, true, false}
 use mathlib.Core.List.{List}
+use lib.ListN.{length}
 use Rattle.meaning.specs.Lists.{if}
 use Rattle.meaning.specs.Job.{Job, Knapsack}
 use Rattle.meaning.specs.Certificates.{certificate_cells, first, low_cell, some_of, too_low}
 use Rattle.meaning.proofs.Searches.{first_none, first_passes, first_start, none_first, none_passes, passing}
 use Rattle.std.specs.Prelude.{Option, Some, None}
+use Rattle.verdicts.specs.Asked.{CellsRead, Run, Together, knapsack_in}
 use Rattle.verdicts.specs.Searching.{place_of}
+use Rattle.verdicts.proofs.LowRows.{tabled_not_3, together_less, together_next, together_start, run_there}
 
 -- where a run is searched from, by what was told of it
 pub from_start : {low : Bool} (from end : ℕ) → low ≡ true → from ≡ if low from end
@@ -29,6 +32,10 @@ two_left kept end more not-one = elim (dec_lt (kept + 1) end) [
   | yes two ↦ two
   | no one ↦ absurd (not-one (omega arith))
 ]
+
+-- and one in the middle parts them
+pub middle_between : (kept end : ℕ) → kept < end → ¬ (end - kept ≡ 1) → kept < kept + (end - kept) / 2 × kept + (end - kept) / 2 < end
+middle_between kept end more not-one = let two = two_left kept end more not-one in (omega (arith, two), omega (arith, two))
 
 module _ (k : Knapsack) (j : Job) (cells : List ℕ) where
   -- some cell from one on and below another is at fault
@@ -93,6 +100,17 @@ module _ (k : Knapsack) (j : Job) (cells : List ℕ) where
       half_kept middle above below none_low (all_kept e h b) = absurd (omega arith)
       half_kept middle above below none_low (one_low f l h one b) = one_low (omega arith) below h one (kept_on from kept middle f b none_low)
 
+      -- the half that is asked about next
+      pub half_run : ¬ (end - kept ≡ 1) → Run k j from last → Narrowed found from last kept end → Run k j from (kept + (end - kept) / 2)
+      half_run not-one run b =
+          let middle = middle_between kept end more not-one in
+          let within : kept + (end - kept) / 2 ≤ last = omega (arith, middle.1, narrow_within b) in
+          record {
+            some = omega (arith, middle.0, narrow_from b);
+            inside = omega (arith, within, run.inside);
+            together = together_less j k from last (kept + (end - kept) / 2) within run.together;
+          }
+
       -- one is left
       pub found_low : end - kept ≡ 1 → last ≤ certificate_cells k j → Narrowed found from last kept end → place_of (Some kept) ≡ low_cell k j cells
       unfolding place_of low_cell
@@ -120,3 +138,53 @@ module _ (k : Knapsack) (j : Job) (cells : List ℕ) where
   none_found from past b =
       ap place_of b.nowhere
       ∙ sym (none_first (too_low k j cells) (certificate_cells k j) (λ i h. first_none (too_low k j cells) from b.kept i (omega arith)))
+
+-- ---- row after row, with `count` cells in all; `from` is a row's start, or past the last
+
+module _ (kind : ℕ) (j : Job) (cells : List ℕ) where
+  abbrev k : Knapsack
+  k = knapsack_in kind
+
+  -- a row starts here, or no cell is left; and rule 14 is kept at every cell before
+  pub record RowsKept (found : Option ℕ) (from count : ℕ) : Type 0 where
+    pub together : Together k j (min from count) (min from count)
+    pub kept : KeptBelow k j cells found (min from count)
+
+  pub rows_start : (count : ℕ) → RowsKept None 0 count
+  rows_start count =
+      let first : min 0 count ≡ 0 = omega arith in
+      record { together = rw first (together_start j k); kept = rw first (kept_start k j cells) }
+
+  module _ (read : CellsRead k j cells) (count : ℕ) (counted : length cells ≡ count) where
+    many : certificate_cells k j ≡ count
+    many = sym read.long ∙ counted
+
+    pub rows_end : {found : Option ℕ} (from : ℕ) → count ≤ from → RowsKept found from count → place_of found ≡ low_cell k j cells
+    rows_end from past b = none_found k j cells (min from count) (omega (arith, many)) b.kept
+
+    module _ {found : Option ℕ} (run from last : ℕ) (width : ¬ (kind ≡ 3) → run ≡ j.budget + 1) (left : from < count)
+        (last_is : last ≡ min (from + run) count) (b : RowsKept found from count) where
+      here : min from count ≡ from
+      here = omega (arith, left)
+
+      row_starts : Together k j from from
+      row_starts = rw here at b.together
+
+      -- the cells that are passed at once
+      pub rows_run : 1 ≤ run → Run k j from last
+      rows_run some = run_there j run k (λ t. width (tabled_not_3 kind t)) from last count some left many last_is row_starts
+
+      pub rows_narrow : 1 ≤ run → (start : ℕ) → start ≡ if (low_between k j cells from last) from last
+          → Narrowed k j cells found from last start last
+      rows_narrow some start start_is = narrow_start k j cells from last start (rows_run some).some start_is (rw here at b.kept)
+
+      -- none of them is left
+      pub rows_next : {found_now : Option ℕ} (kept end : ℕ) → end ≤ kept → Narrowed k j cells found_now from last kept end
+          → RowsKept found_now (from + run) count
+      rows_next kept end past n =
+          let on : min (from + run) count ≡ last = sym last_is in
+          record {
+            together = rw on
+                (together_next j run k (λ t. width (tabled_not_3 kind t)) from last (omega (arith, last_is, many)) (omega (arith, left, many)) row_starts);
+            kept = rw on (run_passed k j cells past n);
+          }

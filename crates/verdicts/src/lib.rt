@@ -129,7 +129,7 @@ fn run_length(job: &Job) -> usize
 }
 
 // 14: the first cell at which its rule is broken. Rows that keep it are not searched, and one that doesn't is searched by halves. Nested loops, left by the
-// label of the outer one, are the form that document 01 names for this place; a step of either goes by what was found.
+// label of the outer one, are the form that document 01 names for this place; a step of the inner one goes by what was found.
 fn low_cell(job: &Job, cells: &[u8]) -> Option<usize>
     requires { CellsRead (knapsack_in job.now.kind) (certified job.now) (numbers_in cells.now) }
     ensures { place_of result ≡ low_cell (knapsack_in job.now.kind) (certified job.now)
@@ -138,8 +138,7 @@ fn low_cell(job: &Job, cells: &[u8]) -> Option<usize>
     let count = cells.len() / 4;
     let run = run_length(job);
     let mut found = None;
-    let mut from = 0;
-    'rows: while from < count {
+    'rows: for from in (0..count).step_by(run) {
         let last = usize::min(from + run, count);
         let mut kept = search_from(job, cells, from, last);
         let mut end = last;
@@ -155,7 +154,6 @@ fn low_cell(job: &Job, cells: &[u8]) -> Option<usize>
                 kept = middle;
             }
         }
-        from = last;
     }
     found
 }

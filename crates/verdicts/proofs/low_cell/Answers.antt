@@ -1,164 +1,72 @@
 -- `verdicts::low_cell` meets its contract: at every way out, rule 14 is kept at every cell before.
-use mathlib.Core.Path.{◌≡◌, sym, ◌∙◌}
-use Prim.Native.Nat.{ℕ, ◌≤◌, ◌<◌, ◌+◌, ◌-◌, ◌/◌}
+use mathlib.Core.Path.{sym, ◌∙◌}
+use Prim.Native.Nat.{◌+◌, ◌/◌}
 use native.Mathlib.Omega.{arith}
 use lib.ListN.{length}
-use Rattle.meaning.specs.Job.{Job, Knapsack, job_of}
-use Rattle.meaning.specs.Certificates.{certificate_cells}
+use Rattle.meaning.specs.Job.{job_of}
+use Rattle.meaning.specs.Bytes.{numbers_in}
 use Rattle.meaning.proofs.Numbers.{numbers_long}
 use Rattle.verdicts.specs.Asked.{certified, knapsack_in, Run}
-use Rattle.verdicts.proofs.LowRows.{Tabled, tabled_not_3, together_start, together_less, run_there, together_next}
-use Rattle.verdicts.proofs.LowCells.{kept_start, narrow_start, narrow_within, narrow_from, two_left}
-use Rattle.verdicts.proofs.LowCells.{half_low, half_kept, found_low, run_passed, none_found}
+use Rattle.verdicts.proofs.LowCells.{middle_between, half_run, half_kept, found_low, RowsKept, rows_start, rows_run, rows_narrow, rows_next, rows_end}
 use Rattle.verdicts.proofs.low_cell.Goals as goal
+use Rattle.verdicts.proofs.low_cell.Goals.{After-min-last, After-budgets}
 
-end_within : (c : goal.Else-end-kept-eq1) →
-    let job : Job = certified c.args.job.now in
-    let knapsack : Knapsack = knapsack_in c.args.job.now.kind in
-    c.budgets.end ≤ certificate_cells (knapsack) (job)
+-- ---- what several answers ask
+
+-- the cells that are passed at once
+passed : (c : After-min-last) → Run (knapsack_in c.args.job.now.kind) (certified c.args.job.now) c.rows.from c.min-last.result
 unfolding job_of
-end_within c =
-    let job : Job = certified c.args.job.now in
-    let knapsack : Knapsack = knapsack_in c.args.job.now.kind in
-    let counted : certificate_cells knapsack job ≡ length c.args.cells.now / 4 = sym c.requires.long ∙ numbers_long c.args.cells.now in
-    let run_is : Tabled (knapsack) → c.run_length-run.result ≡ c.args.job.now.budget + 1 = λ t. c.run_length-run.ensures.0 (tabled_not_3 c.args.job.now.kind t) in
-    let the_run : Run knapsack job c.rows.from c.min-last.result =
-    run_there job c.run_length-run.result knapsack run_is _ _ _ c.run_length-run.ensures.1.0 c.rows-test.true counted
-    c.min-last.ensures c.rows.invariant.1.0 in
-    omega (arith, narrow_within _ _ _ c.budgets.invariant, (the_run).inside)
+passed c =
+    let run_is = c.run_length-run.ensures in
+    rows_run _ _ _ c.requires _ (numbers_long _) _ _ _ run_is.0 (omega (arith, c.rows-test.true)) c.min-last.ensures c.rows.invariant run_is.1.0
+
+-- a row was passed
+next : (c : After-budgets)
+    → RowsKept c.args.job.now.kind (certified c.args.job.now) (numbers_in c.args.cells.now) c.budgets.found-1 (c.rows.from + c.run_length-run.result)
+    (length c.args.cells.now / 4)
+unfolding job_of
+next c =
+    let run_is = c.run_length-run.ensures in
+    rows_next _ _ _ c.requires _ (numbers_long _) _ _ _ run_is.0 (omega (arith, c.rows-test.true)) c.min-last.ensures c.rows.invariant
+    _ _ c.budgets-test.false c.budgets.invariant
+
+-- ---- the rows
 
 pub rows-init : goal.rows-init
-rows-init c =
-    let job : Job = certified c.args.job.now in
-    let knapsack : Knapsack = knapsack_in c.args.job.now.kind in
-    (omega arith, (together_start job knapsack, kept_start _ _ _))
+rows-init c = rows_start _ _ _ _
 
-pub search_from-kept-requires : goal.search_from-kept-requires
-unfolding job_of
-search_from-kept-requires c =
-    let job : Job = certified c.args.job.now in
-    let knapsack : Knapsack = knapsack_in c.args.job.now.kind in
-    let counted : certificate_cells knapsack job ≡ length c.args.cells.now / 4 = sym c.requires.long ∙ numbers_long c.args.cells.now in
-    let run_is : Tabled knapsack → c.run_length-run.result ≡ c.args.job.now.budget + 1 = λ t. c.run_length-run.ensures.0 (tabled_not_3 c.args.job.now.kind t) in
-    let the_run : Run knapsack job c.rows.from c.min-last.result =
-    run_there job c.run_length-run.result knapsack run_is _ _ _ c.run_length-run.ensures.1.0 c.rows-test.true counted
-    c.min-last.ensures c.rows.invariant.1.0 in
-    record { cells_read = c.requires; run = the_run }
+pub search_from-kept-requires-clause-run : goal.search_from-kept-requires-clause-run
+search_from-kept-requires-clause-run c = passed c
+
+pub rows-preserved : goal.rows-preserved
+rows-preserved c = next (goal.at.rows-preserved c).After-budgets
+
+pub returns : goal.returns
+returns c = rows_end _ _ _ c.requires _ (numbers_long _) _ (omega (arith, c.rows-test.false)) c.rows.invariant
+
+-- the last one was passed
+pub returns-2 : goal.returns-2
+returns-2 c = rows_end _ _ _ c.requires _ (numbers_long _) _ (omega arith) (next (goal.at.returns-2 c).After-budgets)
+
+-- ---- the halves of one
 
 pub budgets-init : goal.budgets-init
 unfolding job_of
 budgets-init c =
-    let job : Job = certified c.args.job.now in
-    let knapsack : Knapsack = knapsack_in c.args.job.now.kind in
-    let counted : certificate_cells knapsack job ≡ length c.args.cells.now / 4 = sym c.requires.long ∙ numbers_long c.args.cells.now in
-    let run_is : Tabled knapsack → c.run_length-run.result ≡ c.args.job.now.budget + 1 = λ t. c.run_length-run.ensures.0 (tabled_not_3 c.args.job.now.kind t) in
-    let the_run : Run knapsack job c.rows.from c.min-last.result =
-    run_there job c.run_length-run.result knapsack run_is _ _ _ c.run_length-run.ensures.1.0 c.rows-test.true counted
-    c.min-last.ensures c.rows.invariant.1.0 in
-    narrow_start _ _ _ _ _ _ the_run.some c.search_from-kept.ensures c.rows.invariant.1.1
+    let run_is = c.run_length-run.ensures in
+    rows_narrow _ _ _ c.requires _ (numbers_long _) _ _ _ run_is.0 (omega (arith, c.rows-test.true)) c.min-last.ensures c.rows.invariant run_is.1.0 _
+    c.search_from-kept.ensures
 
-pub overflow_sub-middle : goal.overflow_sub-middle
-overflow_sub-middle c =
-    let some_left : c.budgets.kept + 1 < c.budgets.end = two_left c.budgets.kept c.budgets.end c.budgets-test.true c.if-end-kept-eq1.false in
-    omega (arith, some_left)
-
-pub overflow_add-middle : goal.overflow_add-middle
-overflow_add-middle c =
-    let job : Job = certified c.args.job.now in
-    let knapsack : Knapsack = knapsack_in c.args.job.now.kind in
-    let counted : certificate_cells knapsack job ≡ length c.args.cells.now / 4 = sym c.requires.long ∙ numbers_long c.args.cells.now in
-    let some_left : c.budgets.kept + 1 < c.budgets.end = two_left c.budgets.kept c.budgets.end c.budgets-test.true c.if-end-kept-eq1.false in
-    omega (arith, some_left, end_within c, counted)
-
-pub is_low-requires : goal.is_low-requires
-unfolding job_of
-is_low-requires c =
-    let job : Job = certified c.args.job.now in
-    let knapsack : Knapsack = knapsack_in c.args.job.now.kind in
-    let middle : ℕ = c.budgets.kept + (c.budgets.end - c.budgets.kept) / 2 in
-    let some_left : c.budgets.kept + 1 < c.budgets.end = two_left c.budgets.kept c.budgets.end c.budgets-test.true c.if-end-kept-eq1.false in
-    let counted : certificate_cells knapsack job ≡ length c.args.cells.now / 4 = sym c.requires.long ∙ numbers_long c.args.cells.now in
-    let run_is : Tabled knapsack → c.run_length-run.result ≡ c.args.job.now.budget + 1 = λ t. c.run_length-run.ensures.0 (tabled_not_3 c.args.job.now.kind t) in
-    let the_run : Run knapsack job c.rows.from c.min-last.result =
-    run_there job c.run_length-run.result knapsack run_is _ _ _ c.run_length-run.ensures.1.0 c.rows-test.true counted
-    c.min-last.ensures c.rows.invariant.1.0 in
-    let the_half : Run knapsack job c.rows.from middle = record {
-      some = omega (arith, some_left, narrow_from _ _ _ c.budgets-test.true c.budgets.invariant);
-      inside = omega (arith, some_left, (end_within c));
-      together =
-          together_less _ _ _ _ _ (omega (arith, some_left, narrow_within _ _ _ c.budgets.invariant)) the_run.together;
-    } in
-    record { cells_read = c.requires; run = the_half }
-
-pub budgets-smaller-then-is_low : goal.budgets-smaller-then-is_low
-budgets-smaller-then-is_low c =
-    let some_left : c.budgets.kept + 1 < c.budgets.end = two_left c.budgets.kept c.budgets.end c.budgets-test.true c.if-end-kept-eq1.false in
-    omega (arith, some_left)
-
-pub budgets-preserved-then-is_low : goal.budgets-preserved-then-is_low
-budgets-preserved-then-is_low c =
-    let middle : ℕ = c.budgets.kept + (c.budgets.end - c.budgets.kept) / 2 in
-    let some_left : c.budgets.kept + 1 < c.budgets.end = two_left c.budgets.kept c.budgets.end c.budgets-test.true c.if-end-kept-eq1.false in
-    half_low _ _ _ c.budgets-test.true middle (omega (arith, some_left)) (omega (arith, some_left))
-    (sym c.is_low.ensures ∙ c.if-is_low.true) c.budgets.invariant
-
-pub budgets-smaller : goal.budgets-smaller
-budgets-smaller c =
-    let some_left : c.budgets.kept + 1 < c.budgets.end = two_left c.budgets.kept c.budgets.end c.budgets-test.true c.if-end-kept-eq1.false in
-    omega (arith, some_left)
+pub is_low-requires-clause-run : goal.is_low-requires-clause-run
+is_low-requires-clause-run c =
+    half_run _ _ _ c.budgets-test.true c.if-end-kept-eq1.false (passed (goal.at.is_low-requires-clause-run c).After-min-last) c.budgets.invariant
 
 pub budgets-preserved : goal.budgets-preserved
 budgets-preserved c =
-    let middle : ℕ = c.budgets.kept + (c.budgets.end - c.budgets.kept) / 2 in
-    let some_left : c.budgets.kept + 1 < c.budgets.end = two_left c.budgets.kept c.budgets.end c.budgets-test.true c.if-end-kept-eq1.false in
-    half_kept _ _ _ c.budgets-test.true middle (omega (arith, some_left)) (omega (arith, some_left))
-    (sym c.is_low.ensures ∙ c.if-is_low.false) c.budgets.invariant
-
-pub rows-smaller : goal.rows-smaller
-unfolding job_of
-rows-smaller c =
-    let job : Job = certified c.args.job.now in
-    let knapsack : Knapsack = knapsack_in c.args.job.now.kind in
-    let counted : certificate_cells knapsack job ≡ length c.args.cells.now / 4 = sym c.requires.long ∙ numbers_long c.args.cells.now in
-    let run_is : Tabled knapsack → c.run_length-run.result ≡ c.args.job.now.budget + 1 = λ t. c.run_length-run.ensures.0 (tabled_not_3 c.args.job.now.kind t) in
-    let the_run : Run knapsack job c.rows.from c.min-last.result =
-    run_there job c.run_length-run.result knapsack run_is _ _ _ c.run_length-run.ensures.1.0 c.rows-test.true counted
-    c.min-last.ensures c.rows.invariant.1.0 in
-    omega (arith, the_run.some, the_run.inside, counted)
-
-pub rows-preserved : goal.rows-preserved
-unfolding job_of
-rows-preserved c =
-    let job : Job = certified c.args.job.now in
-    let knapsack : Knapsack = knapsack_in c.args.job.now.kind in
-    let counted : certificate_cells knapsack job ≡ length c.args.cells.now / 4 = sym c.requires.long ∙ numbers_long c.args.cells.now in
-    let run_is : Tabled knapsack → c.run_length-run.result ≡ c.args.job.now.budget + 1 = λ t. c.run_length-run.ensures.0 (tabled_not_3 c.args.job.now.kind t) in
-    let the_run : Run knapsack job c.rows.from c.min-last.result =
-    run_there job c.run_length-run.result knapsack run_is _ _ _ c.run_length-run.ensures.1.0 c.rows-test.true counted
-    c.min-last.ensures c.rows.invariant.1.0 in (
-      omega (arith, the_run.inside, counted),
-      (
-        together_next job c.run_length-run.result knapsack run_is c.rows.from _
-            (omega (arith, c.min-last.ensures, counted)) (omega (arith, c.rows-test.true, counted)) c.rows.invariant.1.0,
-        run_passed _ _ _ c.budgets-test.false c.budgets.invariant,
-      ),
-    )
-
-pub returns-after-rows : goal.returns-after-rows
-returns-after-rows c =
-    let job : Job = certified c.args.job.now in
-    let knapsack : Knapsack = knapsack_in c.args.job.now.kind in
-    let counted : certificate_cells knapsack job ≡ length c.args.cells.now / 4 = sym c.requires.long ∙ numbers_long c.args.cells.now in
-    none_found _ _ _ _ (omega (arith, c.rows-test.false, counted)) c.rows.invariant.1.1
+    let middle = middle_between _ _ c.budgets-test.true c.if-end-kept-eq1.false in
+    half_kept _ _ _ c.budgets-test.true _ middle.0 middle.1 (sym c.is_low.ensures ∙ c.if-is_low.false) c.budgets.invariant
 
 pub returns-then-end-kept-eq1 : goal.returns-then-end-kept-eq1
-unfolding job_of
 returns-then-end-kept-eq1 c =
-    let job : Job = certified c.args.job.now in
-    let knapsack : Knapsack = knapsack_in c.args.job.now.kind in
-    let counted : certificate_cells knapsack job ≡ length c.args.cells.now / 4 = sym c.requires.long ∙ numbers_long c.args.cells.now in
-    let run_is : Tabled knapsack → c.run_length-run.result ≡ c.args.job.now.budget + 1 = λ t. c.run_length-run.ensures.0 (tabled_not_3 c.args.job.now.kind t) in
-    let the_run : Run knapsack job c.rows.from c.min-last.result =
-    run_there job c.run_length-run.result knapsack run_is _ _ _ c.run_length-run.ensures.1.0 c.rows-test.true counted
-    c.min-last.ensures c.rows.invariant.1.0 in
-    found_low _ _ _ c.budgets-test.true c.if-end-kept-eq1.true the_run.inside c.budgets.invariant
+    let run = passed (goal.at.returns-then-end-kept-eq1 c).After-min-last in
+    found_low _ _ _ c.budgets-test.true c.if-end-kept-eq1.true run.inside c.budgets.invariant
