@@ -128,7 +128,7 @@ fn fewest(
 // ---- kind 6: the ways
 
 // The mark for ways that are too many to count (`too_many`): the greatest 64-bit number, which no sum passes.
-const TOO_MANY: u64 = 18_446_744_073_709_551_615;
+const TOO_MANY: u64 = u64::MAX;
 
 // The ways for an amount, by those without a size and those for the rest, as far as they can be counted. No sum passes 64 bits.
 #[tactic(auto, unfolding(meaning::specs::Blocks::too_many))]
