@@ -38,29 +38,21 @@ fn lay_stretch(row: &mut [u32], from: usize, to: usize, w: usize)
 // A size of so much is heavy: a stretch of so many cells is worth the start of a vector loop.
 const HEAVY: usize = 16;
 
-// Where a stretch of cells that starts at amount a ends. One as long as the size runs in vectors; a light size has one for the whole row.
-fn lay_end(width: usize, a: usize, w: usize) -> usize
-    requires { (a < width) × (1 ≤ w) }
-    ensures { (a < result) × (result ≤ width) }
-{
-    if w < HEAVY {
-        return width;
-    }
-    rows::stretch_end(width, a, w)
-}
-
 // The row of fewest blocks with a size more.
 fn lay(row: &mut [u32], w: u32)
     requires { 1 ≤ w }
     ensures { Swept fewer_of row.old row.new w w (length row.old) }
 {
     let w = w as usize;
-    let mut a = w;
-    // a stretch begins where the one before it ended
-    while a < row.len() {
-        let end = lay_end(row.len(), a, w);
+    // a stretch as long as the size runs in vectors; a light size has one for the whole row. No step is 0
+    let step = if w < HEAVY {
+        usize::max(row.len(), w)
+    } else {
+        w
+    };
+    for a in (w..row.len()).step_by(step) {
+        let end = rows::stretch_end(row.len(), a, step);
         lay_stretch(row, a, end, w);
-        a = end;
     }
 }
 
@@ -136,7 +128,7 @@ fn fewest(
 // ---- kind 6: the ways
 
 // The mark for ways that are too many to count (`too_many`): the greatest 64-bit number, which no sum passes.
-const TOO_MANY: u64 = 18_446_744_073_709_551_615;
+const TOO_MANY: u64 = u64::MAX;
 
 // The ways for an amount, by those without a size and those for the rest, as far as they can be counted. No sum passes 64 bits.
 #[tactic(auto, unfolding(meaning::specs::Blocks::too_many))]
