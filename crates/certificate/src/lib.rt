@@ -28,13 +28,6 @@ fn job_refusal(job: &Job) -> Result<(), Refusal>
 
 // ---- the checker
 
-// What refuses and names no place.
-fn placeless(refusal: Refusal) -> Fault
-    ensures { (result.refusal ≡ refusal) × (result.place ≡ 0) }
-{
-    Fault { refusal, place: 0 }
-}
-
 // 11, or what comes of the picks and the cells that the certificate holds.
 fn judge(job: &Job, certificate: &[u8]) -> Result<u32, Fault>
     requires { HasCertificates (knapsack_in job.now.kind) (certified job.now) }
@@ -43,14 +36,14 @@ fn judge(job: &Job, certificate: &[u8]) -> Result<u32, Fault>
     let n = job.weights.len();
     let needed = rules::knapsack_room(job.kind, n, job.budget);
     let Ok((picks, picks_end)) = numbers::section(certificate, 0, Some(n as u32)) else {
-        return Err(placeless(Refusal::Sections));
+        return Err(Fault::from(Refusal::Sections));
     };
     let many = needed.cells as u32;
     let Ok((cells, cells_end)) = numbers::section(certificate, picks_end, Some(many)) else {
-        return Err(placeless(Refusal::Sections));
+        return Err(Fault::from(Refusal::Sections));
     };
     if cells_end < certificate.len() {
-        return Err(placeless(Refusal::Sections));
+        return Err(Fault::from(Refusal::Sections));
     }
     verdicts::judge_cells(job, &Numbers::packed(picks), cells)
 }
@@ -60,11 +53,9 @@ pub fn check(job: &[u8], certificate: &[u8]) -> Result<u32, Fault>
     ensures { Checked job.now certificate.now (judged result) }
 {
     let Ok(request) = requests::read_job(job) else {
-        return Err(placeless(Refusal::Bytes));
+        return Err(Fault::from(Refusal::Bytes));
     };
-    if let Err(refusal) = job_refusal(&request) {
-        return Err(placeless(refusal));
-    }
+    job_refusal(&request)?;
     judge(&request, certificate)
 }
 

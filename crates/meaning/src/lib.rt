@@ -51,6 +51,15 @@ pub struct Fault {
     pub place: u64,
 }
 
+// A refusal that names no place.
+impl From<Refusal> for Fault {
+    ghost from_gives = { λ refusal fault. (fault.refusal ≡ refusal) × (fault.place ≡ 0) };
+
+    fn from(refusal: Refusal) -> Fault {
+        Fault { refusal, place: 0 }
+    }
+}
+
 // Which of the two lists of a quick answer is the worthier, and what that is worth.
 #[derive(Clone, Copy, PartialEq, Eq)]
 pub enum Quick {

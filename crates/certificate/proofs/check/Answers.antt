@@ -1,6 +1,7 @@
 -- `certificate::check` meets its contract: what the job bytes are read as is asked about refusals 2 to 5, and then its certificate is judged.
 use mathlib.Core.Path.{refl, sym, ap, ◌∙◌}
 use native.Mathlib.Omega.{arith}
+use Rattle.std.proofs.lemmas.Result.{err_from_is_err_and}
 use Rattle.meaning.specs.Job.{job_of}
 use Rattle.meaning.specs.Bytes.{JobRead}
 use Rattle.meaning.specs.Certificates.{verdict_of, verdict_on_job}
@@ -14,21 +15,22 @@ use Rattle.certificate.proofs.check.Goals as goal
 
 pub returns-in_default : goal.returns-in_default
 returns-in_default c =
-    rw (c.placeless.ensures.0, c.placeless.ensures.1) (not_read _ _ _ c.in_default.field-0 (unread _ c.in_default.is c.read_job.ensures) refl)
+    rw (c.from.ensures.0, c.from.ensures.1) (not_read _ _ _ c.in_default.field-0 (unread _ c.in_default.is c.read_job.ensures) refl)
 
-pub returns-in-Err : goal.returns-in-Err
+pub returns-in_err-job_refusal : goal.returns-in_err-job_refusal
 unfolding verdict_of
-returns-in-Err c =
+returns-in_err-job_refusal c =
+    let p = err_from_is_err_and c.from_residual.result c.from_residual.ensures.1 in
     let j = c.in-Ok.request in
     let read = read_in _ c.in-Ok.is c.read_job.ensures in
-    rw (c.placeless-in-Err.ensures.0, c.placeless-in-Err.ensures.1)
+    rw (p.1, p.2.0, p.2.1)
     (job_refused _ _ _ (certified j)
     (ap (λ (r : JobRead). verdict_on_job r c.args.certificate.now) read ∙ sym (verdict_ignores j.kind _ _ _ j.budget j.q c.args.certificate.now))
-    _ c.in-Err.ensures (λ none. omega (arith, some_number c.in-Err.refusal)) refl)
+    _ c.in_err-job_refusal.ensures (λ none. omega (arith, some_number c.in_err-job_refusal.field-0.0)) refl)
 
 pub judge-requires : goal.judge-requires
 unfolding job_of
-judge-requires c = not_refused (certified c.in-Ok.request) (sym c.in_default-job_refusal.ensures)
+judge-requires c = not_refused (certified c.in-Ok.request) (sym c.in_ok-job_refusal.ensures)
 
 pub returns : goal.returns
 unfolding job_of verdict_of
@@ -37,4 +39,4 @@ returns c =
     let read = read_in _ c.in-Ok.is c.read_job.ensures in
     job_judged _ _ _ (certified j)
     (ap (λ (r : JobRead). verdict_on_job r c.args.certificate.now) read ∙ sym (verdict_ignores j.kind _ _ _ j.budget j.q c.args.certificate.now))
-    _ (not_refused (certified j) (sym c.in_default-job_refusal.ensures)) c.judge.ensures
+    _ (not_refused (certified j) (sym c.in_ok-job_refusal.ensures)) c.judge.ensures

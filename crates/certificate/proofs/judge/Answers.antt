@@ -28,7 +28,7 @@ overflow_cast-n c = omega (arith, few_labels c.requires _ (sym c.len-n.ensures))
 pub returns-in_default : goal.returns-in_default
 unfolding job_of labels
 returns-in_default c =
-    rw (c.placeless.ensures.0, c.placeless.ensures.1) (picks_broken _ _ _ (asked_as _ _ _ _ (sym c.len-n.ensures) c.in_default.ensures))
+    rw (c.from.ensures.0, c.from.ensures.1) (picks_broken _ _ _ (asked_as _ _ _ _ (sym c.len-n.ensures) c.in_default.ensures))
 
 pub overflow_cast-many : goal.overflow_cast-many
 unfolding job_of labels
@@ -37,14 +37,14 @@ overflow_cast-many c = omega (arith, few_cells c.requires _ (sym c.len-n.ensures
 pub returns-in_default-section : goal.returns-in_default-section
 unfolding job_of labels
 returns-in_default-section c =
-    rw (c.placeless-in_default-section.ensures.0, c.placeless-in_default-section.ensures.1)
+    rw (c.from-in_default-section.ensures.0, c.from-in_default-section.ensures.1)
     (cells_broken _ _ _ (asked_as _ _ _ _ (sym c.len-n.ensures) c.in-Ok.ensures)
     (asked_as _ _ _ _ (needed (goal.at.returns-in_default-section c).After-knapsack_room-needed) c.in_default-section.ensures))
 
 pub returns-then-cells_end-certificate : goal.returns-then-cells_end-certificate
 unfolding job_of labels
 returns-then-cells_end-certificate c =
-    rw (c.placeless-then-cells_end-certificate.ensures.0, c.placeless-then-cells_end-certificate.ensures.1)
+    rw (c.from-then-cells_end-certificate.ensures.0, c.from-then-cells_end-certificate.ensures.1)
     (left_over _ _ _ (asked_as _ _ _ _ (sym c.len-n.ensures) c.in-Ok.ensures)
     (asked_as _ _ _ _ (needed (goal.at.returns-then-cells_end-certificate c).After-knapsack_room-needed) c.in-Ok-section.ensures)
     c.if-cells_end-certificate.true)
