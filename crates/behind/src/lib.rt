@@ -64,7 +64,7 @@ fn trace_off(weights: &Numbers, row: &[u32], picks: &mut [u32])
 {
     picks.fill(0);
     let mut t = row.len() - 1;
-    // each turn goes on at what the label that was found leaves
+    // no range: each turn goes on at what the label that was found leaves
     while 0 < t {
         let m = row[t] as usize - 1;
         picks[m] = 1;

@@ -91,7 +91,7 @@ fn trace_down(weights: &Numbers, row: &[u32], picks: &mut [u32])
     picks.fill(0);
     let mut i = picks.len();
     let mut a = row.len() - 1;
-    // a turn settles a size, or lays one block of it and stays there
+    // no range: a turn settles a size, or lays one block of it and stays there, and an inner loop would be a second in this function
     while 0 < i {
         let w = weights.at(i - 1);
         if leads(row, w, a) {

@@ -106,7 +106,7 @@ fn trace_along(weights: &Numbers, values: &Numbers, row: &[u32], picks: &mut [u3
     picks.fill(0);
     let mut label = 0;
     let mut c = row.len() - 1;
-    // No `for`: a label that leads on has the next turn again.
+    // no range: a label that leads on has the next turn again, and an inner loop would be a second in this function
     while label < picks.len() {
         let w = weights.at(label);
         let v = values.at(label);

@@ -168,7 +168,7 @@ fn raise_label(row: &mut [u32], words: &mut [u64], w: u32, v: u32)
     let s = (width - 1) % 64 + 1;
     let mut end = width;
     let mut above: u64 = 0;
-    // No `for`: the last block is raised below, from the end at which this stops.
+    // no range: the last block is raised below, from the end at which this stops
     while w + 64 <= end {
         end -= 64;
         m -= 1;
