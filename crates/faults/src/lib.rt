@@ -30,7 +30,7 @@ fn cell(cells: &[u8], m: usize) -> u64
 fn is_below(claim: u32, other: u32, v: u32) -> bool
     ensures { result ≡ nat_lt claim (other + v) }
 {
-    let rest = std::num::wrapping_sub_u32(claim, v);
+    let rest = claim.wrapping_sub(v);
     (claim < v) | (rest < other)
 }
 
@@ -60,8 +60,8 @@ fn is_below_either(claim: u32, near: u32, gain: u32, other: u32, more: u32) -> b
     requires { gain ≤ more }
     ensures { result ≡ (nat_lt claim (near + gain) || nat_lt claim (other + more)) }
 {
-    let rest = std::num::wrapping_sub_u32(claim, gain);
-    let less = std::num::wrapping_sub_u32(claim, more);
+    let rest = claim.wrapping_sub(gain);
+    let less = claim.wrapping_sub(more);
     (claim < more) | (rest < near) | (less < other)
 }
 

@@ -30,21 +30,20 @@ pub fn first_alone(words: &mut [u64])
     requires { 0 < length words.old }
     ensures { FirstAlone 1 0 (length words.old) words.new }
 {
-    let all = words.len();
-    clear(words, all);
+    words.fill(0);
     words[0] = 1;
 }
 
 // The mark for no way to come to a total or an amount (`no_way`): the greatest 32-bit number, which no number of labels or blocks comes to.
-const NO_WAY: u32 = 4_294_967_295;
+const NO_WAY: u32 = u32::MAX;
 
 // The cells of no labels: 0 in the first, for the empty list, and the mark for no way in the others.
+#[tactic(auto, unfolding(meaning::specs::Cells::no_way))]
 pub fn mark_rest(row: &mut [u32])
     requires { 0 < length row.old }
     ensures { FirstAlone 0 no_way (length row.old) row.new }
 {
-    let width = row.len();
-    set_all(row, width, NO_WAY);
+    row.fill(NO_WAY);
     row[0] = 0;
 }
 
@@ -137,10 +136,7 @@ pub fn stretch_end(width: usize, c: usize, w: usize) -> usize
     requires { c ≤ width }
     ensures { result ≡ min (c + w) width }
 {
-    if width - c < w {
-        return width;
-    }
-    c + w
+    c + w.min(width - c)
 }
 
 // A row in place from the least budget up, so that a label of weight w and value v is added again and again.

@@ -134,11 +134,7 @@ fn lesser_weight(without: u32, less: u32, w: u32, room: u32) -> u32
     if room < less {
         return without;
     }
-    let with = less + w;
-    if with < without {
-        return with;
-    }
-    without
+    u32::min(without, less + w)
 }
 
 // A label of weight w and cut value a over the row at `from`, into the row at `to`, for the totals from a on. There is no branch and no store on a
