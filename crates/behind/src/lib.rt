@@ -42,7 +42,7 @@ fn add_label(row: &mut [u32], w: u32, i: u32)
 }
 
 // The row of all labels.
-#[tactic(auto, using(rows::specs::Rounds::none_yet), unfolding(meaning::specs::Bounds::most_labels))]
+#[tactic(auto, unfolding(meaning::specs::Bounds::most_labels))]
 fn fill(weights: &Numbers, row: &mut [u32])
     requires { (0 < length row.old) × (length weights.now ≤ most_labels) }
     ensures { FirstsGrown weights.now (length row.old) row.new }

@@ -1,4 +1,4 @@
--- The rows as they are made size by size: one argument for the fewest blocks and for the ways.
+-- The rows as they are made size by size: one argument for the fewest blocks and for the ways, and one loop.
 -- Assumes nothing.
 use mathlib.Core.Path.{subst, sym}
 use Prim.Native.Nat.{ℕ, zero, suc, ◌+◌, ◌-◌, ◌≤◌, ◌<◌}
@@ -11,10 +11,14 @@ use Rattle.meaning.specs.Job.{Job, labels}
 use Rattle.meaning.specs.Bounds.{most_budget}
 use Rattle.meaning.specs.Blocks.{MadeOf, WaysShown, too_many}
 use Rattle.meaning.proofs.Making.{few_blocks, fewest_none, fewest_no_sizes, fewest_skip, fewest_more, ways_none, no_sizes, ways_skip, ways_more}
-use Rattle.rows.specs.Rows.{Swept}
+use Rattle.rows.specs.Rows.{Swept, FirstAlone}
 use Rattle.rows.proofs.Stores.{by, alone_shows}
-use Rattle.rows.proofs.Rounds.{each_round}
+use Rattle.rows.proofs.Rounds.{each_round, Rounds}
 use Rattle.blocks.specs.Sizes.{Bounded, fewer_of, ways_of, Grown}
+
+-- the loop over n sizes: i of them have made the row
+abbrev pub Growing : (ℕ → ℕ → ℕ) → ℕ → ℕ → List ℕ → ℕ → ℕ → ℕ → List ℕ → Type 0
+Growing rule one none sizes n width i row = Rounds (FirstAlone one none) (λ wide m s t. Swept rule s t (at sizes m) (at sizes m) wide) n width i row
 
 -- `Shows i a x`: x is right for the first i sizes and amount a. Where the cells with no sizes are right, and the rule makes a right cell of
 -- the one without a size and the one for the rest, all cells are right

@@ -57,7 +57,6 @@ fn lay(row: &mut [u32], w: u32)
 }
 
 // The row of fewest blocks, size by size.
-#[tactic(auto, using(rows::specs::Rounds::none_yet))]
 fn fill_fewest(weights: &Numbers, row: &mut [u32])
     requires { Bounded (length row.old) weights.now }
     ensures { FewestGrown weights.now (length row.old) row.new }
@@ -150,7 +149,6 @@ fn count(words: &mut [u64], w: u32)
 }
 
 // The row of ways, size by size.
-#[tactic(auto, using(rows::specs::Rounds::none_yet))]
 fn fill_ways(weights: &Numbers, words: &mut [u64])
     requires { Bounded (length words.old) weights.now }
     ensures { WaysGrown weights.now (length words.old) words.new }

@@ -1,6 +1,6 @@
 -- Certificate bytes, read section by section: where they break, and where they come to the end.
 -- Assumes nothing.
-use mathlib.Core.Path.{◌≡◌, sym, ap, ◌∙◌}
+use mathlib.Core.Path.{◌≡◌, refl, sym, ap, ◌∙◌}
 use Prim.Native.Nat.{ℕ, ◌≤◌, ◌<◌}
 use mathlib.Core.List.{List}
 use lib.ListN.{length}
@@ -9,15 +9,21 @@ use Rattle.std.specs.Prelude.{Result, Some, Ok, Err}
 use Rattle.meaning.specs.Judges.{Verdict, Refused}
 use Rattle.meaning.specs.Lists.{if}
 use Rattle.meaning.specs.Job.{Job, Knapsack, labels}
-use Rattle.meaning.specs.Bytes.{at_end, numbers_in, read_section, with_section}
+use Rattle.meaning.specs.Bytes.{Section, at_end, numbers_in, read_section, with_section}
 use Rattle.meaning.specs.Certificates.{certificate_broken, certificate_cells, verdict_on_cells, verdict_on_certificate}
-use Rattle.numbers.specs.Sections.{section_in}
+use Rattle.numbers.specs.Sections.{part_of, section_in}
 use Rattle.numbers.proofs.Parts.{reads_on, reads_no_more}
 
 -- a section was read with the count that is due
-pub asked_as : {found : Result (List ℕ × ℕ) ℕ} (due n : ℕ) (b : List ℕ) (p : ℕ) → due ≡ n → found ≡ section_in (Some n) b p
+pub asked_as : {found : Section} (due n : ℕ) (b : List ℕ) (p : ℕ) → due ≡ n → found ≡ read_section (Some n) b p
+    → read_section (Some due) b p ≡ found
+asked_as due n b p many read = ap (λ (m : ℕ). read_section (Some m) b p) many ∙ sym read
+
+-- and so was the part in which its numbers stand
+pub part_asked : {found : Result (List ℕ × ℕ) ℕ} (due n : ℕ) (b : List ℕ) (p : ℕ) → due ≡ n → found ≡ section_in (Some n) b p
     → section_in (Some due) b p ≡ found
-asked_as due n b p many read = ap (λ (m : ℕ). section_in (Some m) b p) many ∙ sym read
+unfolding section_in
+part_asked due n b p many read = ap (part_of b) (asked_as due n b p many refl) ∙ sym read
 
 module _ (k : Knapsack) (j : Job) (b : List ℕ) where
   abbrev after_cells : List ℕ → List ℕ → ℕ → Verdict

@@ -117,12 +117,15 @@ impl<'a> Rows<'a> {
     {
         let step = self.v as u64;
         let mut carried: u64 = 0;
-        for c in (b..end).step_by(self.w) {
+        let mut c = b;
+        // no steps of a range, here and across: each has a test of its own, which makes a turn of so short a loop a third longer
+        while c < end {
             let best = cell(self.cells, self.prior + c).max(carried);
             if cell(self.cells, self.row + c) < best {
                 return true;
             }
             carried = best + step;
+            c += self.w;
         }
         false
     }
@@ -141,11 +144,13 @@ impl<'a> Rows<'a> {
         let apart = self.copies * self.w;
         let b = a + apart;
         let mut least = cell(self.cells, self.row + b);
-        for x in (a..b).step_by(self.w) {
+        let mut x = a;
+        while x < b {
             if least < cell(self.cells, self.prior + x) + gain {
                 return true;
             }
             let y = x + apart + self.w;
+            x += self.w;
             least += step;
             if y < self.width {
                 least = cell(self.cells, self.row + y).min(least);

@@ -120,6 +120,12 @@ full_ready {kind} {budget} {ws} {vs} {cs} {cells} {picks} asked few =
       picks_room = keeps.picks_room;
     }
 
+-- so the lent cells hold the table of the labels that were counted
+pub table_held : (kind budget : ℕ) (weights values copies cells picks : List ℕ) (n : ℕ)
+    → LetIn (job_of kind (budget ∷ []) weights values copies) cells picks → kind < 3 → n ≡ length weights
+    → (n + 1) * (budget + 1) ≤ length cells
+table_held kind budget weights values copies cells picks n asked few n-is = rw n-is (full_ready asked few).cells_room
+
 order_back : {k : Knapsack} → Rowed k → order_of k ≡ last_least
 unfolding order_of
 order_back once_is = refl

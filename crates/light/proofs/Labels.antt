@@ -47,24 +47,12 @@ module _ (ws vs : List ℕ) where
     words_before : (m i c : ℕ) → m < i → c < 64 * per → (64 * (m * per) + c) / 64 < i * per
     words_before m i c h l = omega (arith, mul-le-mul_right per h, suc-mul m per)
 
-    -- one label more, of n
-    module _ (n i : ℕ) (row row' words part : List ℕ) (wide : width ≤ 64 * per) (inside : i < n) (all : n * per ≡ length words)
-        (so_far : Lit ws vs width per i row words) (kept : length part ≡ length (part_of words (i * per) per))
-        (raised : RisenAll row row' part (at ws i) (at vs i) width (length (part_of words (i * per) per))) where
-      abbrev from : ℕ
-      from = i * per
-
+    -- one label more
+    module _ (i from : ℕ) (row row' words part : List ℕ) (wide : width ≤ 64 * per) (here : from ≡ i * per)
+        (fits : from + per ≤ length words) (long : length part ≡ per)
+        (so_far : Lit ws vs width per i row words) (up : RisenAll row row' part (at ws i) (at vs i) width per) where
       abbrev words' : List ℕ
       words' = take from words ++ (part ++ drop (from + per - from) (drop from words))
-
-      fits : from + per ≤ length words
-      fits = omega (arith, mul-le-mul_right per inside, suc-mul i per)
-
-      long : length part ≡ per
-      long = kept ∙ part_long words from per fits
-
-      up : RisenAll row row' part (at ws i) (at vs i) width per
-      up = rw (part_long words from per fits) at raised
 
       old_bit : (m c : ℕ) → m < i → c < 64 * per → bit words' (64 * (m * per) + c) ≡ bit words (64 * (m * per) + c)
       old_bit m c h l =
@@ -74,7 +62,7 @@ module _ (ws vs : List ℕ) where
       new_bit : (c : ℕ) → c < 64 * per → bit words' (64 * (i * per) + c) ≡ bit part c
       new_bit c l =
           bit_in words' (from + c / 64) (c % 64) (64 * (i * per) + c) (omega arith) (omega arith)
-          ∙ rw (put_at words from per fits part (c / 64) (omega (arith, long))) (sym (bit_in part (c / 64) (c % 64) c (omega arith) (omega arith)))
+          ∙ rw (put_at words from per fits part (c / 64) (omega arith)) (sym (bit_in part (c / 64) (c % 64) c (omega arith) (omega arith)))
 
       new_row : (c : ℕ) → c < width → at row' c ≡ row_after ws vs (suc i) c
       new_row c l = by c (at ws i)
@@ -84,8 +72,8 @@ module _ (ws vs : List ℕ) where
       new_set : (c : ℕ) → c < width → Tells (row_after ws vs i c < row_after ws vs (suc i) c) (bit words' (64 * (i * per) + c))
       new_set c l = rw (← so_far.cells c l, ← new_row c l, new_bit c (omega arith)) (up.set c l)
 
-      pub lit_more : Lit ws vs width per (i + 1) row' words'
-      lit_more = rw add-one (record {
+      pub lit_more : Lit ws vs width per (suc i) row' words'
+      lit_more = record {
         cells = new_row;
         set = λ m c h l. by m i
             (λ b. rw (old_bit m c b (omega arith)) (so_far.set m c b l))
@@ -98,6 +86,16 @@ module _ (ws vs : List ℕ) where
             (λ b.
             let place : from + (k - from) ≡ k = omega arith in
             let inside : k - from < per = omega (arith, suc-mul i per) in
-            subst (λ (x : ℕ). x < 2 ^ 64) (sym (ap (at words') (sym place) ∙ put_at words from per fits part (k - from) (omega (arith, long))))
+            subst (λ (x : ℕ). x < 2 ^ 64) (sym (ap (at words') (sym place) ∙ put_at words from per fits part (k - from) (omega arith)))
             (up.narrow (k - from) inside));
-      })
+      }
+
+    -- so of n labels, whose words are all that there are
+    pub lit_next : (n i : ℕ) (row row' words part : List ℕ) → width ≤ 64 * per → i < n → n * per ≡ length words → Lit ws vs width per i row words
+        → length part ≡ length (part_of words (i * per) per)
+        → RisenAll row row' part (at ws i) (at vs i) width (length (part_of words (i * per) per))
+        → Lit ws vs width per (i + 1) row' (take (i * per) words ++ (part ++ drop (i * per + per - i * per) (drop (i * per) words)))
+    lit_next n i row row' words part wide inside all so_far kept up =
+        let fits : i * per + per ≤ length words = omega (arith, mul-le-mul_right per inside, suc-mul i per) in
+        let long = part_long words (i * per) per fits in
+        rw add-one (lit_more i (i * per) row row' words part wide refl fits (kept ∙ long) so_far (rw long at up))

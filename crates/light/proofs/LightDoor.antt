@@ -23,36 +23,54 @@ use Rattle.rows.specs.Bounded.{Bounded}
 use Rattle.rows.proofs.Bounded.{bounded}
 use Rattle.light.specs.Packed.{PackedLight}
 
--- words for so few labels can be counted
+-- what a job keeps that is let in: its bounds, and room in all three slices
+pub record Ready (j : Job) (cells words picks : List ℕ) : Type 0 where
+  pub bounds : Bounded (j.budget + 1) j.weights j.values
+  pub cells_room : j.budget + 1 ≤ length cells
+  pub words_room : labels j * bit_words j ≤ length words
+  pub picks_room : labels j ≤ length picks
+  pub few : labels j ≤ most_labels
+
+pub ready : (j : Job) (cells words picks : List ℕ) → Unrefused (packing once) j (lent_of cells words picks) → Ready j cells words picks
+unfolding lent_of room_by once_room room_of rules_of knapsack_rules
+ready j cells words picks ok =
+    let lent = lent_of cells words picks in
+    let cleared = is_cleared (room_by Light (packing once) j) (packing once) j lent ok.no_refusal in
+    let keeps = kept (packing once) j lent ok in
+    record {
+      bounds = bounded once j (is_valid once j _ cleared.keeps);
+      cells_room = keeps.cells_room;
+      words_room = keeps.words_room;
+      picks_room = keeps.picks_room;
+      few = keeps.few;
+    }
+
+-- so the words can be counted
 pub few_words : (n budget : ℕ) → n ≤ most_labels → budget ≤ most_budget → n * (budget / 64 + 1) < 18_446_744_073_709_551_616
 unfolding most_labels most_budget
 few_words n budget h l =
     let per : budget / 64 + 1 ≤ 1_024 = omega arith in
     omega (arith, mul-le-mul h per)
 
--- what a job keeps that is let in: its bounds, and room in all three slices
-pub record Ready (budget : ℕ) (ws vs cells words picks : List ℕ) : Type 0 where
+-- the same of a job of kind 1, in the numbers and lists that it is made of
+pub record LightReady (budget : ℕ) (ws vs cells words picks : List ℕ) : Type 0 where
   pub bounds : Bounded (budget + 1) ws vs
   pub cells_room : budget + 1 ≤ length cells
   pub words_room : length ws * (budget / 64 + 1) ≤ length words
   pub picks_room : length ws ≤ length picks
   pub counted : length ws * (budget / 64 + 1) < 18_446_744_073_709_551_616
 
-pub ready : {budget : ℕ} {ws vs cells words picks : List ℕ}
-    → Unrefused (packing once) (job_of 1 (budget ∷ []) ws vs []) (lent_of cells words picks) → Ready budget ws vs cells words picks
-unfolding job_of labels lent_of room_by once_room room_of rules_of knapsack_rules
-ready {budget} {ws} {vs} {cells} {words} {picks} ok =
-    let j = job_of 1 (budget ∷ []) ws vs [] in
-    let lent = lent_of cells words picks in
-    let cleared = is_cleared (room_by Light (packing once) j) (packing once) j lent ok.no_refusal in
-    let keeps = kept (packing once) j lent ok in
-    let within = bounded once j (is_valid once j _ cleared.keeps) in
+pub light_ready : {budget : ℕ} {ws vs cells words picks : List ℕ}
+    → Unrefused (packing once) (job_of 1 (budget ∷ []) ws vs []) (lent_of cells words picks) → LightReady budget ws vs cells words picks
+unfolding job_of labels
+light_ready {budget} {ws} {vs} {cells} {words} {picks} ok =
+    let keeps = ready (job_of 1 (budget ∷ []) ws vs []) cells words picks ok in
     record {
-      bounds = within;
+      bounds = keeps.bounds;
       cells_room = keeps.cells_room;
       words_room = keeps.words_room;
       picks_room = keeps.picks_room;
-      counted = few_words (length ws) budget keeps.few (omega (arith, within.narrow));
+      counted = few_words (length ws) budget keeps.few (omega (arith, keeps.bounds.narrow));
     }
 
 -- the row, the words and the picks that were written, over what the slices held

@@ -1,10 +1,15 @@
--- The numbers of each answer, verdict and report, from Rattle and from C: 0 in every number that its case hasn't got; and ways that are many.
+-- The numbers of each answer, verdict and report, from Rattle and from C: 0 in every number that its case hasn't got; and ways that are many; and what
+-- is said by what was handed back.
 -- Assumes nothing.
-use mathlib.Core.Path.{refl}
+use mathlib.Core.Path.{◌≡◌, refl}
 use Prim.Native.Nat.{ℕ}
 use mathlib.Core.Bool.{false, true}
 use mathlib.Core.List.{[], ◌∷◌}
-use Rattle.meaning.specs.Says.{Answer}
+use Rattle.std.specs.Prelude.{Err, Ok}
+use Rattle.meaning.specs.declared.Answer.{Answer as Given}
+use Rattle.meaning.specs.declared.Refusal.{Refusal}
+use Rattle.meaning.specs.Refusing.{number_of}
+use Rattle.meaning.specs.Says.{Answer, given, said, said_by}
 use Rattle.meaning.specs.Says as Says
 use Rattle.meaning.specs.Judges.{Accepted, Refused}
 use Rattle.meaning.specs.Reports as Reports
@@ -14,6 +19,16 @@ use Rattle.meaning.specs.Solved.{ways_answer}
 use Rattle.meaning.specs.Host.{first_number, refusal_number, second_number, value_or_place}
 use Rattle.meaning.proofs.Opens.{opens}
 use Rattle.meaning.proofs.Computing.{Computes, ◌gives◌}
+
+-- what is handed back says its answer, a reason its number, and a number itself
+said_answer : (a : Given) → said (Ok a) ≡ given a
+said_answer a = refl
+
+said_reason : (why : Refusal) → said (Err why) ≡ Says.Refused (number_of why)
+said_reason why = refl
+
+said_number : (n : ℕ) → said_by (λ number. number) (Err n) ≡ Says.Refused n
+said_number n = refl
 
 answer_numbers_lem : Computes answer_numbers (
     Says.Refused 5 gives record { case = is_refusal; refusal = 5; value = 0; weight = 0; yes = 0; totals = 0; blocks = 0; ways = 0; spare = 0; exact = 0 }

@@ -50,6 +50,8 @@ pub mod StatedPromise
 pub mod Searches
 pub mod Valid
 pub mod SolvedIn
+-- no second choice is left of what the code hands back
+pub mod HandedBack
 pub mod Covering
 pub mod ExactCells
 pub mod Verdicts

@@ -21,7 +21,11 @@ given (Gives.Ways ways) = Ways ways
 given (Gives.Shares spare) = Shares spare
 given (Gives.Weight weight) = Weight weight
 
+-- what is said by what was handed back, a refusal by the number that its error names
+abbrev pub said_by : {R : Type 0} → (R → ℕ) → Result Given R → Answer
+said_by number (Ok answer) = given answer
+said_by number (Err why) = Refused (number why)
+
 -- what is said by what was handed back
 abbrev pub said : Result Given Refusal → Answer
-said (Ok answer) = given answer
-said (Err why) = Refused (number_of why)
+said answer = said_by number_of answer

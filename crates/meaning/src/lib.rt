@@ -2,7 +2,7 @@
 // specs/Says, Judges, Reports and Hands.
 #![tactic(auto)]
 
-ghost use Rattle.std.specs.Prelude.{◌≡◌};
+ghost use Rattle.std.specs.Prelude.{ℕ, ◌≡◌};
 ghost use Rattle.meaning.specs.Refusing.{number_of};
 
 // Why a request is turned down: document 01's refusals, with their numbers.
@@ -30,6 +30,32 @@ impl Refusal {
         ensures { result ≡ number_of self }
     {
         self as u32
+    }
+}
+
+// What a refusal may be handed over as, and the number that it names.
+pub trait Numbered: Copy {
+    ghost numbered: { Self → ℕ };
+
+    fn number(self) -> u32
+        ensures { result ≡ numbered self };
+}
+
+// A reason names its number.
+impl Numbered for Refusal {
+    ghost numbered = { number_of };
+
+    fn number(self) -> u32 {
+        Refusal::number(self)
+    }
+}
+
+// A number names itself, be it the document's or not.
+impl Numbered for u32 {
+    ghost numbered = { λ number. number };
+
+    fn number(self) -> u32 {
+        self
     }
 }
 

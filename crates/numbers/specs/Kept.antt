@@ -1,11 +1,9 @@
 -- A list of numbers, however it came.
 -- Assumes nothing.
 use Rattle.std.specs.Prelude.{ℕ, List}
-use Rattle.meaning.specs.Bytes.{numbers_in}
+use Rattle.numbers.specs.TwoSlices.{list_from}
 use Rattle.numbers.specs.declared.Kept.{Kept}
-use Rattle.numbers.specs.declared.Kept.TheVariants.{Listed, Packed}
 
 -- the numbers that came so
 abbrev pub numbers_of : Kept → List ℕ
-numbers_of (Listed numbers) = numbers.now
-numbers_of (Packed bytes) = numbers_in bytes.now
+numbers_of kept = list_from kept.numbers.now kept.bytes.now

@@ -5,6 +5,7 @@
 ghost use Rattle.std.specs.Prelude.{◌≡◌, ℕ, ◌+◌, ◌*◌, ◌≤◌, ◌<◌, length};
 ghost use Rattle.meaning.specs.Lists.{at};
 ghost use Rattle.meaning.specs.Bytes.{number_at, numbers_in, is_needed, read_section, bytes_of, section_bytes};
+ghost use Rattle.numbers.specs.TwoSlices.{list_from};
 ghost use Rattle.numbers.specs.Sections.{section_in, part_read};
 ghost use Rattle.numbers.specs.Placed.{HoldsAt, SectionWritten};
 
@@ -35,11 +36,11 @@ pub fn number_in(bytes: &[u8], i: usize) -> u32
 
 // ---- a list, however it came
 
-// How a list came: as numbers, or in a part of the job bytes.
+// How a list came: as numbers, in a part of the job bytes, or the first of it as numbers and the rest in bytes. The part that it hasn't is empty.
 #[derive(Clone, Copy)]
-enum Kept<'a> {
-    Listed(&'a [u32]),
-    Packed(&'a [u8]),
+struct Kept<'a> {
+    numbers: &'a [u32],
+    bytes: &'a [u8],
 }
 
 // A list of numbers. In a clause it is that list, and how it came can't be told.
@@ -66,15 +67,21 @@ impl<'a> Numbers<'a> {
     pub fn listed(numbers: &'a [u32]) -> Numbers<'a>
         ensures { result ≡ numbers.now }
     {
-        let kept = Kept::Listed(numbers);
-        Numbers { kept }
+        Numbers::joined(numbers, &[])
     }
 
     // The list that stands in bytes, which aren't copied.
     pub fn packed(bytes: &'a [u8]) -> Numbers<'a>
         ensures { result ≡ numbers_in bytes.now }
     {
-        let kept = Kept::Packed(bytes);
+        Numbers::joined(&[], bytes)
+    }
+
+    // The list that begins as numbers and goes on in bytes. Nothing is copied here either.
+    pub fn joined(numbers: &'a [u32], bytes: &'a [u8]) -> Numbers<'a>
+        ensures { result ≡ list_from numbers.now bytes.now }
+    {
+        let kept = Kept { numbers, bytes };
         Numbers { kept }
     }
 
@@ -82,20 +89,23 @@ impl<'a> Numbers<'a> {
     pub fn len(&self) -> usize
         ensures { result ≡ length self.now }
     {
-        match self.kept {
-            Kept::Listed(numbers) => numbers.len(),
-            Kept::Packed(bytes) => bytes.len() / 4,
-        }
+        let numbers = self.kept.numbers;
+        let bytes = self.kept.bytes;
+        numbers.len() + bytes.len() / 4
     }
 
-    // The number at place i.
+    // The number at place i. No branch is on how the list came, so that a list in bytes is read as fast as if there were no other.
     pub fn at(&self, i: usize) -> u32
         requires { i < length self.now }
         ensures { result ≡ at self.now i }
     {
-        match self.kept {
-            Kept::Listed(numbers) => numbers[i],
-            Kept::Packed(bytes) => number_in(bytes, i),
+        let numbers = self.kept.numbers;
+        let bytes = self.kept.bytes;
+        let n = numbers.len();
+        if i < n {
+            numbers[i]
+        } else {
+            number_in(bytes, i - n)
         }
     }
 }

@@ -236,15 +236,21 @@ weights_alone {k = k} kind budget ws vs cs no-values no_copies by none =
 
 -- ---- the arm of a kind that isn't kind 1, whichever way kind 1 goes
 
--- by its own number, with q
-pub of_arm : (way : Way) (j : Came) (m : ℕ) (before after : Lent) (a : Answer) → j.kind ≡ m → ¬ (m ≡ 1)
+-- `job` has its kind's number, which is m, and the arm takes it as `bare`
+pub of_arm : (way : Way) (job : ℕ → Job) (m kind : ℕ) {bare : Job} (before after : Lent) (a : Answer) → ((k : ℕ) → (job k).kind_number ≡ k)
+    → kind ≡ m → ¬ (m ≡ 1) → bare ≡ job m → SolvedBy Light bare before a after → SolvedBy way (job kind) before a after
+of_arm way job m kind before after a numbered is not-1 same h =
+    rw is (either_way {way = Light} way (job m) before after a (λ one. not-1 (sym (numbered m) ∙ one)) (rw same at h))
+
+-- a job that came, with its q
+pub of_arm_with : (way : Way) (j : Came) (m : ℕ) (before after : Lent) (a : Answer) → j.kind ≡ m → ¬ (m ≡ 1)
     → SolvedBy Light (job_of m (j.budget ∷ j.q ∷ []) j.weights j.values j.copies) before a after → SolvedBy way (job_in j) before a after
 unfolding job_of
-of_arm way j m before after a is not-1 h =
-    rw is (either_way {way = Light} way (job_of m (j.budget ∷ j.q ∷ []) j.weights j.values j.copies) before after a (λ one. not-1 one) h)
+of_arm_with way j m before after a is not-1 h =
+    of_arm way (λ k. job_of k (j.budget ∷ j.q ∷ []) j.weights j.values j.copies) m j.kind before after a (λ k. refl) is not-1 refl h
 
 -- and a kind that has no q doesn't look at it
 pub of_arm_without : (way : Way) (j : Came) (m : ℕ) (before after : Lent) (a : Answer) → j.kind ≡ m → ¬ (m ≡ 1) → ¬ (m ≡ 9)
     → SolvedBy Light (job_as m j) before a after → SolvedBy way (job_in j) before a after
 of_arm_without way j m before after a is not-1 not-9 h =
-    of_arm way j m before after a is not-1 (rw (q_ignored m j.weights j.values j.copies not-9 j.budget j.q) at h)
+    of_arm_with way j m before after a is not-1 (rw (q_ignored m j.weights j.values j.copies not-9 j.budget j.q) at h)

@@ -9,8 +9,6 @@ use Rattle.meaning.specs.Says as Says
 use Rattle.meaning.specs.declared.Way.{Way}
 use Rattle.meaning.specs.Job.{job_of, labels}
 use Rattle.meaning.specs.Lent.{Lent}
-use Rattle.numbers.specs.declared.Job.{Job}
-use Rattle.numbers.specs.Lists.{job_in}
 use Rattle.meaning.specs.Bytes.{read_job, readable, unreadable}
 use Rattle.meaning.specs.Solved.{SolvedBy}
 use Rattle.meaning.specs.Told.{ToldBy, kind_read, labels_read}
@@ -23,11 +21,12 @@ unfolding kind_read labels_read
 told_unread b before {place} e = record { solved = solved_unreadable b place before e; kind_told = rw e; labels_told = rw e }
 
 -- others tell of the job that they are read as
-pub told_read : {way : Way} (b : List ℕ) (j : Job) (before after : Lent) (a : Answer) (n : ℕ) → read_job b ≡ readable (job_in j)
-    → n ≡ length j.weights → SolvedBy way (job_in j) before a after → ToldBy way b before j.kind n a after
+pub told_read : {way : Way} (b : List ℕ) (kind : ℕ) (budgets ws vs cs : List ℕ) (before after : Lent) (a : Answer) (n : ℕ)
+    → read_job b ≡ readable (job_of kind budgets ws vs cs) → n ≡ length ws → SolvedBy way (job_of kind budgets ws vs cs) before a after
+    → ToldBy way b before kind n a after
 unfolding kind_read labels_read job_of labels
-told_read b j before after a n reads counted solved = record {
-  solved = solved_bytes b (job_in j) before after a reads solved;
+told_read b kind budgets ws vs cs before after a n reads counted solved = record {
+  solved = solved_bytes b (job_of kind budgets ws vs cs) before after a reads solved;
   kind_told = rw reads;
   labels_told = rw (reads, counted);
 }

@@ -4,6 +4,8 @@ use Prim.Native.Nat.{ℕ}
 use mathlib.Core.Path.{◌≡◌, refl}
 use mathlib.Core.Bool.{true, false}
 use mathlib.Core.List.{List, [], ◌∷◌}
+use Rattle.std.specs.Prelude.{Err}
+use Rattle.meaning.specs.Says.{said_by}
 use Rattle.meaning.specs.Says as Says
 use Rattle.meaning.specs.Lists.{if}
 use Rattle.print.specs.Lines.{ascii, decimal_within, decimal_of, after_blank, after_blanks, line, line_of, picks_line, head_lines, lines_of}
@@ -86,3 +88,9 @@ behind_f = refl
 pub refusal : (kind : ℕ) (picks : List ℕ) → lines_of kind (Says.Refused 4) picks ≡ ascii "refused 4\n"
 unfolding opens
 refusal kind picks = refl
+
+-- whatever names the number, and whichever number it is
+named_refusal : {R : Type 0} (number : R → ℕ) (why : R) (kind : ℕ) (picks : List ℕ)
+    → lines_of kind (said_by number (Err why)) picks ≡ line_of (ascii "refused") (number why)
+unfolding opens
+named_refusal number why kind picks = refl

@@ -3,13 +3,13 @@
 #![tactic(auto)]
 
 ghost use Rattle.std.specs.Prelude.{◌+◌, ◌≤◌, length};
-ghost use Rattle.meaning.specs.Says.{given, said};
+ghost use Rattle.meaning.specs.Says.{given, said_by};
 ghost use Rattle.numbers.specs.Placed.{WrittenAt};
 ghost use Rattle.print.specs.Lines.{after_blank, line_of, picks_line, head_lines};
 ghost use Rattle.print.specs.Lines.{refused_lines, knapsack_lines, sums_lines, ways_lines, number_and_picks, lines_of};
 ghost use Rattle.print.specs.Puts.{PutFirst};
 
-use meaning::{Answer, Refusal};
+use meaning::{Answer, Numbered};
 
 // Puts bytes at p, and gives the place after them.
 #[tactic(auto, unfolding(numbers::specs::Placed::HoldsAt))]
@@ -123,11 +123,16 @@ fn put_answer(out: &mut [u8], kind: u32, answer: Answer, picks: &[u32]) -> usize
     }
 }
 
-// Puts all lines of an answer to a job of this kind, or of its refusal, at the start of a slice, and gives how long they are: at most 128 bytes, and
-// 21 for each pick.
-pub fn text(kind: u32, answer: Result<Answer, Refusal>, picks: &[u32], out: &mut [u8]) -> usize
-    requires { length (lines_of kind (said answer) picks.now) ≤ length out.old }
-    ensures { PutFirst (lines_of kind (said answer) picks.now) out.old out.new result }
+// Puts all lines of an answer to a job of this kind, or of its refusal, whatever names its number, at the start of a slice, and gives how long they
+// are: at most 128 bytes, and 21 for each pick.
+pub fn text<R: Numbered>(
+    kind: u32,
+    answer: Result<Answer, R>,
+    picks: &[u32],
+    out: &mut [u8],
+) -> usize
+    requires { length (lines_of kind (said_by R.numbered answer) picks.now) ≤ length out.old }
+    ensures { PutFirst (lines_of kind (said_by R.numbered answer) picks.now) out.old out.new result }
 {
     match answer {
         Ok(answer) => put_answer(out, kind, answer, picks),

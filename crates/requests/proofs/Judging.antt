@@ -13,12 +13,14 @@ use lib.Seq.{drop-cons}
 use borrow.Author.Tests.{le-leb, lt-leb, lt-ltb}
 use Rattle.meaning.specs.Lists.{at, if, sum, every}
 use Rattle.meaning.specs.Job.{Job, Knapsack, job_of, labels}
+use Rattle.meaning.specs.Bytes.{numbers_in}
 use Rattle.meaning.specs.Refusals as meaning
 use Rattle.meaning.specs.Bounds.{most_value, most_copies, least_copies, least_q, most_q}
 use Rattle.meaning.specs.Refusals.{ascending_from, bounds_fit, each_within, job_refusal, knapsack_rules, least_value, lists_fit, positive, numbers_fit, q_fits}
 use Rattle.meaning.proofs.Loops.{and_assoc, and_true, every_joined, every_step}
 use Rattle.numbers.specs.declared.Job.{Job as Came}
 use Rattle.numbers.specs.Lists.{job_as}
+use Rattle.numbers.specs.TwoSlices.{list_from}
 use Rattle.rules.specs.declared.Rules.{Rules}
 use Rattle.rules.specs.Ruling.{rules_from, rule_from}
 use Rattle.requests.specs.Judging.{EachWithin}
@@ -54,6 +56,12 @@ module _ (low high : ℕ) where
     within = rw (a.within, b.within) (sym (every_joined (λ x. leb low x && leb x high) xs ys));
     up_from = λ e. rw (a.up_from e, b.up_from e) (sym (every_joined (leb low) xs ys));
   }
+
+  -- a list that is handed over as numbers and bytes, by the tests of both
+  pub both_tested : (numbers bytes : List ℕ) (r s : Bool) → EachWithin low high numbers r → EachWithin low high (numbers_in bytes) s
+      → EachWithin low high (list_from numbers bytes) (r && s)
+  unfolding list_from
+  both_tested numbers bytes r s a b = joined numbers (numbers_in bytes) r s a b
 
 -- the test by bounds that are these
 pub within_as : {low high least most : ℕ} {xs : List ℕ} {r : Bool} → low ≡ least → high ≡ most → EachWithin low high xs r

@@ -9,13 +9,31 @@ use borrow.Author.Tests.{lt-ltb, le-ltb}
 use Rattle.std.specs.Prelude.{Result, Some, None, Ok, Err}
 use Rattle.meaning.specs.Lists.{at, if}
 use Rattle.meaning.specs.Job.{budget_count, job_of}
-use Rattle.meaning.specs.Bytes.{JobRead, Needed, at_end, numbers_in, read_job, read_section, readable, unreadable, with_section}
+use Rattle.meaning.specs.Bytes.{JobRead, Needed, Section, at_end, between, numbers_in, read_job, read_section, readable, unreadable, with_section}
 use Rattle.meaning.proofs.Budgets.{same_budgets, two_budgets}
+use Rattle.meaning.proofs.Numbers.{section_found}
 use Rattle.numbers.specs.declared.Job.{Job}
 use Rattle.numbers.specs.Lists.{job_in}
-use Rattle.numbers.specs.Sections.{section_in}
+use Rattle.numbers.specs.TwoSlices.{job_from}
+use Rattle.numbers.specs.Sections.{part_of, section_in}
 use Rattle.numbers.proofs.Parts.{reads_on, reads_no_more}
-use Rattle.requests.specs.Reading.{ReadAs}
+use Rattle.requests.specs.declared.Parts.{Parts}
+use Rattle.requests.specs.Reading.{PartsOf, ReadAs, ReadInParts, Within, broken_of, bytes_at}
+
+-- ---- one section
+
+-- where the section that was read breaks, the job does
+pub breaks : (b : List ℕ) {section found : Section} {place : ℕ} {r : Result Parts ℕ} → found ≡ section → found ≡ Err place
+    → (section ≡ Err place → read_job b ≡ unreadable place) → r ≡ broken_of found → ReadInParts b r
+unfolding ReadInParts broken_of
+breaks b e f broke g = rw (g, f) (broke (sym e ∙ f))
+
+-- the part of a section
+pub within : (needed : Needed) (b : List ℕ) (p start count next : ℕ) → read_section needed b p ≡ Ok (start, count, next)
+    → Within b (record { start = start; end = next })
+within needed b p start count next e =
+    let f = section_found needed b p start count next e in
+    record { ordered = omega (arith, f.ends); inside = f.inside }
 
 -- ---- all five sections: what is read after so many of them
 
@@ -23,6 +41,17 @@ module _ (b : List ℕ) where
   -- the section at place p is whole: its part of the bytes, and the place after it
   abbrev pub Whole : Needed → ℕ → List ℕ → ℕ → Type 0
   Whole needed p part next = section_in needed b p ≡ Ok (part, next)
+
+  -- the same by the places of its part
+  pub whole : (needed : Needed) (p : ℕ) {start count next : ℕ} → read_section needed b p ≡ Ok (start, count, next)
+      → Whole needed p (between b start next) next
+  unfolding section_in
+  whole needed p e = ap (part_of b) e
+
+  -- or where it breaks
+  pub cut : (needed : Needed) (p : ℕ) {place : ℕ} → read_section needed b p ≡ Err place → section_in needed b p ≡ Err place
+  unfolding section_in
+  cut needed p e = ap (part_of b) e
 
   abbrev after_copies : ℕ → List ℕ → List ℕ → List ℕ → List ℕ → ℕ → JobRead
   after_copies kind budgets weights values copies p = at_end b p unreadable (readable (job_of kind budgets weights values copies))
@@ -104,6 +133,12 @@ module _ (b : List ℕ) where
                   ap (at (numbers_in budgets)) (sym second) ∙ sym last)))
 
 -- ---- what was read, for those who took its case
+
+-- the job with the lists that are cut out of the bytes is the one that they are read as
+pub lists_cut : (b : List ℕ) {parts : Parts} {weights values copies : List ℕ} → PartsOf b parts
+    → weights ≡ bytes_at b parts.weights → values ≡ bytes_at b parts.values → copies ≡ bytes_at b parts.copies
+    → read_job b ≡ readable (job_from parts.kind (parts.budget ∷ parts.q ∷ []) [] weights [] values [] copies)
+lists_cut b p weights-are values-are copies-are = rw (weights-are, values-are, copies-are) p.read
 
 pub unread : (b : List ℕ) {r : Result Job ℕ} {place : ℕ} → r ≡ Err place → ReadAs b r → read_job b ≡ unreadable place
 unfolding ReadAs

@@ -14,7 +14,8 @@ use Rattle.numbers.specs.declared.Job.{Job}
 use Rattle.numbers.specs.Lists.{job_as, job_in}
 use Rattle.rules.specs.declared.Rules.{Rules}
 use Rattle.rules.specs.Ruling.{rules_from}
-use Rattle.requests.specs.Reading.{ReadAs}
+use Rattle.requests.specs.declared.Parts.{Parts}
+use Rattle.requests.specs.Reading.{ReadAs, ReadInParts, job_at}
 
 -- `job_refusal`
 pub job_refusal_unique : (rules : Rules) (job : Job) (r r' : Result Unit Refusal)
@@ -37,3 +38,19 @@ told b (Err place) broken = broken
 -- both tell of one job, or of one place where reading broke
 pub one_job_read : (b : List ℕ) (r r' : Result Job ℕ) → ReadAs b r → ReadAs b r' → told_by r ≡ told_by r'
 one_job_read b r r' h h' = sym (told b r h) ∙ told b r' h'
+
+-- ---- `read_parts` leaves a choice: a list may stand in any part that holds its numbers. What it was read as has none
+
+-- the job in these parts of the bytes, or where reading broke
+unfoldable pub told_in_parts : List ℕ → Result Parts ℕ → JobRead
+told_in_parts b (Ok parts) = readable (job_at b parts)
+told_in_parts b (Err place) = unreadable place
+
+told_there : (b : List ℕ) (r : Result Parts ℕ) → ReadInParts b r → read_job b ≡ told_in_parts b r
+unfolding ReadInParts told_in_parts
+told_there b (Ok parts) h = h.read
+told_there b (Err place) broken = broken
+
+-- both tell of one job, or of one place where reading broke
+pub one_job_in_parts : (b : List ℕ) (r r' : Result Parts ℕ) → ReadInParts b r → ReadInParts b r' → told_in_parts b r ≡ told_in_parts b r'
+one_job_in_parts b r r' h h' = sym (told_there b r h) ∙ told_there b r' h'

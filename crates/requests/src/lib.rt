@@ -10,7 +10,7 @@ ghost use Rattle.meaning.specs.Refusing.{refused};
 ghost use Rattle.meaning.specs.Refusals.{ascending_from, numbers_fit, job_refusal};
 ghost use Rattle.numbers.specs.Lists.{job_as};
 ghost use Rattle.rules.specs.Ruling.{rules_from, rule_from};
-ghost use Rattle.requests.specs.Reading.{ReadAs};
+ghost use Rattle.requests.specs.Reading.{ReadAs, ReadInParts, Within, bytes_at};
 ghost use Rattle.requests.specs.Judging.{EachWithin};
 
 use meaning::Refusal;
@@ -19,24 +19,80 @@ use rules::{Rules, WeightRule};
 
 // ---- refusal 1
 
+// Where the numbers of a list stand in the job bytes: from a place up to another.
+#[derive(Clone, Copy)]
+pub struct Part {
+    pub start: usize,
+    pub end: usize,
+}
+
+// What job bytes that can be read tell: the kind, the budget, q, and where the numbers of each list stand. Where the kind has no q, its number
+// stands for nothing.
+#[derive(Clone, Copy)]
+pub struct Parts {
+    pub kind: u32,
+    pub budget: u32,
+    pub q: u32,
+    pub weights: Part,
+    pub values: Part,
+    pub copies: Part,
+}
+
 // Reads job bytes, section by section; or gives the place where reading broke. Of two budgets q is the last.
-pub fn read_job(job: &[u8]) -> Result<Job<'_>, usize>
-    ensures { ReadAs job.now result }
+pub fn read_parts(job: &[u8]) -> Result<Parts, usize>
+    ensures { ReadInParts job.now result }
 {
     let (kinds, kinds_end) = numbers::section(job, 0, Some(1))?;
     let kind = numbers::number_in(kinds, 0);
     let count = rules::budget_count(kind);
     let (budgets, budgets_end) = numbers::section(job, kinds_end, Some(count))?;
-    let (weights, weights_end) = numbers::section(job, budgets_end, None)?;
-    let (values, values_end) = numbers::section(job, weights_end, None)?;
-    let (copies, copies_end) = numbers::section(job, values_end, None)?;
+    let (weights, _, weights_end) = numbers::read_section(job, budgets_end, None)?;
+    let (values, _, values_end) = numbers::read_section(job, weights_end, None)?;
+    let (copies, _, copies_end) = numbers::read_section(job, values_end, None)?;
     if copies_end < job.len() {
         return Err(copies_end);
     }
-    Ok(Job {
+    Ok(Parts {
         kind,
         budget: numbers::number_in(budgets, 0),
         q: numbers::number_in(budgets, count as usize - 1),
+        weights: Part {
+            start: weights,
+            end: weights_end,
+        },
+        values: Part {
+            start: values,
+            end: values_end,
+        },
+        copies: Part {
+            start: copies,
+            end: copies_end,
+        },
+    })
+}
+
+// The bytes of a list: a part of the job, and no copy of it.
+pub fn bytes_at(bytes: &[u8], part: Part) -> &[u8]
+    requires { Within bytes.now part }
+    ensures { result.now ≡ bytes_at bytes.now part }
+{
+    let start = part.start;
+    let end = part.end;
+    &bytes[start..end]
+}
+
+// The job that was read, with its lists in their parts of the bytes; or the place where reading broke.
+pub fn read_job(job: &[u8]) -> Result<Job<'_>, usize>
+    ensures { ReadAs job.now result }
+{
+    let parts = read_parts(job)?;
+    let weights = bytes_at(job, parts.weights);
+    let values = bytes_at(job, parts.values);
+    let copies = bytes_at(job, parts.copies);
+    Ok(Job {
+        kind: parts.kind,
+        budget: parts.budget,
+        q: parts.q,
         weights: Numbers::packed(weights),
         values: Numbers::packed(values),
         copies: Numbers::packed(copies),

@@ -10,7 +10,7 @@ use lib.ListN.{length, set, drop, length-set}
 use lib.Seq.{get_or-set_same, get_or-set_other, drop-cons, drop-set-lt, lt-length-set}
 use Rattle.meaning.specs.Lists.{at}
 use Rattle.meaning.specs.Bounds.{most_value}
-use Rattle.rows.specs.Rows.{Joined, Swept, Stored, FirstAlone}
+use Rattle.rows.specs.Rows.{Joined, Swept, Stored, FirstAlone, Capped}
 
 -- by cases, a below b or not; the numbers come first, so that what each case is handed is known
 pub by : {C : Type 0} (a b : ℕ) → (a < b → C) → (b ≤ a → C) → C
@@ -139,7 +139,7 @@ module _ (rule : ℕ → ℕ → ℕ) (s : List ℕ) (w : ℕ) where
   swept_none c = record { made = λ k l h. absurd (omega arith); before = λ k l. refl; past = λ k l. refl }
 
   -- one cell more
-  swept_more : (t : List ℕ) (lo c x : ℕ) → c < length t → 1 ≤ w → w ≤ lo → lo ≤ c → Swept rule s t w lo c
+  pub swept_more : (t : List ℕ) (lo c x : ℕ) → c < length t → 1 ≤ w → w ≤ lo → lo ≤ c → Swept rule s t w lo c
       → x ≡ rule (at t c) (at t (c - w)) → Swept rule s (set t c x) w lo (c + 1)
   swept_more t lo c x inside pos light h d e =
       let same : (k : ℕ) → k < c → at (set t c x) k ≡ at t k = λ k l. at_other t c x k (omega arith) in
@@ -207,3 +207,14 @@ module _ (rule : ℕ → ℕ → ℕ) (s : List ℕ) (w lo hi : ℕ) where
 pub capped_more : (x y c w v : ℕ) → x ≤ most_value * c → w ≤ c → y ≤ most_value * (c - w) → v ≤ most_value * w → max x (y + v) ≤ most_value * c
 unfolding most_value
 capped_more x y c w v hx h hy hv = omega arith
+
+-- a capped row with one cell stored that was raised by a label
+pub capped_raised : (t : List ℕ) (c x w v width : ℕ) → c < length t → c < width → w ≤ c → v ≤ most_value * w → Capped (at t) width
+    → x ≡ max (at t c) (at t (c - w) + v) → Capped (at (set t c x)) width
+unfolding Capped
+capped_raised t c x w v width inside here light cheap capped e k l =
+    let more = capped_more (at t c) (at t (c - w)) c w v (capped c here) light (capped (c - w) (omega arith)) cheap in
+    by k c (λ b. rw (at_other t c x k (omega arith)) (capped k l))
+    (λ b. by c k
+    (λ b'. rw (at_other t c x k (omega arith)) (capped k l))
+    (λ b'. let same : k ≡ c = omega arith in rw (same, at_same t c x c inside refl, e) more))

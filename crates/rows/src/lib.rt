@@ -118,7 +118,7 @@ fn add_parts(row: &mut [u32], w: u32, v: u32, most: u32)
 }
 
 // A stretch of a row from small budgets up: a label of weight w and value v is added as often as it may be.
-#[tactic(auto, using(crate::proofs::Stores::capped_more), unfolding(crate::specs::Rows::Capped, meaning::specs::Bounds::most_budget, meaning::specs::Bounds::most_value))]
+#[tactic(auto, unfolding(crate::specs::Rows::Capped, meaning::specs::Bounds::most_budget, meaning::specs::Bounds::most_value))]
 fn raise_stretch(row: &mut [u32], from: usize, to: usize, w: usize, v: u32)
     requires le_w { (1 ≤ w) × ((w ≤ from) × ((from ≤ to) × (to ≤ length row.old))) }
     requires v_bound { (v ≤ most_value * w) × ((length row.old ≤ most_budget + 1) × Capped (at row.old) (length row.old)) }

@@ -62,11 +62,16 @@ holds j {budget} {claims} {claimed} is (summed, positive) =
     record { budget_is = ap (λ (k : Job). k.budget) is; claims_are = kept; summed = all; positive = omega arith }
 
 -- the product of C and claim i over S: its whole part, and what it leaves
-pub over_claimed : (j : Job) {budget : ℕ} {claims : List ℕ} {claimed : ℕ} → Holds j budget claims claimed → (i product claim : ℕ)
-    → product ≡ budget * claim → claim ≡ at claims i → (product / claimed ≡ start_of j i) × (product % claimed ≡ remainder_of j i)
+pub over_claimed : (j : Job) (i product claim claimed : ℕ) → product ≡ j.budget * claim → claim ≡ at j.weights i → claimed ≡ sum j.weights
+    → (product / claimed ≡ start_of j i) × (product % claimed ≡ remainder_of j i)
 unfolding start_of remainder_of
-over_claimed j h i product claim made read =
-    (rw (made, read, h.budget_is, h.claims_are, h.summed), rw (made, read, h.budget_is, h.claims_are, h.summed))
+over_claimed j i product claim claimed made read summed = (rw (made, read, summed), rw (made, read, summed))
+
+-- by what is kept of the job
+pub over_kept : (j : Job) {budget : ℕ} {claims : List ℕ} {claimed : ℕ} → Holds j budget claims claimed → (i product claim : ℕ)
+    → product ≡ budget * claim → claim ≡ at claims i → (product / claimed ≡ start_of j i) × (product % claimed ≡ remainder_of j i)
+over_kept j {claimed = claimed} h i product claim made read =
+    over_claimed j i product claim claimed (rw h.budget_is at made) (rw h.claims_are at read) h.summed
 
 -- a remainder is below S
 pub remainder_within : (j : Job) (i : ℕ) → 0 < sum j.weights → remainder_of j i < sum j.weights
@@ -100,7 +105,7 @@ module _ (j : Job) where
       → product ≡ budget * claim → claim ≡ at claims i → start ≡ product / claimed → rest ≡ product % claimed
       → spare + sum (take i starts) ≡ j.budget → Begun i start rest spare
   begun h i product claim start rest spare inside made read whole_part left_over less =
-      let (whole_is, left_is) = over_claimed j h i product claim made read in
+      let (whole_is, left_is) = over_kept j h i product claim made read in
       let (fits, after) = spare_step h.positive i start spare inside (whole_part ∙ whole_is) less in
       record {
         start_is = whole_part ∙ whole_is;

@@ -124,7 +124,7 @@ impl<'a> Claims<'a> {
     }
 
     // The remainder of label i, by the start that is kept.
-    #[tactic(auto, using(crate::proofs::Starts::holds, crate::proofs::Starts::over_claimed), unfolding(meaning::specs::Job::labels, meaning::specs::Job::job_of))]
+    #[tactic(auto, using(crate::proofs::Starts::holds, crate::proofs::Starts::over_kept), unfolding(meaning::specs::Job::labels, meaning::specs::Job::job_of))]
     fn remainder_at(&self, i: usize, start: u32) -> u64
         requires inside { i < labels self.now }
         requires start_value { start ≡ start_of self.now i }

@@ -80,6 +80,10 @@ module _ (c : ℕ) (weights : List ℕ) where
       pub row_within : (i : ℕ) → i ≤ length weights → row_of c weights i * width + width ≤ size
       row_within i h = omega (arith, last_row, start_up i (length weights) h (le_refl (length weights)))
 
+      -- and so is each cell of it
+      pub cell_there : (i row t : ℕ) → i ≤ length weights → row ≡ row_of c weights i * width → t < width → row + t < size
+      cell_there i row t h here less = omega (arith, row_within i h, here)
+
       pub next_within : (i : ℕ) → i < length weights → at weights i ≤ c → row_of c weights i * width + width + width ≤ size
       next_within i h light = omega (arith, row_within (suc i) h, start_more i h light)
 

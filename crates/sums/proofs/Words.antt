@@ -146,6 +146,10 @@ pub record AddingBits (t₀ : List ℕ) (q r m₀ : ℕ) (t : List ℕ) (m : ℕ
   pub long : length t ≡ length t₀
   pub added : (s : List ℕ) (len : ℕ) → Added s t₀ (64 * q + r) m₀ len → Added s t (64 * q + r) m len
 
+-- no word yet
+pub adding_none : (t₀ : List ℕ) (q r m₀ : ℕ) → q < m₀ → m₀ ≤ length t₀ → AddingBits t₀ q r m₀ t₀ m₀
+adding_none t₀ q r m₀ h l = record { reached = h; within = l; long = refl; added = λ s len d. d }
+
 module _ (t₀ : List ℕ) (q r m₀ : ℕ) (some : 0 < r) (few : r < 64) (t : List ℕ) (m : ℕ) (d : AddingBits t₀ q r m₀ t m) where
   -- one word more
   pub adding_more : q + 1 < m → at t (m - 1 - q - 1) < 2 ^ 64

@@ -32,7 +32,6 @@ const FEW: usize = 16;
 
 // A label that weighs q words and r bits, in vectors. Few words don't take it here; of more, all do but the lowest that it reaches. Returns
 // the first that has. A word takes the bits of two, and the two aren't joined before: only so does the loop run in vectors.
-#[tactic(auto, using(crate::proofs::Words::bits_more))]
 fn add_in_vectors(words: &mut [u64], q: usize, r: usize) -> usize
     requires { (q < length words.old) × ((0 < r) × (r < 64)) }
     ensures { ((q < result) × (result ≤ length words.old))
@@ -51,7 +50,6 @@ fn add_in_vectors(words: &mut [u64], q: usize, r: usize) -> usize
 
 // A label that weighs q words and r bits: each word takes the bits of two, the lowest that it reaches those of one. Only few words are left
 // to this loop. The two are joined before a word takes them, which is one double shift and keeps the loop out of vectors.
-#[tactic(auto, using(crate::proofs::Words::bits_more, crate::proofs::Words::bits_all, rows::proofs::Bits::or_assoc))]
 fn add_bits(words: &mut [u64], q: usize, r: usize)
     requires { (q < length words.old) × ((0 < r) × (r < 64)) }
     ensures { Added words.old words.new (64 * q + r) 0 (length words.old) }

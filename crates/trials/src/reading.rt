@@ -21,9 +21,9 @@ pub fn find(text: &[u8], from: usize, byte: u8) -> usize
 
 // The number at a place, of its lowest 32 bits. With no digit it is 0.
 fn number_at(text: &[u8], from: usize) -> u32 {
-    let digits = text
+    // a part of the text and no `skip`, which would step through all that stands before
+    let digits = text[from.min(text.len())..]
         .iter()
-        .skip(from)
         .take_while(|byte| byte.is_ascii_digit());
     digits.fold(0u32, |value, digit| {
         value

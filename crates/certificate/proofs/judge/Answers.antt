@@ -7,7 +7,7 @@ use Rattle.meaning.specs.Certificates.{certificate_cells}
 use Rattle.verdicts.specs.Asked.{certified, knapsack_in}
 use Rattle.numbers.proofs.Parts.{part_long}
 use Rattle.certificate.proofs.Counting.{room_asked, few_labels, cells_needed, few_cells}
-use Rattle.certificate.proofs.Reading.{asked_as, picks_broken, cells_broken, left_over, all_read}
+use Rattle.certificate.proofs.Reading.{part_asked, picks_broken, cells_broken, left_over, all_read}
 use Rattle.certificate.proofs.judge.Goals as goal
 use Rattle.certificate.proofs.judge.Goals.{After-knapsack_room-needed}
 
@@ -28,7 +28,7 @@ overflow_cast-n c = omega (arith, few_labels c.requires _ (sym c.len-n.ensures))
 pub returns-in_default : goal.returns-in_default
 unfolding job_of labels
 returns-in_default c =
-    rw (c.from.ensures.0, c.from.ensures.1) (picks_broken _ _ _ (asked_as _ _ _ _ (sym c.len-n.ensures) c.in_default.ensures))
+    rw (c.from.ensures.0, c.from.ensures.1) (picks_broken _ _ _ (part_asked _ _ _ _ (sym c.len-n.ensures) c.in_default.ensures))
 
 pub overflow_cast-many : goal.overflow_cast-many
 unfolding job_of labels
@@ -38,15 +38,15 @@ pub returns-in_default-section : goal.returns-in_default-section
 unfolding job_of labels
 returns-in_default-section c =
     rw (c.from-in_default-section.ensures.0, c.from-in_default-section.ensures.1)
-    (cells_broken _ _ _ (asked_as _ _ _ _ (sym c.len-n.ensures) c.in-Ok.ensures)
-    (asked_as _ _ _ _ (needed (goal.at.returns-in_default-section c).After-knapsack_room-needed) c.in_default-section.ensures))
+    (cells_broken _ _ _ (part_asked _ _ _ _ (sym c.len-n.ensures) c.in-Ok.ensures)
+    (part_asked _ _ _ _ (needed (goal.at.returns-in_default-section c).After-knapsack_room-needed) c.in_default-section.ensures))
 
 pub returns-then-cells_end-certificate : goal.returns-then-cells_end-certificate
 unfolding job_of labels
 returns-then-cells_end-certificate c =
     rw (c.from-then-cells_end-certificate.ensures.0, c.from-then-cells_end-certificate.ensures.1)
-    (left_over _ _ _ (asked_as _ _ _ _ (sym c.len-n.ensures) c.in-Ok.ensures)
-    (asked_as _ _ _ _ (needed (goal.at.returns-then-cells_end-certificate c).After-knapsack_room-needed) c.in-Ok-section.ensures)
+    (left_over _ _ _ (part_asked _ _ _ _ (sym c.len-n.ensures) c.in-Ok.ensures)
+    (part_asked _ _ _ _ (needed (goal.at.returns-then-cells_end-certificate c).After-knapsack_room-needed) c.in-Ok-section.ensures)
     c.if-cells_end-certificate.true)
 
 pub judge_cells-requires-clause-cells_read : goal.judge_cells-requires-clause-cells_read
@@ -64,6 +64,6 @@ unfolding job_of labels
 returns c =
     c.judge_cells.ensures
     ∙ rw c.packed.ensures
-    (all_read _ _ _ (asked_as _ _ _ _ (sym c.len-n.ensures) c.in-Ok.ensures)
-    (asked_as _ _ _ _ (needed (goal.at.returns c).After-knapsack_room-needed) c.in-Ok-section.ensures)
+    (all_read _ _ _ (part_asked _ _ _ _ (sym c.len-n.ensures) c.in-Ok.ensures)
+    (part_asked _ _ _ _ (needed (goal.at.returns c).After-knapsack_room-needed) c.in-Ok-section.ensures)
     (omega arith))

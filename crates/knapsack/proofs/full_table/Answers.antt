@@ -14,7 +14,7 @@ use Rattle.knapsack.specs.Tables.{row_of}
 use Rattle.rows.specs.Traces.{TraceBack}
 use Rattle.rows.proofs.AnyRows.{one_row_more, trace_within}
 use Rattle.knapsack.proofs.FullRows.{some_back}
-use Rattle.knapsack.proofs.KnapsackDoor.{full_ready, limit_few, limit_may, packs_full}
+use Rattle.knapsack.proofs.KnapsackDoor.{full_ready, table_held, limit_few, limit_may, packs_full}
 use Rattle.knapsack.proofs.full_table.Goals as goal
 
 trace : (c : goal.After-slice_known-5-1)
@@ -32,14 +32,14 @@ overflow_add-needed c = omega (arith, (full_ready c.requires.let_in c.requires.k
 pub overflow_mul-needed : goal.overflow_mul-needed
 overflow_mul-needed c =
     let room : (c.len-n.result + 1) * (c.args.job.now.budget + 1) ≤ length c.args.cells.now =
-    rw c.len-n.ensures (full_ready c.requires.let_in c.requires.kind_bound).cells_room in
+    table_held _ _ _ _ _ _ _ _ c.requires.let_in c.requires.kind_bound c.len-n.ensures in
     omega (arith, room, c.well_formed)
 
 pub slice_bounds-fill-end : goal.slice_bounds-fill-end
-slice_bounds-fill-end c = rw c.len-n.ensures (full_ready c.requires.let_in c.requires.kind_bound).cells_room
+slice_bounds-fill-end c = table_held _ _ _ _ _ _ _ _ c.requires.let_in c.requires.kind_bound c.len-n.ensures
 
 pub slice_bounds-fill-end-2 : goal.slice_bounds-fill-end-2
-slice_bounds-fill-end-2 c = sym (length-take-le _ _ (rw c.len-n.ensures (full_ready c.requires.let_in c.requires.kind_bound).cells_room))
+slice_bounds-fill-end-2 c = sym (length-take-le _ _ (table_held _ _ _ _ _ _ _ _ c.requires.let_in c.requires.kind_bound c.len-n.ensures))
 
 pub fill-requires : goal.fill-requires
 fill-requires c =
@@ -85,7 +85,7 @@ trace_back-left-requires c =
 pub offset_bounds-cells-needed : goal.offset_bounds-cells-needed
 offset_bounds-cells-needed c =
     let room : (c.len-n.result + 1) * (c.args.job.now.budget + 1) ≤ length c.args.cells.now =
-    rw c.len-n.ensures (full_ready c.requires.let_in c.requires.kind_bound).cells_room in
+    table_held _ _ _ _ _ _ _ _ c.requires.let_in c.requires.kind_bound c.len-n.ensures in
     omega (arith, room, c.well_formed)
 
 pub bounds-cells-needed : goal.bounds-cells-needed

@@ -1,9 +1,9 @@
--- `light::fill` meets its contract: one label more (`lit_more`), and each still fits 32 bits (`row_fits`).
+-- `light::fill` meets its contract: one label more (`lit_next`), and each still fits 32 bits (`row_fits`).
 use native.Mathlib.Omega.{arith}
 use lib.ListN.{length}
 use Rattle.std.proofs.Common.{rules}
 use Rattle.light.specs.Labels.{row_after}
-use Rattle.light.proofs.Labels.{row_fits, lit_more}
+use Rattle.light.proofs.Labels.{row_fits, lit_next}
 use Rattle.light.proofs.fill.Goals as goal
 
 pub loop-i-init : goal.loop-i-init
@@ -24,6 +24,6 @@ pub loop-i-preserved : goal.loop-i-preserved
 loop-i-preserved c =
     let l = c.loop-i in
     let up = c.raise_label in
-    lit_more _ _ _ _ (length c.args.weights.now) l.i l.row _ l.words _ (omega arith) (omega arith) (omega (arith, c.requires.per_value.1))
+    lit_next _ _ _ _ (length c.args.weights.now) l.i l.row _ l.words _ (omega arith) (omega arith) (omega (arith, c.requires.per_value.1))
     l.invariant up.auto.words
     (rw (l.auto.row, c.fill.auto.self, c.at-w.ensures, c.at-v.ensures) at up.ensures)

@@ -1,4 +1,4 @@
--- `light::fill` meets its contract: one label more (`lit_more`), and each still fits 32 bits (`row_fits`).
+-- `light::fill` meets its contract: one label more (`lit_next`), and each still fits 32 bits (`row_fits`).
 use lib.ListN.{length}
 use Rattle.light.specs.Labels.{Lit}
 use Rattle.light.proofs.fill.Given as goal

@@ -7,47 +7,47 @@ use lib.Seq.{length-take-le}
 use Rattle.meaning.specs.Job.{job_of, labels}
 use Rattle.meaning.specs.Bounds.{most_budget}
 use Rattle.rows.proofs.Parts.{front_room}
-use Rattle.light.proofs.LightDoor.{ready, packs_light, within}
+use Rattle.light.proofs.LightDoor.{light_ready, packs_light, within}
 use Rattle.light.proofs.solve.Goals as goal
 
 -- the row that was written is as long as the part that was lent
 row_long : (c : goal.After-slice_known-7-1) → length c.pack-left.new.row ≡ c.args.budget + 1
-row_long c = c.pack-left.auto.row ∙ length-take-le _ _ (ready c.requires).cells_room
+row_long c = c.pack-left.auto.row ∙ length-take-le _ _ (light_ready c.requires).cells_room
 
 -- and so are the words
 bits_long : (c : goal.After-slice_known-7-1) → length c.pack-left.new.words ≡ length c.args.weights.now * (c.args.budget / 64 + 1)
 bits_long c =
     let counted = ap (λ (n : ℕ). n * (c.args.budget / 64 + 1)) c.len-n.ensures in
-    c.pack-left.auto.words ∙ length-take-le _ _ (rw c.len-n.ensures (ready c.requires).words_room) ∙ counted
+    c.pack-left.auto.words ∙ length-take-le _ _ (rw c.len-n.ensures (light_ready c.requires).words_room) ∙ counted
 
 left_within : (c : goal.After-slice_known-7-1) → c.pack-left.result ≤ c.args.budget
 unfolding job_of labels
 left_within c = within _ _ _ _ _ _ _ _ c.requires (row_long c) (bits_long c) c.pack-left.ensures
 
 pub slice_bounds-pack-end : goal.slice_bounds-pack-end
-slice_bounds-pack-end c = (ready c.requires).cells_room
+slice_bounds-pack-end c = (light_ready c.requires).cells_room
 
 pub slice_bounds-pack-end-2 : goal.slice_bounds-pack-end-2
-slice_bounds-pack-end-2 c = sym (length-take-le _ _ (ready c.requires).cells_room)
+slice_bounds-pack-end-2 c = sym (length-take-le _ _ (light_ready c.requires).cells_room)
 
 pub overflow_mul-n : goal.overflow_mul-n
-overflow_mul-n c = rw c.len-n.ensures (omega (arith, (ready c.requires).counted))
+overflow_mul-n c = rw c.len-n.ensures (omega (arith, (light_ready c.requires).counted))
 
 pub slice_bounds-pack-end-3 : goal.slice_bounds-pack-end-3
-slice_bounds-pack-end-3 c = rw c.len-n.ensures (ready c.requires).words_room
+slice_bounds-pack-end-3 c = rw c.len-n.ensures (light_ready c.requires).words_room
 
 pub slice_bounds-pack-end-4 : goal.slice_bounds-pack-end-4
-slice_bounds-pack-end-4 c = sym (length-take-le _ _ (rw c.len-n.ensures (ready c.requires).words_room))
+slice_bounds-pack-end-4 c = sym (length-take-le _ _ (rw c.len-n.ensures (light_ready c.requires).words_room))
 
 pub slice_bounds-pack-end-5 : goal.slice_bounds-pack-end-5
-slice_bounds-pack-end-5 c = rw c.len-n.ensures (ready c.requires).picks_room
+slice_bounds-pack-end-5 c = rw c.len-n.ensures (light_ready c.requires).picks_room
 
 pub slice_bounds-pack-end-6 : goal.slice_bounds-pack-end-6
-slice_bounds-pack-end-6 c = sym (length-take-le _ _ (rw c.len-n.ensures (ready c.requires).picks_room))
+slice_bounds-pack-end-6 c = sym (length-take-le _ _ (rw c.len-n.ensures (light_ready c.requires).picks_room))
 
 pub pack-left-requires : goal.pack-left-requires
 pack-left-requires c =
-    let room = ready c.requires in
+    let room = light_ready c.requires in
     let n = c.len-n.ensures in
     let counted = ap (λ (n : ℕ). n * (c.args.budget / 64 + 1)) n in
     record {
@@ -63,7 +63,7 @@ bounds-cells-most c = omega (arith, front_room c.pack-left.new.row c.args.cells.
 
 pub overflow_cast-result : goal.overflow_cast-result
 unfolding most_budget
-overflow_cast-result c = omega (arith, left_within c, (ready c.requires).bounds.narrow)
+overflow_cast-result c = omega (arith, left_within c, (light_ready c.requires).bounds.narrow)
 
 pub overflow_sub-result : goal.overflow_sub-result
 overflow_sub-result c = left_within c

@@ -6,7 +6,7 @@ use Rattle.meaning.specs.Job.{job_of, all_kinds}
 use Rattle.meaning.specs.SolvedIn.{SolvedInCellsBy, SolvedInWords, SolvedInPicks}
 use Rattle.meaning.proofs.Budgets.{q_ignored}
 use Rattle.meaning.proofs.Laws.{no_kind, solved_no_kind}
-use Rattle.planner.proofs.Preamble.{of_arm, of_arm_without}
+use Rattle.planner.proofs.Preamble.{of_arm_with, of_arm_without}
 use Rattle.planner.proofs.decide.Goals as goal
 
 pub returns-in-4 : goal.returns-in-4
@@ -28,7 +28,7 @@ returns-in-8 c =
 
 pub returns-in-9 : goal.returns-in-9
 unfolding SolvedInCellsBy
-returns-in-9 c = of_arm _ c.args.job.now 9 _ _ _ c.in-9.is (λ one. absurd (omega arith)) (c.state.ensures c.args.words.now)
+returns-in-9 c = of_arm_with _ c.args.job.now 9 _ _ _ c.in-9.is (λ one. absurd (omega arith)) (c.state.ensures c.args.words.now)
 
 pub returns-in-1-to-3 : goal.returns-in-1-to-3
 returns-in-1-to-3 c =

@@ -8,4 +8,4 @@ returns-in_default c = told_unread _ _ (unread _ c.in_default.is c.read_job.ensu
 
 pub returns : goal.returns
 returns c =
-    told_read _ _ _ _ _ _ (read_in _ c.in-Ok.is c.read_job.ensures) c.len.ensures c.decide.ensures
+    told_read _ _ _ _ _ _ _ _ _ _ (read_in _ c.in-Ok.is c.read_job.ensures) c.len.ensures c.decide.ensures

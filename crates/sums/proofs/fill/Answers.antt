@@ -1,12 +1,17 @@
 -- `sums::fill` meets its contract: total 0 alone with no labels, and then a label more each turn.
-use mathlib.Core.Path.{◌∙◌}
-use native.Mathlib.Numerals.{add-one}
-use Rattle.rows.specs.Rounds.{none_yet, one_more}
+use mathlib.Core.Path.{refl, ◌∙◌}
+use native.Mathlib.Omega.{arith}
+use Rattle.rows.proofs.Rounds.{rounds_none, rounds_more, rounds_all}
 use Rattle.sums.proofs.fill.Goals as goal
 
 pub loop-i-init : goal.loop-i-init
-loop-i-init c = none_yet c.first_alone.ensures
+loop-i-init c = let words = c.first_alone in rounds_none (rw words.auto.words words.ensures)
 
 pub loop-i-preserved : goal.loop-i-preserved
 loop-i-preserved c =
-    rw add-one (one_more c.loop-i.invariant (rw (c.at.ensures, c.loop-i.auto.words ∙ c.first_alone.auto.words) at c.add_label.ensures))
+    rounds_more c.loop-i.invariant (omega arith) c.add_label.auto.words (rw c.at.ensures at c.add_label.ensures)
+
+pub returns : goal.returns
+returns c =
+    let d = c.loop-i.invariant in
+    rounds_all _ _ d (omega arith) refl (d.long ∙ c.first_alone.auto.words)

@@ -7,7 +7,8 @@ use Rattle.meaning.specs.Job.{job_of}
 use Rattle.meaning.specs.Bytes.{numbers_in}
 use Rattle.meaning.proofs.Numbers.{numbers_long}
 use Rattle.verdicts.specs.Asked.{certified, knapsack_in, Run}
-use Rattle.verdicts.proofs.LowCells.{middle_between, half_run, half_kept, found_low, RowsKept, rows_start, rows_run, rows_narrow, rows_next, rows_end}
+use Rattle.verdicts.proofs.LowCells.{middle_between, half_run, half_low, half_kept, found_low}
+use Rattle.verdicts.proofs.LowCells.{RowsKept, rows_start, rows_run, rows_narrow, rows_next, rows_end}
 use Rattle.verdicts.proofs.low_cell.Goals as goal
 use Rattle.verdicts.proofs.low_cell.Goals.{After-min-last, After-budgets}
 
@@ -60,6 +61,11 @@ budgets-init c =
 pub is_low-requires-clause-run : goal.is_low-requires-clause-run
 is_low-requires-clause-run c =
     half_run _ _ _ c.budgets-test.true c.if-end-kept-eq1.false (passed (goal.at.is_low-requires-clause-run c).After-min-last) c.budgets.invariant
+
+pub budgets-preserved-then-is_low : goal.budgets-preserved-then-is_low
+budgets-preserved-then-is_low c =
+    let middle = middle_between _ _ c.budgets-test.true c.if-end-kept-eq1.false in
+    half_low _ _ _ c.budgets-test.true _ middle.0 middle.1 (sym c.is_low.ensures ∙ c.if-is_low.true) c.budgets.invariant
 
 pub budgets-preserved : goal.budgets-preserved
 budgets-preserved c =

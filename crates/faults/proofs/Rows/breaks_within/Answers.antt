@@ -16,8 +16,5 @@ loop-c-preserved c = (
       c.max-best.ensures c.if-cell-best.false,
 )
 
--- after the last cell
-pub returns-else-cell-best : goal.returns-else-cell-best
-returns-else-cell-best c = finds_high (all_passed _ _ _ _ _ _ _ _ _ (omega arith)
-    (passed_next _ _ _ _ _ _ _ _ _ c.loop-c.invariant.1 _ _ _ c.cell.ensures.0 c.cell-in-loop-c.ensures.0
-    c.max-best.ensures c.if-cell-best.false))
+pub returns : goal.returns
+returns c = finds_high (all_passed _ _ _ _ _ _ _ _ _ (omega arith) c.loop-c.invariant.1)

@@ -1,9 +1,9 @@
--- `Numbers::len` meets its contract: in bytes, four make a number.
+-- `Numbers::len` meets its contract, by the law of a list's length in two parts.
 use mathlib.Core.Path.{sym, ap, ◌∙◌}
+use native.Mathlib.Omega.{arith}
 use lib.ListN.{length}
-use Rattle.meaning.proofs.Numbers.{numbers_long}
-use Rattle.numbers.specs.Kept.{numbers_of}
+use Rattle.numbers.proofs.TwoSlices.{list_long}
 use Rattle.numbers.proofs.Numbers.len.Goals as goal
 
-pub returns-in-Packed : goal.returns-in-Packed
-returns-in-Packed c = sym (numbers_long c.in-Packed.bytes.now) ∙ ap (λ k. length (numbers_of k)) (sym c.in-Packed.is) ∙ ap length c.self.view_is
+pub returns : goal.returns
+returns c = let k = c.self.inside.kept in sym (list_long k.numbers.now k.bytes.now) ∙ ap length c.self.view_is

@@ -6,7 +6,7 @@ use lib.ListN.{length}
 use lib.Seq.{drop-length}
 use Rattle.stated.specs.ReadOff.{begin}
 use Rattle.stated.proofs.Measuring.{cut_at}
-use Rattle.stated.proofs.Filling.{last_row, row_past}
+use Rattle.stated.proofs.Filling.{last_row, cell_there, row_past}
 use Rattle.stated.proofs.Tracing.{turned}
 use Rattle.stated.proofs.Cutting.trace_back.Goals as goal
 
@@ -23,6 +23,13 @@ row_before-before-requires c =
     let l = c.loop-i in
     let few : l.i ≤ length s.weights.now = omega (arith, c.requires.divisor_nonzero.1.1.0) in
     row_past s.budget s.weights.now s.width l.i l.row c.at-w.result (omega arith) few c.at-w.ensures l.invariant.0
+
+pub bounds-cells-row : goal.bounds-cells-row
+bounds-cells-row c =
+    let s = c.args.self.now in
+    let l = c.loop-i in
+    let few : l.i ≤ length s.weights.now = omega (arith, c.requires.divisor_nonzero.1.1.0) in
+    cell_there s.budget s.weights.now s.width c.requires.roomy.0 l.i l.row l.t few l.invariant.0 l.invariant.2
 
 pub overflow_sub-t : goal.overflow_sub-t
 overflow_sub-t c =
