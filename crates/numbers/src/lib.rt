@@ -94,15 +94,19 @@ impl<'a> Numbers<'a> {
         numbers.len() + bytes.len() / 4
     }
 
-    // The number at place i. No branch is on how the list came, so that a list in bytes is read as fast as if there were no other.
+    // The number at place i. Whether a slice is empty is asked too, although the place alone would tell: that is the same in each turn of a loop, so that the
+    // compiler can ask it once, before the first.
     pub fn at(&self, i: usize) -> u32
         requires { i < length self.now }
         ensures { result ≡ at self.now i }
     {
         let numbers = self.kept.numbers;
         let bytes = self.kept.bytes;
+        if numbers.is_empty() {
+            return number_in(bytes, i);
+        }
         let n = numbers.len();
-        if i < n {
+        if bytes.is_empty() || i < n {
             numbers[i]
         } else {
             number_in(bytes, i - n)

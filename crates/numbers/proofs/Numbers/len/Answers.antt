@@ -1,6 +1,5 @@
 -- `Numbers::len` meets its contract, by the law of a list's length in two parts.
 use mathlib.Core.Path.{sym, ap, ◌∙◌}
-use native.Mathlib.Omega.{arith}
 use lib.ListN.{length}
 use Rattle.numbers.proofs.TwoSlices.{list_long}
 use Rattle.numbers.proofs.Numbers.len.Goals as goal
